@@ -1,0 +1,22 @@
+-- `bezier::finite_halves` meets its contract. Assumes nothing.
+use borrow.Author.Needs.{needs}
+use mathlib.Core.Path.{sym, _∙_}
+use Rattle.float.proofs.Answers.{granted, denied}
+use Rattle.bezier.specs.Tests.{halvesFinite, pointFinite}
+use Rattle.bezier.specs.Calls.{halvesAnswer}
+use Rattle.bezier.proofs.finite_halves.Statement.{statement}
+use Rattle.bezier.proofs.finite_halves.Tie as tie
+
+two-finite-requires : tie.Need-two-finite-requires
+two-finite-requires c κs = search needs
+
+returns : tie.Need-returns
+unfolding halvesFinite pointFinite halvesAnswer
+returns c = granted 6 _ (sym (c .before .two-finite .ensures) ∙ c .if1 .taken)
+
+returns-2 : tie.Need-returns-2
+unfolding halvesFinite pointFinite halvesAnswer
+returns-2 c = denied 6 _ (sym (c .before .two-finite .ensures) ∙ c .if1 .left)
+
+pub finite-halves-spec : {M : Type 1} → statement M
+finite-halves-spec = tie.close (tie.spec two-finite-requires returns returns-2)

@@ -1,0 +1,5 @@
+pub mod Basis
+pub mod Subdivide
+pub mod Newton
+pub mod Calls
+pub mod Tests

@@ -1,0 +1,7 @@
+pub mod Truth
+pub mod Strict
+pub mod Ranks
+mod Zeros
+mod Bits
+pub mod Answers
+pub mod Folds

@@ -1,0 +1,19 @@
+-- `float::root::bits_of` meets its contract. Assumes nothing.
+use borrow.Author.Needs.{needs}
+use lib.Ieee.{ofBits}
+use Rattle.float.proofs.root.Cases.{above-no-nan}
+use Rattle.float.proofs.root.bits_of.Statement.{statement}
+use Rattle.float.proofs.root.bits_of.Tie as tie
+
+float-to-bits-result : tie.Need-float-to-bits-result
+unfolding ofBits
+float-to-bits-result c = above-no-nan (c .before .args .x) (c .if1 .taken)
+
+returns : tie.Need-returns
+returns c = search needs
+
+returns-2 : tie.Need-returns-2
+returns-2 c = search needs
+
+pub bits-of-spec : {M : Type 1} → statement M
+bits-of-spec = tie.close (tie.spec float-to-bits-result returns returns-2)

@@ -1,0 +1,5 @@
+pub mod Number
+pub mod Root
+pub mod Calc
+pub mod Answer
+pub mod Folds

@@ -1,0 +1,105 @@
+// Numbers: the small functions that the Rust uses on `f64`, each proved against IEEE 754. The square root stands in `root`.
+mod root;
+
+pub use root::guess;
+pub use root::root_by;
+pub use root::sqrt;
+ghost use mathlib.Core.Path.{_≡_};
+ghost use mathlib.Core.Bool.{_&&_, cond};
+ghost use Rattle.float.specs.Number.{finite as finiteOf, abs as absOf, signum as signumOf, clamp01, maxOf, minOf};
+
+// Whether x is a number and no infinity.
+pub fn finite(x: f64) -> bool
+    ensures { λ r. ⌜ r ≡ finiteOf x ⌝ }
+{
+    x < 1.0 / 0.0 && x > -1.0 / 0.0
+}
+
+// Whether x and y are finite. Zero times a finite number is a zero, and zero times any other is a NaN, so one comparison tells.
+pub fn two_finite(x: f64, y: f64) -> bool
+    ensures { λ r. ⌜ r ≡ finiteOf x && finiteOf y ⌝ }
+{
+    0.0 * x * y == 0.0
+}
+
+// Whether x, y and z are finite, by one comparison.
+pub fn three_finite(x: f64, y: f64, z: f64) -> bool
+    ensures { λ r. ⌜ r ≡ finiteOf x && (finiteOf y && finiteOf z) ⌝ }
+{
+    0.0 * x * y * z == 0.0
+}
+
+// f64::abs: the sign's bit is cleared, of a zero too.
+pub fn abs(x: f64) -> f64
+    ensures { λ r. ⌜ r ≡ absOf x ⌝ }
+{
+    if x == x {
+        f64::from_bits(f64::to_bits(x) % 0x8000_0000_0000_0000)
+    } else {
+        x
+    }
+}
+
+// f64::signum: 1 or -1 by the sign's bit, of a zero too.
+pub fn signum(x: f64) -> f64
+    ensures { λ r. ⌜ r ≡ signumOf x ⌝ }
+{
+    if x == x {
+        if f64::to_bits(x) < 0x8000_0000_0000_0000 {
+            1.0
+        } else {
+            -1.0
+        }
+    } else {
+        x
+    }
+}
+
+// x.clamp(0.0, 1.0): minus zero and a NaN stay as they are.
+pub fn clamp(x: f64) -> f64
+    ensures { λ r. ⌜ r ≡ clamp01 x ⌝ }
+{
+    if x < 0.0 {
+        return 0.0;
+    }
+    if x > 1.0 {
+        return 1.0;
+    }
+    x
+}
+
+// f64::max. Of two equal numbers it is the second, so that of two zeros a plus zero in second place wins.
+pub fn max(a: f64, b: f64) -> f64
+    ensures { λ r. ⌜ r ≡ maxOf a b ⌝ }
+{
+    if a > b {
+        return a;
+    }
+    if b == b {
+        return b;
+    }
+    a
+}
+
+// f64::min. Of two equal numbers it is the second.
+pub fn min(a: f64, b: f64) -> f64
+    ensures { λ r. ⌜ r ≡ minOf a b ⌝ }
+{
+    if a < b {
+        return a;
+    }
+    if b == b {
+        return b;
+    }
+    a
+}
+
+// One of two numbers, with no branch for the compiler to keep.
+pub fn pick(b: bool, x: f64, y: f64) -> f64
+    ensures { λ r. ⌜ r ≡ cond b x y ⌝ }
+{
+    if b {
+        return x;
+    }
+    y
+}

@@ -1,0 +1,11 @@
+-- `plane::dot` meets its contract. Assumes nothing.
+use Rattle.plane.specs.Plane.{dotOf}
+use Rattle.plane.proofs.dot.Statement.{statement}
+use Rattle.plane.proofs.dot.Tie as tie
+
+returns : tie.Need-returns
+unfolding dotOf
+returns c = cc
+
+pub dot-spec : {M : Type 1} → statement M
+dot-spec = tie.close (tie.spec returns)

@@ -1,0 +1,20 @@
+-- The range of coordinates, for refusal 5. Definitions only.
+use mathlib.Core.Bool.{Bool, _&&_}
+use lib.Ieee.{Float, binary64, ofBits, le}
+use Rattle.float.specs.Number.{finite, abs}
+use Rattle.plane.specs.declared.Point.{Point}
+use Rattle.plane.specs.declared.Curve.{Curve}
+
+-- 1,000,000
+abbrev pub million : Float
+million = ofBits binary64 0x412e_8480_0000_0000
+
+-- finite and of magnitude at most 1,000,000
+unfoldable pub coordinate : Float → Bool
+coordinate x = finite x && le (abs x) million
+
+unfoldable pub pointInRange : Point → Bool
+pointInRange p = coordinate (p .x) && coordinate (p .y)
+
+unfoldable pub curveInRange : Curve → Bool
+curveInRange c = pointInRange (c .start) && (pointInRange (c .cp1) && (pointInRange (c .cp2) && pointInRange (c .end)))
