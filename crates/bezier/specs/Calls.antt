@@ -8,11 +8,11 @@ use Rattle.float.specs.Answer.{Answer, ok, refused, unless, outcome}
 use Rattle.plane.specs.Range.{pointInRange, curveInRange}
 use Rattle.plane.specs.declared.Point.{Point}
 use Rattle.plane.specs.declared.Curve.{Curve}
-use Rattle.bezier.specs.Basis.{basis, casteljau2, casteljau3, casteljau4, coefficientsOf}
-use Rattle.bezier.specs.Subdivide.{curve, subdivide4Of}
-use Rattle.bezier.specs.Newton.{refine}
-use Rattle.bezier.specs.declared.eval.Coefficients.{Coefficients}
-use Rattle.bezier.specs.declared.split.Halves.{Halves}
+use Rattle.cubic.specs.Basis.{basis, casteljau2, casteljau3, casteljau4, coefficientsOf}
+use Rattle.cubic.specs.Subdivide.{curve, subdivide4Of}
+use Rattle.cubic.specs.Newton.{refine}
+use Rattle.cubic.specs.declared.eval.Coefficients.{Coefficients}
+use Rattle.cubic.specs.declared.split.Halves.{Halves}
 use Rattle.bezier.specs.declared.PointAnswer.{PointAnswer}
 use Rattle.bezier.specs.declared.PointAnswer.the-variants as point
 use Rattle.bezier.specs.declared.NumberAnswer.{NumberAnswer}

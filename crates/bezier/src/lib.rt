@@ -1,25 +1,19 @@
-// Single curves: evaluation, subdivision and Newton refinement. The calls of this file test their own arguments and refuse by number
-// (5: an argument out of range; 6: an operation gave NaN or infinity); what they stand on is in `eval`, `split` and `newton`.
-pub mod eval;
-pub mod newton;
-pub mod split;
-
+// Single curves: evaluation, subdivision and Newton refinement. Each call tests its own arguments and refuses by number
+// (5: an argument out of range; 6: an operation gave NaN or infinity); the work is done in `cubic`.
 ghost use mathlib.Core.Path.{_≡_};
 ghost use Rattle.float.specs.Answer.{ok, unless};
-ghost use Rattle.bezier.specs.Tests.{pointFinite, coefficientsFinite, halvesFinite};
+ghost use Rattle.cubic.specs.Tests.{pointFinite, coefficientsFinite, halvesFinite};
 ghost use Rattle.bezier.specs.Calls.{pointAnswer, numberAnswer, coefficientsAnswer, halvesAnswer, coordinateOf, basisCall, casteljau4Call, casteljau3Call, casteljau2Call, coefficientsCall, subdivide4Call, refineCall};
-use eval::Coefficients;
+use cubic::eval::Coefficients;
+use cubic::newton::Refined;
+use cubic::split::Halves;
+use float::refusal::NOT_FINITE;
+use float::refusal::OUT_OF_RANGE;
 use plane::Curve;
 use plane::Point;
-use split::Halves;
 
 // More rounds of Newton refinement than this are out of range.
 pub const MOST_ROUNDS: usize = 64;
-
-// An argument out of range, and an operation that gave NaN or infinity.
-pub const OUT_OF_RANGE: u32 = 5;
-
-pub const NOT_FINITE: u32 = 6;
 
 // A point, or the refusal's number.
 pub enum PointAnswer {
@@ -66,7 +60,7 @@ pub fn basis(t: f64, w1: Point, w2: Point, w3: Point, w4: Point) -> PointAnswer
         end: w4,
     };
     if float::finite(t) & plane::curve_in_range(c) {
-        return finite_point(eval::basis(t, w1, w2, w3, w4));
+        return finite_point(cubic::eval::basis(t, w1, w2, w3, w4));
     }
     PointAnswer::Refused(OUT_OF_RANGE)
 }
@@ -82,7 +76,7 @@ pub fn de_casteljau4(t: f64, w1: Point, w2: Point, w3: Point, w4: Point) -> Poin
         end: w4,
     };
     if float::finite(t) & plane::curve_in_range(c) {
-        return finite_point(eval::de_casteljau4(t, w1, w2, w3, w4));
+        return finite_point(cubic::eval::de_casteljau4(t, w1, w2, w3, w4));
     }
     PointAnswer::Refused(OUT_OF_RANGE)
 }
@@ -94,7 +88,7 @@ pub fn de_casteljau3(t: f64, w1: Point, w2: Point, w3: Point) -> PointAnswer
     if float::finite(t)
         & (plane::point_in_range(w1) & (plane::point_in_range(w2) & plane::point_in_range(w3)))
     {
-        return finite_point(eval::de_casteljau3(t, w1, w2, w3));
+        return finite_point(cubic::eval::de_casteljau3(t, w1, w2, w3));
     }
     PointAnswer::Refused(OUT_OF_RANGE)
 }
@@ -104,7 +98,7 @@ pub fn de_casteljau2(t: f64, w1: Point, w2: Point) -> PointAnswer
     ensures { λ r. ⌜ pointAnswer r ≡ casteljau2Call t w1 w2 ⌝ }
 {
     if float::finite(t) & (plane::point_in_range(w1) & plane::point_in_range(w2)) {
-        return finite_point(eval::de_casteljau2(t, w1, w2));
+        return finite_point(cubic::eval::de_casteljau2(t, w1, w2));
     }
     PointAnswer::Refused(OUT_OF_RANGE)
 }
@@ -146,7 +140,7 @@ pub fn bezier_coefficients(
         end: w4,
     };
     if (dimension < 2) & plane::curve_in_range(c) {
-        return finite_coefficients(eval::bezier_coefficients(
+        return finite_coefficients(cubic::eval::bezier_coefficients(
             get(w1, dimension),
             get(w2, dimension),
             get(w3, dimension),
@@ -177,7 +171,7 @@ pub fn subdivide4(t: f64, w1: Point, w2: Point, w3: Point, w4: Point) -> HalvesA
         end: w4,
     };
     if float::finite(t) & plane::curve_in_range(c) {
-        return finite_halves(split::subdivide4(t, w1, w2, w3, w4));
+        return finite_halves(cubic::split::subdivide4(t, w1, w2, w3, w4));
     }
     HalvesAnswer::Refused(OUT_OF_RANGE)
 }
@@ -195,7 +189,10 @@ pub fn nearest_point_on_curve_newton_raphson_with_estimate(
         & (plane::point_in_range(point)
             & (float::finite(estimated_t) & (num_iterations <= MOST_ROUNDS)))
     {
-        return newton::refine(curve, point, estimated_t, num_iterations);
+        let Refined::At(t) = cubic::newton::refine(curve, point, estimated_t, num_iterations) else {
+            return NumberAnswer::Refused(NOT_FINITE);
+        };
+        return NumberAnswer::Is(t);
     }
     NumberAnswer::Refused(OUT_OF_RANGE)
 }

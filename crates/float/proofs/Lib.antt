@@ -2,6 +2,6 @@ pub mod Truth
 pub mod Strict
 pub mod Ranks
 mod Zeros
-mod Bits
+pub mod Bits
 pub mod Answers
 pub mod Folds

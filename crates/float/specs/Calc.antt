@@ -4,7 +4,6 @@ use mathlib.Core.Bool.{Bool, true, _&&_}
 use lib.Ieee as Ieee
 use lib.Ieee.{Float, binary64}
 use Rattle.float.specs.Number.{finite}
-use Rattle.float.specs.Root as Root
 
 pub record Calc (A : Type 0) : Type 0 where
   pub val : A
@@ -35,6 +34,3 @@ x *! y = op (Ieee.mul binary64 x y)
 
 abbrev pub _/!_ : Float → Float → Calc Float
 x /! y = op (Ieee.div binary64 x y)
-
-abbrev pub sqrt! : Float → Calc Float
-sqrt! x = op (Root.sqrt binary64 x)

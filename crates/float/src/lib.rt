@@ -1,9 +1,6 @@
-// Numbers: the small functions that the Rust uses on `f64`, each proved against IEEE 754. The square root stands in `root`.
-mod root;
+// Numbers: the small functions that the Rust uses on `f64`, each proved against IEEE 754. The square root has a crate of its own, `root`.
+pub mod refusal;
 
-pub use root::guess;
-pub use root::root_by;
-pub use root::sqrt;
 ghost use mathlib.Core.Path.{_≡_};
 ghost use mathlib.Core.Bool.{_&&_, cond};
 ghost use Rattle.float.specs.Number.{finite as finiteOf, abs as absOf, signum as signumOf, clamp01, maxOf, minOf};

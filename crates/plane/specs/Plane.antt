@@ -2,7 +2,8 @@
 use mathlib.Core.Bool.{cond}
 use lib.Ieee.{Float, eq}
 use Rattle.float.specs.Number.{f0, f1}
-use Rattle.float.specs.Calc.{Calc, give, _>>=_, _+!_, _-!_, _*!_, _/!_, sqrt! }
+use Rattle.float.specs.Calc.{Calc, give, _>>=_, _+!_, _-!_, _*!_, _/!_}
+use Rattle.root.specs.Operation.{sqrt! }
 use Rattle.plane.specs.declared.Point.{Point}
 
 abbrev pub at : Float → Float → Point

@@ -58,7 +58,7 @@ pub fn dot(p: Point, q: Point) -> f64
 pub fn magnitude(p: Point) -> f64
     ensures { λ r. ⌜ r ≡ magnitudeOf p .val ⌝ }
 {
-    float::sqrt(dot(p, p))
+    root::sqrt(dot(p, p))
 }
 
 // The distance of two points, by the differences as coord2.rs takes them: the target's coordinates first.

@@ -2,7 +2,7 @@
 use borrow.Author.Needs.{needs}
 use Rattle.float.proofs.Answers.{denied, settled}
 use Rattle.bezier.specs.Calls.{pointAnswer, basisCall}
-use Rattle.bezier.proofs.Fine.{basis-same}
+use Rattle.cubic.proofs.Fine.{basis-same}
 use Rattle.bezier.proofs.basis.Statement.{statement}
 use Rattle.bezier.proofs.basis.Tie as tie
 

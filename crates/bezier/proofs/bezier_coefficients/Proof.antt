@@ -2,7 +2,7 @@
 use borrow.Author.Needs.{needs}
 use Rattle.float.proofs.Answers.{denied, settled}
 use Rattle.bezier.specs.Calls.{coefficientsAnswer, coefficientsCall}
-use Rattle.bezier.proofs.Fine.{coefficients-same}
+use Rattle.cubic.proofs.Fine.{coefficients-same}
 use Rattle.bezier.proofs.bezier_coefficients.Statement.{statement}
 use Rattle.bezier.proofs.bezier_coefficients.Tie as tie
 

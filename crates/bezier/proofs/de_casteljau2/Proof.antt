@@ -2,7 +2,7 @@
 use borrow.Author.Needs.{needs}
 use Rattle.float.proofs.Answers.{denied, settled}
 use Rattle.bezier.specs.Calls.{pointAnswer, casteljau2Call}
-use Rattle.bezier.proofs.Fine.{casteljau2-same}
+use Rattle.cubic.proofs.Fine.{casteljau2-same}
 use Rattle.bezier.proofs.de_casteljau2.Statement.{statement}
 use Rattle.bezier.proofs.de_casteljau2.Tie as tie
 

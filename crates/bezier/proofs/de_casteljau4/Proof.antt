@@ -2,7 +2,7 @@
 use borrow.Author.Needs.{needs}
 use Rattle.float.proofs.Answers.{denied, settled}
 use Rattle.bezier.specs.Calls.{pointAnswer, casteljau4Call}
-use Rattle.bezier.proofs.Fine.{casteljau4-same}
+use Rattle.cubic.proofs.Fine.{casteljau4-same}
 use Rattle.bezier.proofs.de_casteljau4.Statement.{statement}
 use Rattle.bezier.proofs.de_casteljau4.Tie as tie
 

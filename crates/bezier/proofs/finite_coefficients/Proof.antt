@@ -2,7 +2,7 @@
 use borrow.Author.Needs.{needs}
 use mathlib.Core.Path.{sym, _∙_}
 use Rattle.float.proofs.Answers.{granted, denied}
-use Rattle.bezier.specs.Tests.{coefficientsFinite}
+use Rattle.cubic.specs.Tests.{coefficientsFinite}
 use Rattle.bezier.specs.Calls.{coefficientsAnswer}
 use Rattle.bezier.proofs.finite_coefficients.Statement.{statement}
 use Rattle.bezier.proofs.finite_coefficients.Tie as tie

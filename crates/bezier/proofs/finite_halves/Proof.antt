@@ -2,7 +2,7 @@
 use borrow.Author.Needs.{needs}
 use mathlib.Core.Path.{sym, _∙_}
 use Rattle.float.proofs.Answers.{granted, denied}
-use Rattle.bezier.specs.Tests.{halvesFinite, pointFinite}
+use Rattle.cubic.specs.Tests.{halvesFinite, pointFinite}
 use Rattle.bezier.specs.Calls.{halvesAnswer}
 use Rattle.bezier.proofs.finite_halves.Statement.{statement}
 use Rattle.bezier.proofs.finite_halves.Tie as tie

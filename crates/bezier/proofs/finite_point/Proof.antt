@@ -2,7 +2,7 @@
 use borrow.Author.Needs.{needs}
 use mathlib.Core.Path.{sym, _∙_}
 use Rattle.float.proofs.Answers.{granted, denied}
-use Rattle.bezier.specs.Tests.{pointFinite}
+use Rattle.cubic.specs.Tests.{pointFinite}
 use Rattle.bezier.specs.Calls.{pointAnswer}
 use Rattle.bezier.proofs.finite_point.Statement.{statement}
 use Rattle.bezier.proofs.finite_point.Tie as tie

@@ -2,7 +2,7 @@
 use borrow.Author.Needs.{needs}
 use Rattle.float.proofs.Answers.{denied, settled}
 use Rattle.bezier.specs.Calls.{halvesAnswer, subdivide4Call}
-use Rattle.bezier.proofs.Fine.{subdivide4-same}
+use Rattle.cubic.proofs.Fine.{subdivide4-same}
 use Rattle.bezier.proofs.subdivide4.Statement.{statement}
 use Rattle.bezier.proofs.subdivide4.Tie as tie
 

@@ -1,0 +1,4 @@
+pub mod Basis
+pub mod Subdivide
+pub mod Newton
+pub mod Tests
