@@ -3,7 +3,7 @@ use mathlib.Core.Path.{_≡_, refl, sym, ap, _∙_, subst}
 use Prim.Native.Nat.{ℕ, zero, suc, _+_, _*_, _/_, _%_, _^_, _≤_, _<_}
 use native.Mathlib.Omega.{arith}
 use mathlib.Core.Bool.{Bool, true, false, not, _&&_, cond, true≢false}
-use lib.Dec.{T, leb, ltb, eqb, leb→le, not-T, eqb-refl}
+use lib.Dec.{T, leb, ltb, eqb, leb→le, ltb→lt, lt→ltb, not-T, eqb-refl}
 use lib.Ieee.{Float, nan, inf, fin, binary64, up, down, eq, neg, fits, isNan, odd, ofFields, ofBits, toBits, nanBits}
 use lib.Ieee.Fits.{and-i}
 use lib.Ieee.Bits.{is-true, is-false, ofBits-toBits, nanBits-is, nanBits-above}
@@ -43,6 +43,21 @@ no-number x h = go x (sym (self x) ∙ h)
     go nan k = refl
     go (inf s) k = absurd (true≢false k)
     go (fin s m e) k = absurd (true≢false k)
+
+-- ---- the patterns of a NaN: above the infinity's, but for the sign
+pub nan-pattern : (b : ℕ) → 2047 * 2 ^ 52 < b % 2 ^ 63 → ofBits binary64 b ≡ nan
+nan-pattern b h = is-nan-value (ofBits binary64 b) (sym (nanBits-is binary64 b) ∙ nanBits-above binary64 b ∙ is-true _ (lt→ltb _ _ h))
+  where
+    is-nan-value : (x : Float) → isNan x ≡ true → x ≡ nan
+    is-nan-value nan k = refl
+    is-nan-value (inf s) k = absurd (true≢false (sym (unfold isNan in k)))
+    is-nan-value (fin s m e) k = absurd (true≢false (sym (unfold isNan in k)))
+
+pub no-nan-pattern : (b : ℕ) → b % 2 ^ 63 ≤ 2047 * 2 ^ 52 → T (not (nanBits binary64 b))
+no-nan-pattern b h = not-T (nanBits binary64 b) (λ t. no (ltb→lt (2047 * 2 ^ 52) (b % 2 ^ 63) (subst T (nanBits-above binary64 b) t)))
+  where
+    no : 2047 * 2 ^ 52 < b % 2 ^ 63 → ⊥
+    no k = omega arith
 
 -- ---- the sign's bit
 ofBits-is : (b : ℕ) → ofBits binary64 b ≡ ofFields binary64 (leb (2 ^ 63) b) (b % 2 ^ 63 / 2 ^ 52) (b % 2 ^ 52)

@@ -3,7 +3,28 @@ pub mod refusal;
 
 ghost use mathlib.Core.Path.{_≡_};
 ghost use mathlib.Core.Bool.{_&&_, cond};
+ghost use lib.Ieee.{binary64, ofBits, toBits};
 ghost use Rattle.float.specs.Number.{finite as finiteOf, abs as absOf, signum as signumOf, clamp01, maxOf, minOf};
+
+// The number that a bit pattern stands for. Every NaN pattern is a NaN, which `f64::from_bits` leaves undefined.
+pub fn of_bits(b: u64) -> f64
+    ensures { λ r. ⌜ r ≡ ofBits binary64 b ⌝ }
+{
+    if b % 0x8000_0000_0000_0000 > 0x7ff0_0000_0000_0000 {
+        return 0.0 / 0.0;
+    }
+    f64::from_bits(b)
+}
+
+// A number's bit pattern; of a NaN the pattern 7FF8000000000000.
+pub fn to_bits(x: f64) -> u64
+    ensures { λ r. ⌜ r ≡ toBits binary64 x ⌝ }
+{
+    if x == x {
+        return f64::to_bits(x);
+    }
+    0x7ff8_0000_0000_0000
+}
 
 // Whether x is a number and no infinity.
 pub fn finite(x: f64) -> bool
