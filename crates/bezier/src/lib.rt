@@ -2,7 +2,8 @@
 // (5: an argument out of range; 6: an operation gave NaN or infinity); the work is done in `cubic`.
 ghost use mathlib.Core.Path.{_≡_};
 ghost use Rattle.float.specs.Answer.{ok, unless};
-ghost use Rattle.cubic.specs.Tests.{pointFinite, coefficientsFinite, halvesFinite};
+ghost use Rattle.plane.specs.Range.{pointFinite};
+ghost use Rattle.cubic.specs.Tests.{coefficientsFinite, halvesFinite};
 ghost use Rattle.bezier.specs.Calls.{pointAnswer, numberAnswer, coefficientsAnswer, halvesAnswer, coordinateOf, basisCall, casteljau4Call, casteljau3Call, casteljau2Call, coefficientsCall, subdivide4Call, refineCall};
 use cubic::eval::Coefficients;
 use cubic::newton::Refined;
@@ -43,7 +44,7 @@ pub enum HalvesAnswer {
 fn finite_point(p: Point) -> PointAnswer
     ensures { λ r. ⌜ pointAnswer r ≡ unless 6 (pointFinite p) (ok p) ⌝ }
 {
-    if float::two_finite(p.x, p.y) {
+    if plane::point_finite(p) {
         return PointAnswer::At(p);
     }
     PointAnswer::Refused(NOT_FINITE)
@@ -154,7 +155,7 @@ pub fn bezier_coefficients(
 fn finite_halves(h: Halves) -> HalvesAnswer
     ensures { λ r. ⌜ halvesAnswer r ≡ unless 6 (halvesFinite h) (ok h) ⌝ }
 {
-    if float::two_finite(h.left.end.x, h.left.end.y) {
+    if plane::point_finite(h.left.end) {
         return HalvesAnswer::Are(h);
     }
     HalvesAnswer::Refused(NOT_FINITE)

@@ -11,22 +11,14 @@ use Rattle.float.proofs.Answers.{Fine}
 use Rattle.plane.specs.Plane.{plus, minus, times, dotOf}
 use Rattle.plane.specs.declared.Point.{Point}
 use Rattle.plane.specs.declared.Curve.{Curve}
-use Rattle.plane.proofs.Fine.{Good, plus-fine, minus-fine, times-fine, dot-fine}
+use Rattle.plane.proofs.Fine.{Good, plus-fine, minus-fine, times-fine, dot-fine, good-point, point-good}
 use Rattle.cubic.specs.Basis.{basis, pointAt, casteljau2, casteljau3, casteljau4, coefficientsOf}
 use Rattle.cubic.specs.Subdivide.{subdivide4Of}
 use Rattle.cubic.specs.Newton.{verticesOf, ratioOf}
-use Rattle.cubic.specs.Tests.{pointFinite, coefficientsFinite, halvesFinite, verticesFinite}
+use Rattle.plane.specs.Range.{pointFinite}
+use Rattle.cubic.specs.Tests.{coefficientsFinite, halvesFinite, verticesFinite}
 use Rattle.cubic.specs.declared.eval.Coefficients.{Coefficients}
 use Rattle.cubic.specs.declared.newton.Vertices.{Vertices}
-
--- ---- the test of a point
-good-point : (p : Point) → Good p → pointFinite p ≡ true
-unfolding pointFinite
-good-point p g = both _ _ (g .0) (g .1)
-
-pub point-good : (p : Point) → pointFinite p ≡ true → Good p
-unfolding pointFinite
-point-good p h = (and-left (finite (p .x)) _ h, and-right (finite (p .x)) _ h)
 
 -- ---- from the end back
 pub casteljau2-fine : (t : Float) (w1 w2 : Point) → Good (casteljau2 t w1 w2 .val) → Fine (casteljau2 t w1 w2) × Good w1 × Good w2

@@ -5,6 +5,7 @@ use lib.Ieee.{Float}
 use Rattle.float.specs.Number.{finite}
 use Rattle.float.specs.Calc.{Calc}
 use Rattle.float.specs.Answer.{Answer, ok, refused, outcome}
+use Rattle.plane.specs.Range.{pointFinite}
 use Rattle.plane.specs.declared.Point.{Point}
 use Rattle.plane.specs.declared.Curve.{Curve}
 use Rattle.cubic.specs.Newton.{refineBy}
@@ -18,9 +19,6 @@ use Rattle.cubic.specs.declared.newton.Round.{Round}
 use Rattle.cubic.specs.declared.newton.Round.the-variants as round
 
 -- the ends of a run, each finite only where every operation before it was
-unfoldable pub pointFinite : Point → Bool
-pointFinite p = finite (p .x) && finite (p .y)
-
 unfoldable pub coefficientsFinite : Coefficients → Bool
 coefficientsFinite k = finite (k .a) && (finite (k .b) && finite (k .c))
 

@@ -58,7 +58,7 @@ pub fn vertices_of(c: Curve) -> Vertices
 fn vertices_finite(q: Vertices) -> bool
     ensures { λ r. ⌜ r ≡ verticesFinite q ⌝ }
 {
-    float::two_finite(q.qnn1.x, q.qnn1.y) & float::two_finite(q.qnn2.x, q.qnn2.y)
+    plane::point_finite(q.qnn1) & plane::point_finite(q.qnn2)
 }
 
 // f(t) and f'(t), where qt is the curve's point at t and f the product of the offset from p and the tangent.

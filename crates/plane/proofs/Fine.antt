@@ -1,13 +1,16 @@
 -- Where a run over points has a finite end, each operation on the way was finite, and so were the numbers that it started from. Assumes nothing.
-use mathlib.Core.Path.{_≡_, refl}
-use mathlib.Core.Bool.{Bool, true, _&&_}
-use lib.Ieee.{Float, binary64}
-use Rattle.float.specs.Number.{finite}
-use Rattle.float.specs.Calc.{Calc}
-use Rattle.float.proofs.Truth.{and-left, and-right, both}
+use mathlib.Core.Path.{_≡_, refl, sym, ap, _∙_}
+use mathlib.Core.Bool.{Bool, true, false, _&&_, cond}
+use lib.Ieee.{Float, binary64, eq, mul, div, ofBits}
+use Rattle.float.specs.Number.{finite, f0, f1}
+use Rattle.float.specs.Calc.{Calc, give, _>>=_, _/!_}
+use Rattle.float.proofs.Truth.{and-left, and-right, both, same}
 use Rattle.float.proofs.Strict.{Fin, add-finite, sub-finite, mul-finite}
 use Rattle.float.proofs.Answers.{Fine}
-use Rattle.plane.specs.Plane.{plus, minus, times, dotOf}
+use Rattle.root.specs.Root.{sqrt}
+use Rattle.root.proofs.Laws.{sqrt-strict}
+use Rattle.plane.specs.Plane.{at, plus, minus, times, dotOf, magnitudeOf, distanceOf, unitBy, unitOf}
+use Rattle.plane.specs.Range.{pointFinite}
 use Rattle.plane.specs.declared.Point.{Point}
 
 -- both coordinates are finite
@@ -42,3 +45,65 @@ dot-fine p q g =
     let a = mul-finite binary64 _ _ (s .0) in
     let b = mul-finite binary64 _ _ (s .1) in
     (cc, (a .0, b .0), (a .1, b .1))
+
+-- ---- the test of a point
+pub good-point : (p : Point) → Good p → pointFinite p ≡ true
+unfolding pointFinite
+good-point p g = both _ _ (g .0) (g .1)
+
+pub point-good : (p : Point) → pointFinite p ≡ true → Good p
+unfolding pointFinite
+point-good p h = (and-left (finite (p .x)) _ h, and-right (finite (p .x)) _ h)
+
+-- ---- magnitude, distance and unit vector: fine exactly where the ends are finite
+pub magnitude-fine : (p : Point) → Fin (magnitudeOf p .val) → Fine (magnitudeOf p) × Good p
+unfolding magnitudeOf
+magnitude-fine p g =
+    let d = dot-fine p p (sqrt-strict _ g) in
+    (both _ _ (d .0) g, d .1)
+
+pub magnitude-same : (p : Point) → magnitudeOf p .fine ≡ finite (magnitudeOf p .val)
+magnitude-same p = same _ _ (λ h. ends h) (λ h. magnitude-fine p h .0)
+  where
+    ends : Fine (magnitudeOf p) → Fin (magnitudeOf p .val)
+    ends h = unfold magnitudeOf in and-right (dotOf p p .fine) _ h
+
+pub distance-fine : (p q : Point) → Fin (distanceOf p q .val) → Fine (distanceOf p q)
+unfolding distanceOf
+distance-fine p q g =
+    let m = magnitude-fine (minus q p .val) g in
+    both _ _ (minus-fine q p (m .1) .0) (m .0)
+
+times-good : (p : Point) (k : Float) → Fine (times p k) → Good (times p k .val)
+unfolding times
+times-good p k h = (and-left (finite (mul binary64 (p .x) k)) _ h, and-left (finite (mul binary64 (p .y) k)) _ (and-right (finite (mul binary64 (p .x) k)) _ h))
+
+times-ends : (p : Point) (k : Float) → finite k && times p k .fine ≡ pointFinite (times p k .val)
+times-ends p k =
+    same _ _
+    (λ h. good-point (times p k .val) (times-good p k (and-right (finite k) _ h)))
+    (λ h. let t = times-fine p k (point-good (times p k .val) h) in both _ _ (t .2) (t .0))
+
+origin-finite : pointFinite (at f0 f0) ≡ true
+unfolding pointFinite finite ofBits
+origin-finite = refl
+
+unit-by-same : (p : Point) (m : Float) → unitBy p m .fine ≡ pointFinite (unitBy p m .val)
+unfolding unitBy
+unit-by-same p m = go (eq m f0)
+  where
+    some : Calc Point
+    some = do times p (← f1 /! m)
+
+    go : (b : Bool) → cond {A = Calc Point} b (give (at f0 f0)) some .fine ≡ pointFinite (cond {A = Calc Point} b (give (at f0 f0)) some .val)
+    go true = sym origin-finite
+    go false = times-ends p (div binary64 f1 m)
+
+pub unit-same : (p : Point) → unitOf p .fine ≡ finite (magnitudeOf p .val) && pointFinite (unitBy p (magnitudeOf p .val) .val)
+unfolding unitOf
+unit-same p = ap (λ (b : Bool). b && unitBy p (magnitudeOf p .val) .fine) (magnitude-same p) ∙ ap (λ (b : Bool). finite (magnitudeOf p .val) && b) (unit-by-same p (magnitudeOf p .val))
+
+-- a vector whose unit vector was worked out with no refusal is finite
+pub unit-good : (p : Point) → Fine (unitOf p) → Good p
+unfolding unitOf
+unit-good p h = magnitude-fine p (sym (magnitude-same p) ∙ and-left (magnitudeOf p .fine) _ h) .1

@@ -1,4 +1,4 @@
--- The range of coordinates, for refusal 5. Definitions only.
+-- Finite points, and the range of coordinates for refusal 5. Definitions only.
 use mathlib.Core.Bool.{Bool, _&&_}
 use lib.Ieee.{Float, binary64, ofBits, le}
 use Rattle.float.specs.Number.{finite, abs}
@@ -18,3 +18,7 @@ pointInRange p = coordinate (p .x) && coordinate (p .y)
 
 unfoldable pub curveInRange : Curve → Bool
 curveInRange c = pointInRange (c .start) && (pointInRange (c .cp1) && (pointInRange (c .cp2) && pointInRange (c .end)))
+
+-- both coordinates are finite
+unfoldable pub pointFinite : Point → Bool
+pointFinite p = finite (p .x) && finite (p .y)

@@ -1,7 +1,7 @@
 // Points and curves of the plane by value, with the arithmetic of coordinate.rs and coord2.rs in its order of operations.
 ghost use mathlib.Core.Path.{_≡_};
 ghost use Rattle.plane.specs.Plane.{plus, minus, times, dotOf, magnitudeOf, distanceOf, unitBy, unitOf};
-ghost use Rattle.plane.specs.Range.{coordinate, pointInRange, curveInRange};
+ghost use Rattle.plane.specs.Range.{coordinate, pointInRange, curveInRange, pointFinite};
 
 // A point of the plane, or a vector.
 pub struct Point {
@@ -83,6 +83,13 @@ pub fn to_unit_vector(p: Point) -> Point
     ensures { λ r. ⌜ r ≡ unitOf p .val ⌝ }
 {
     unit_by(p, magnitude(p))
+}
+
+// Whether both coordinates are finite.
+pub fn point_finite(p: Point) -> bool
+    ensures { λ r. ⌜ r ≡ pointFinite p ⌝ }
+{
+    float::two_finite(p.x, p.y)
 }
 
 // Whether x may be a coordinate. A NaN or an infinity is not at most a million.

@@ -154,3 +154,11 @@ sqrt-mono (fin false (suc m) e) (fin false zero d) f g l h =
 sqrt-mono (fin false (suc m) e) (fin false (suc n) d) f g l h =
     is-true (le (sqrt binary64 (fin false (suc m) e)) (sqrt binary64 (fin false (suc n) d)))
     (positive-mono (fin false (suc m) e) (fin false (suc n) d) (lt→ltb 0 (suc m) (zero-lt-suc m)) (lt→ltb 0 (suc n) (zero-lt-suc n)) (subst T (sym h) tt))
+
+-- a root that is finite is of a finite number
+pub sqrt-strict : (x : Float) → Fin (sqrt binary64 x) → Fin x
+unfolding sqrt finite
+sqrt-strict nan h = h
+sqrt-strict (inf true) h = h
+sqrt-strict (inf false) h = h
+sqrt-strict (fin s m e) h = refl

@@ -2,21 +2,21 @@
 use borrow.Author.Needs.{needs}
 use mathlib.Core.Path.{sym, _∙_}
 use Rattle.float.proofs.Answers.{granted, denied}
-use Rattle.cubic.specs.Tests.{halvesFinite, pointFinite}
+use Rattle.cubic.specs.Tests.{halvesFinite}
 use Rattle.bezier.specs.Calls.{halvesAnswer}
 use Rattle.bezier.proofs.finite_halves.Statement.{statement}
 use Rattle.bezier.proofs.finite_halves.Tie as tie
 
-two-finite-requires : tie.Need-two-finite-requires
-two-finite-requires c κs = search needs
+point-finite-requires : tie.Need-point-finite-requires
+point-finite-requires c κs = search needs
 
 returns : tie.Need-returns
-unfolding halvesFinite pointFinite halvesAnswer
-returns c = granted 6 _ (sym (c .before .two-finite .ensures) ∙ c .if1 .taken)
+unfolding halvesFinite halvesAnswer
+returns c = granted 6 _ (sym (c .before .point-finite .ensures) ∙ c .if1 .taken)
 
 returns-2 : tie.Need-returns-2
-unfolding halvesFinite pointFinite halvesAnswer
-returns-2 c = denied 6 _ (sym (c .before .two-finite .ensures) ∙ c .if1 .left)
+unfolding halvesFinite halvesAnswer
+returns-2 c = denied 6 _ (sym (c .before .point-finite .ensures) ∙ c .if1 .left)
 
 pub finite-halves-spec : {M : Type 1} → statement M
-finite-halves-spec = tie.close (tie.spec two-finite-requires returns returns-2)
+finite-halves-spec = tie.close (tie.spec point-finite-requires returns returns-2)

@@ -1,0 +1,26 @@
+-- `marks::tangent::start_tangent` meets its contract. Assumes nothing.
+use mathlib.Core.Path.{sym, _∙_}
+use native.Mathlib.Omega.{arith}
+use Rattle.marks.proofs.Fine.{start-is}
+use borrow.Author.Needs.{needs}
+use Rattle.marks.proofs.tangent.start_tangent.Statement.{statement}
+use Rattle.marks.proofs.tangent.start_tangent.Tie as tie
+
+mark-at-requires : tie.Need-mark-at-requires
+mark-at-requires c κs = search needs
+
+mark-at-requires-2 : tie.Need-mark-at-requires-2
+mark-at-requires-2 c κs = search needs
+
+sub-requires : tie.Need-sub-requires
+sub-requires c κs = search needs
+
+toward-requires : tie.Need-toward-requires
+toward-requires c κs = search needs
+
+returns : tie.Need-returns
+returns c = (simp (c .before .sub .ensures, c .before .before .mark-at2 .ensures, c .before .before .before .mark-at .ensures) at (c .toward .ensures)) ∙ sym (start-is _)
+
+pub start-tangent-spec : {M : Type 1} → statement M
+start-tangent-spec =
+    tie.close (tie.spec mark-at-requires mark-at-requires-2 sub-requires toward-requires returns)

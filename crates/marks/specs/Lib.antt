@@ -1,0 +1,5 @@
+pub mod Marks
+pub mod Block
+pub mod Tangent
+pub mod Line
+pub mod Answers

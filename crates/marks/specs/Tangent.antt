@@ -1,0 +1,24 @@
+-- start_tangent, end_tangent and tangent_between of fit.rs. Definitions only.
+use mathlib.Core.List.{List}
+use Prim.Native.Nat.{ℕ, _-_}
+use lib.Ieee.{Float, binary64, ofBits}
+use Rattle.float.specs.Calc.{Calc, _>>=_}
+use Rattle.plane.specs.Plane.{plus, minus, times, unitOf}
+use Rattle.plane.specs.declared.Point.{Point}
+use Rattle.marks.specs.Marks.{count, markAt}
+
+-- 0.5
+abbrev pub half : Float
+half = ofBits binary64 0x3fe0_0000_0000_0000
+
+unfoldable pub startTangent : List Float → Calc Point
+startTangent ms = do unitOf (← minus (markAt ms 1) (markAt ms 0))
+
+unfoldable pub endTangent : List Float → Calc Point
+endTangent ms = do unitOf (← minus (markAt ms (count ms - 2)) (markAt ms (count ms - 1)))
+
+unfoldable pub tangentBetween : Point → Point → Point → Calc Point
+tangentBetween p1 p2 p3 = do
+  v1 ← minus p1 p2
+  v2 ← minus p2 p3
+  unitOf (← times (← plus v1 v2) half)
