@@ -7,10 +7,9 @@ use Rattle.float.specs.Calc.{Calc}
 use Rattle.float.proofs.Truth.{and-left, and-right, and-implied, and-true, and-false, and-assoc, same, both, is-so}
 use Rattle.float.proofs.Strict.{Fin, add-finite, sub-finite}
 use Rattle.float.proofs.Answers.{Fine, pick-val, pick-fine}
-use Rattle.plane.specs.Plane.{dotOf}
 use Rattle.plane.specs.declared.Point.{Point}
 use Rattle.plane.specs.declared.Curve.{Curve}
-use Rattle.plane.proofs.Fine.{Good, minus-fine, dot-fine}
+use Rattle.plane.proofs.Fine.{Good, minus-fine, dot-fine, dot-bad}
 use Rattle.cubic.specs.Basis.{pointAt}
 use Rattle.cubic.specs.Newton.{verticesOf, ratioOf, newtonBy, newton}
 use Rattle.cubic.specs.Tests.{asStep}
@@ -18,10 +17,6 @@ use Rattle.cubic.specs.declared.newton.Vertices.{Vertices}
 use Rattle.cubic.specs.declared.newton.Ratio.{Ratio}
 use Rattle.cubic.specs.declared.newton.Step.{Step}
 use Rattle.cubic.proofs.Fine.{GoodVertices, point-fine, casteljau2-fine, casteljau3-fine, vertices-fine}
-
-dot-bad : (p q : Point) → finite (dotOf p q .val) ≡ false → dotOf p q .fine ≡ false
-unfolding dotOf
-dot-bad p q h = simp (h, and-false)
 
 -- ---- the fraction
 module _ (qt : Point) (q : Vertices) (p : Point) (t : Float) where

@@ -114,14 +114,12 @@ fn refine_line(r: &[u8; 104], t: f64, p1: Point, p2: Point, p3: Point, p4: Point
         cp2: p3,
         end: p4,
     };
-    number_line(
-        bezier::nearest_point_on_curve_newton_raphson_with_estimate(
-            c,
-            point(r, 80),
-            t,
-            cases::word(r, 96) as usize,
-        ),
-    )
+    number_line(bezier::nearest_point_on_curve_newton_raphson_with_estimate(
+        c,
+        point(r, 80),
+        t,
+        cases::word(r, 96) as usize,
+    ))
 }
 
 // One record, if there is one.

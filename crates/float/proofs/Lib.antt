@@ -1,6 +1,7 @@
 pub mod Truth
 pub mod Strict
 pub mod Ranks
+pub mod Signs
 mod Zeros
 pub mod Bits
 pub mod Answers

@@ -4,8 +4,9 @@ use mathlib.Core.Bool.{Bool, true, false, _&&_, cond}
 use lib.Ieee.{Float, binary64, eq, mul, div, ofBits}
 use Rattle.float.specs.Number.{finite, f0, f1}
 use Rattle.float.specs.Calc.{Calc, give, _>>=_, _/!_}
-use Rattle.float.proofs.Truth.{and-left, and-right, both, same}
+use Rattle.float.proofs.Truth.{and-left, and-right, and-false, both, same}
 use Rattle.float.proofs.Strict.{Fin, add-finite, sub-finite, mul-finite}
+use Rattle.float.proofs.Signs.{negative, square-sign, add-sign}
 use Rattle.float.proofs.Answers.{Fine}
 use Rattle.root.specs.Root.{sqrt}
 use Rattle.root.proofs.Laws.{sqrt-strict}
@@ -45,6 +46,10 @@ dot-fine p q g =
     let a = mul-finite binary64 _ _ (s .0) in
     let b = mul-finite binary64 _ _ (s .1) in
     (cc, (a .0, b .0), (a .1, b .1))
+
+pub dot-bad : (p q : Point) → finite (dotOf p q .val) ≡ false → dotOf p q .fine ≡ false
+unfolding dotOf
+dot-bad p q h = simp (h, and-false)
 
 -- ---- the test of a point
 pub good-point : (p : Point) → Good p → pointFinite p ≡ true
@@ -107,3 +112,8 @@ unit-same p = ap (λ (b : Bool). b && unitBy p (magnitudeOf p .val) .fine) (magn
 pub unit-good : (p : Point) → Fine (unitOf p) → Good p
 unfolding unitOf
 unit-good p h = magnitude-fine p (sym (magnitude-same p) ∙ and-left (magnitudeOf p .fine) _ h) .1
+
+-- ---- a vector's dot with itself is never negative
+pub dot-sign : (p : Point) → negative (dotOf p p .val) ≡ false
+unfolding dotOf
+dot-sign p = add-sign _ _ (square-sign (p .x)) (square-sign (p .y))

@@ -1,0 +1,3 @@
+pub mod InPlace
+pub mod Lengths
+pub mod Errors

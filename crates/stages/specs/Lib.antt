@@ -1,0 +1,3 @@
+pub mod Chords
+pub mod Newton
+pub mod Worst
