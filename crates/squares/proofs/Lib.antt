@@ -1,0 +1,3 @@
+mod Tallies
+pub mod Controls
+pub mod Least

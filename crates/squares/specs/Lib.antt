@@ -1,0 +1,4 @@
+pub mod Sums
+pub mod Solve
+pub mod Squares
+pub mod Tests
