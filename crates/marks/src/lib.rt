@@ -3,6 +3,7 @@ mod block;
 mod tangent;
 
 pub use block::max_points_to_fit;
+pub use tangent::Way;
 pub use tangent::end_tangent;
 pub use tangent::start_tangent;
 pub use tangent::tangent_between;

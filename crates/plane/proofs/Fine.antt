@@ -89,6 +89,10 @@ times-ends p k =
     (λ h. good-point (times p k .val) (times-good p k (and-right (finite k) _ h)))
     (λ h. let t = times-fine p k (point-good (times p k .val) h) in both _ _ (t .2) (t .0))
 
+-- by a finite number
+pub times-same : (p : Point) (k : Float) → Fin k → times p k .fine ≡ pointFinite (times p k .val)
+times-same p k h = ap (λ (b : Bool). b && times p k .fine) (sym h) ∙ times-ends p k
+
 origin-finite : pointFinite (at f0 f0) ≡ true
 unfolding pointFinite finite ofBits
 origin-finite = refl

@@ -1,0 +1,305 @@
+-- What the cycle {fit_part, cut_part} cites: plain laws, of lists and runs, with no place of the code in them. Assumes nothing.
+use Prim.Native.Nat.{ℕ, zero, suc, _+_, _-_, _*_, _/_, _≤_, _<_}
+use native.Mathlib.Omega.{arith}
+use mathlib.Core.Path.{_≡_, refl, sym, ap, subst, _∙_}
+use mathlib.Core.List.{List, [], _∷_, _++_, append-nil, append-assoc}
+use lib.ListN.{length, take, drop, set, length-append, length-take, length-drop, drop-of-length-le}
+use lib.Seq.{take-all, take-at, drop-at, drop-drop, take-append-le}
+use lib.Ieee.{Float}
+use Rattle.float.specs.Answer.{Answer, ok, outcome}
+use Rattle.float.specs.Answer.{refused as no}
+use Rattle.plane.specs.declared.Point.{Point}
+use Rattle.plane.specs.declared.Curve.{Curve}
+use Rattle.marks.specs.Marks.{count}
+use Rattle.part.specs.Part.{Part, fits, cuts, fails, partOf}
+use Rattle.part.specs.Answers.{Did}
+use Rattle.part.specs.declared.Tried.{Tried}
+use Rattle.part.specs.declared.Tried.the-variants.{Good, Cut}
+use Rattle.part.specs.declared.Tried.the-variants.{Refused as TRefused}
+use Rattle.part.proofs.Ends.{Sound, part-sound}
+use Rattle.cut.specs.Run.{Run, refused, done, flat, waysAt, leftOf, rightOf, join, turned, runOf, cutOf}
+use Rattle.cut.specs.Lent.{turnAnswer, written, Left, Room}
+use Rattle.cut.specs.declared.Ways.{Ways}
+use Rattle.cut.specs.declared.Turn.{Turn}
+use Rattle.cut.specs.declared.Turn.the-variants as turn
+use Rattle.cut.specs.declared.Fitted.{Fitted}
+use Rattle.cut.specs.declared.Fitted.the-variants.{Curves, Refused}
+use Rattle.cut.proofs.Run.{run-sized, Sized, run-fits, run-fails, run-cuts, left-count, right-count}
+
+-- ---- lists: parts of a lent slice that come back
+
+module _ {A : Type 0} where
+  pub written-length : (xs C : List A) → length xs ≤ length C → length (written xs C) ≡ length C
+  written-length xs C h = simp (length-append, length-drop) (omega arith)
+
+  -- xs at the front of C, and then ys at the front of the part from a on, is xs and ys at the front of C
+  pub written-behind : (xs ys C C₁ D : List A) (a b : ℕ) → C₁ ≡ written xs C → length xs ≡ a → b ≡ length C₁ - a
+      → D ≡ written ys (take b (drop a C₁)) → take a C₁ ++ (D ++ drop b (drop a C₁)) ≡ written (xs ++ ys) C
+  written-behind xs ys C C₁ D a b e l lb d =
+      let front : take a C₁ ≡ xs = rw e (take-at xs _ a l) in
+      let back : drop a C₁ ≡ drop (length xs) C = rw e (drop-at xs _ a l) in
+      let all : take b (drop a C₁) ≡ drop (length xs) C = take-all b (drop a C₁) (simp length-drop (omega arith)) ∙ back in
+      let none : drop b (drop a C₁) ≡ [] = drop-of-length-le (drop a C₁) {i = b} (simp length-drop (omega arith)) in
+      rw (front, none, append-nil, d, all, drop-drop, length-append, append-assoc)
+
+  -- p over the first at + 1 of P, and then p′ over what is from `at` on
+  pub params-join : (at b : ℕ) (p p′ P P₁ : List A) → P₁ ≡ p ++ drop (at + 1) P → at ≤ length p → b ≡ length P₁ - at
+      → take at P₁ ++ (p′ ++ drop b (drop at P₁)) ≡ take at p ++ p′
+  params-join at b p p′ P P₁ e h lb =
+      let none : drop b (drop at P₁) ≡ [] = drop-of-length-le (drop at P₁) {i = b} (simp length-drop (omega arith)) in
+      let front : take at P₁ ≡ take at p = rw e (take-append-le at p _ h) in
+      rw (none, append-nil, front)
+
+  -- what comes back is as long as before
+  pub part-length : (a b : ℕ) (C D : List A) → a ≤ length C → b ≡ length C - a → length D ≡ length (take b (drop a C)) → length (take a C ++ (D ++ drop b (drop a C))) ≡ length C
+  part-length a b C D h e l =
+      let l′ : length D ≡ length C - a = l ∙ simp (length-take, length-drop) (omega arith) in
+      simp (length-append, length-take, length-drop) (omega arith)
+
+  pub inner-length : (a b : ℕ) (C D : List A) → a + b ≤ length C → length D ≡ length (take b (drop a C)) → length (take a C ++ (D ++ drop b (drop a C))) ≡ length C
+  inner-length a b C D h l =
+      let l′ : length D ≡ b = l ∙ simp (length-take, length-drop) (omega arith) in
+      simp (length-append, length-take, length-drop) (omega arith)
+
+  pub front-length : (k : ℕ) (C D : List A) → k ≤ length C → length D ≡ length (take k C) → length (D ++ drop k C) ≡ length C
+  front-length k C D h l =
+      let l′ : length D ≡ k = l ∙ simp length-take (omega arith) in
+      simp (length-append, length-drop) (omega arith)
+
+-- ---- a leaf's answer
+
+from-good : (P : Part) (r : Tried) (p : List Float) (k : Curve) → Did P r p → r ≡ Good k → P ≡ fits k p
+from-good (fits c ps) r p k h e = let f : Good c ≡ Good k = sym (h .0) ∙ e in let g : c ≡ k = cc in rw (g, h .1)
+from-good (cuts j) r p k h e = let z : _≡_ {A = ℕ} 0 1 = cc in absurd (omega arith)
+from-good (fails q) r p k h e = let z : _≡_ {A = ℕ} 0 1 = cc in absurd (omega arith)
+
+from-cut : (P : Part) (r : Tried) (p : List Float) (k : ℕ) → Did P r p → r ≡ Cut k → P ≡ cuts k
+from-cut (fits c ps) r p k h e = let f = h .0 in let z : _≡_ {A = ℕ} 0 1 = cc in absurd (omega arith)
+from-cut (cuts j) r p k h e = let g : j ≡ k = cc in ap cuts g
+from-cut (fails q) r p k h e = let z : _≡_ {A = ℕ} 0 1 = cc in absurd (omega arith)
+
+from-refused : (P : Part) (r : Tried) (p : List Float) (k : ℕ) → Did P r p → r ≡ TRefused k → P ≡ fails k
+from-refused (fits c ps) r p k h e = let f = h .0 in let z : _≡_ {A = ℕ} 0 1 = cc in absurd (omega arith)
+from-refused (cuts j) r p k h e = let z : _≡_ {A = ℕ} 0 1 = cc in absurd (omega arith)
+from-refused (fails q) r p k h e = let g : q ≡ k = cc in ap fails g
+
+-- ---- a run's answer
+
+-- a run that gave j curves
+pub record Done (R : Run) (j : ℕ) (C C₁ : List Float) (F F₁ : List ℕ) (p : List Float) : Type 0 where
+  pub cs : List Float
+  pub fs : List ℕ
+  pub is : R ≡ done cs fs p
+  pub long : length fs ≡ j
+  pub curves : C₁ ≡ written cs C
+  pub firsts : F₁ ≡ written fs F
+
+pub is-done : (R : Run) (r : Fitted) (j : ℕ) (C C₁ : List Float) (F F₁ : List ℕ) (p : List Float) → Left R r C C₁ F F₁ p → r ≡ Curves j → Done R j C C₁ F F₁ p
+is-done (refused q) r j C C₁ F F₁ p h e = let z : _≡_ {A = ℕ} 0 1 = cc in absurd (omega arith)
+is-done (done cs fs ps) r j C C₁ F F₁ p h e =
+    let f : Curves (length fs) ≡ Curves j = sym (h .0) ∙ e in
+    record { cs = cs; fs = fs; is = rw (h .3); long = cc; curves = h .1; firsts = h .2 }
+
+-- the left side stops the whole
+pub stop-left : (k : ℕ) (R R′ : Run) (r : Fitted) (C C₁ C₂ : List Float) (F F₁ F₂ : List ℕ) (p p₂ : List Float)
+    → Left R r C C₁ F F₁ p → ((j : ℕ) → r ≡ Curves j → ⊥) → Left (join k R R′) r C C₂ F F₂ p₂
+stop-left k (refused q) R′ r C C₁ C₂ F F₁ F₂ p p₂ h n = h
+stop-left k (done cs fs ps) R′ r C C₁ C₂ F F₁ F₂ p p₂ h n = absurd (n (length fs) (h .0))
+
+-- the right side stops the whole
+pub stop-right : (k : ℕ) (R R′ : Run) (cs : List Float) (fs : List ℕ) (p : List Float) (r : Fitted) (D D₁ : List Float) (E E₁ : List ℕ) (p′ : List Float) (C C₂ : List Float) (F F₂ : List ℕ) (p₂ : List Float)
+    → R ≡ done cs fs p → Left R′ r D D₁ E E₁ p′ → ((j : ℕ) → r ≡ Curves j → ⊥) → Left (join k R R′) r C C₂ F F₂ p₂
+stop-right k R (refused q) cs fs p r D D₁ E E₁ p′ C C₂ F F₂ p₂ e h n = rw e h
+stop-right k R (done cs′ fs′ ps′) cs fs p r D D₁ E E₁ p′ C C₂ F F₂ p₂ e h n = absurd (n (length fs′) (h .0))
+
+-- both sides are done
+pub both-done : (k : ℕ) (R R′ : Run) (cs cs′ : List Float) (fs fs′ : List ℕ) (p p′ : List Float) (j j′ : ℕ) (C C₂ : List Float) (F F₂ : List ℕ) (p₂ : List Float)
+    → R ≡ done cs fs p → R′ ≡ done cs′ fs′ p′ → length fs ≡ j → length fs′ ≡ j′
+    → C₂ ≡ written (cs ++ cs′) C → F₂ ≡ written (fs ++ fs′) F → p₂ ≡ take k p ++ p′ → Left (join k R R′) (Curves (j + j′)) C C₂ F F₂ p₂
+both-done k R R′ cs cs′ fs fs′ p p′ j j′ C C₂ F F₂ p₂ e e′ l l′ ec ef ep =
+    rw (e, e′) (rw (length-append, l, l′) refl, ec, ef, ep)
+
+-- ---- fit_part's returns
+
+module _ (ms : List Float) (first : ℕ) (s e : Point) (tol : Float) (h : 2 ≤ count ms) (r : Tried) (p : List Float) (did : Did (partOf ms s e tol) r p) where
+  pub fit-good : (k : Curve) (C C₁ : List Float) (F F₁ : List ℕ) → r ≡ Good k → C₁ ≡ written (flat k) C → F₁ ≡ written (first ∷ []) F → Left (runOf ms first s e tol) (Curves 1) C C₁ F F₁ p
+  fit-good k C C₁ F F₁ q ec ef = rw (run-fits ms first s e tol h k p (from-good _ r p k did q)) (refl, ec, ef, refl)
+
+  pub fit-cut : (k : ℕ) (r′ : Fitted) (C C₁ : List Float) (F F₁ : List ℕ) (p₁ : List Float) → r ≡ Cut k → Left (cutOf ms k first s e tol) r′ C C₁ F F₁ p₁ → Left (runOf ms first s e tol) r′ C C₁ F F₁ p₁
+  fit-cut k r′ C C₁ F F₁ p₁ q g = rw (run-cuts ms first s e tol h k (from-cut _ r p k did q)) g
+
+  pub fit-refused : (k : ℕ) (C C₁ : List Float) (F F₁ : List ℕ) (p₁ : List Float) → r ≡ TRefused k → Left (runOf ms first s e tol) (Refused k) C C₁ F F₁ p₁
+  fit-refused k C C₁ F F₁ p₁ q = rw (run-fails ms first s e tol h k (from-refused _ r p k did q)) refl
+
+pub sizes : (ms : List Float) (first : ℕ) (s e : Point) (tol : Float) (cs : List Float) (fs : List ℕ) (p : List Float) → 2 ≤ count ms → runOf ms first s e tol ≡ done cs fs p → Sized ms first (done cs fs p)
+sizes ms first s e tol cs fs p h q = rw q at (run-sized ms first s e tol h)
+
+pub set-first : (a : ℕ) (F : List ℕ) → 0 < length F → set F 0 a ≡ written (a ∷ []) F
+set-first a [] h = absurd (omega arith)
+set-first a (x ∷ F) h = refl
+
+-- ---- fit_part calls cut_part
+
+pub cut-asks : (ms : List Float) (first : ℕ) (s e : Point) (tol : Float) (C : List Float) (F : List ℕ) (P p : List Float) (r : Tried) (k : ℕ)
+    → Room ms first C F P → length p ≡ length P → Did (partOf ms s e tol) r p → r ≡ Cut k → Room ms first C F p × ((0 < k) × (k + 1 < length p))
+cut-asks ms first s e tol C F P p r k room l did q =
+    let n : count ms ≡ length P = omega arith in
+    let sound : Sound ms (cuts k) = rw (from-cut (partOf ms s e tol) r p k did q) at (part-sound ms s e tol (omega arith)) in
+    (record { even = omega arith; two = omega arith; near = omega arith; curves = omega arith; firsts = omega arith }, (sound .0, omega (arith, sound .1)))
+
+pub no-curves : (r : Fitted) (q : ℕ) → r ≡ Refused q → (j : ℕ) → r ≡ Curves j → ⊥
+no-curves r q e j f = let z : _≡_ {A = ℕ} 0 1 = cc in omega arith
+
+-- ---- cut_part calls fit_part at the left, and at the right
+
+-- a call of cut_part: its arguments, and what it asks
+pub record Call : Type 0 where
+  pub ms : List Float
+  pub at : ℕ
+  pub first : ℕ
+  pub s : Point
+  pub e : Point
+  pub tol : Float
+  pub C : List Float
+  pub F : List ℕ
+  pub P : List Float
+  pub room : Room ms first C F P
+  pub low : 0 < at
+  pub high : at + 1 < length P
+
+-- what ways_at answered
+pub ways-are : (r : Turn) (A : Answer Ways) (T : Ways) → turnAnswer r ≡ A → r ≡ turn.At T → A ≡ ok T
+unfolding turnAnswer
+ways-are r A T h e = sym h ∙ ap turnAnswer e
+
+pub ways-lost : (r : Turn) (A : Answer Ways) → turnAnswer r ≡ A → r ≡ turn.Lost → A ≡ no 6
+unfolding turnAnswer
+ways-lost r A h e = sym h ∙ ap turnAnswer e
+
+pub cut-refused : (K : Call) (q : ℕ) (C₂ : List Float) (F₂ : List ℕ) (p₂ : List Float) → outcome (waysAt (K .ms) (K .at)) ≡ no q
+    → Left (cutOf (K .ms) (K .at) (K .first) (K .s) (K .e) (K .tol)) (Refused q) (K .C) C₂ (K .F) F₂ p₂
+cut-refused K q C₂ F₂ p₂ e = rw e refl
+
+pub room-left : (K : Call) → Room (leftOf (K .at) (K .ms)) (K .first) (K .C) (K .F) (take (K .at + 1) (K .P))
+room-left K =
+    let room = K .room in
+    record {
+      even = simp length-take (omega arith);
+      two = simp length-take (omega arith);
+      near = simp length-take (omega arith);
+      curves = simp length-take (omega arith);
+      firsts = simp length-take (omega arith);
+    }
+
+pub less-left : (K : Call) → length (leftOf (K .at) (K .ms)) + 1 < length (K .ms)
+less-left K = let room = K .room in simp length-take (omega arith)
+
+-- the left side's run, at the tangents T, and the right's
+abbrev pub leftRun : Call → Ways → Run
+leftRun K T = runOf (leftOf (K .at) (K .ms)) (K .first) (K .s) (T .end) (K .tol)
+
+abbrev pub rightRun : Call → Ways → Run
+rightRun K T = runOf (rightOf (K .at) (K .ms)) (K .first + K .at) (T .start) (K .e) (K .tol)
+
+pub cut-is : (K : Call) (T : Ways) → outcome (waysAt (K .ms) (K .at)) ≡ ok T → cutOf (K .ms) (K .at) (K .first) (K .s) (K .e) (K .tol) ≡ join (K .at) (leftRun K T) (rightRun K T)
+cut-is K T e = rw e
+
+pub cut-stops-left : (K : Call) (T : Ways) (r : Fitted) (q : ℕ) (C₁ C₂ : List Float) (F₁ F₂ : List ℕ) (p p₂ : List Float)
+    → outcome (waysAt (K .ms) (K .at)) ≡ ok T → Left (leftRun K T) r (K .C) C₁ (K .F) F₁ p → r ≡ Refused q
+    → Left (cutOf (K .ms) (K .at) (K .first) (K .s) (K .e) (K .tol)) r (K .C) C₂ (K .F) F₂ p₂
+cut-stops-left K T r q C₁ C₂ F₁ F₂ p p₂ e h n =
+    rw (cut-is K T e) (stop-left (K .at) (leftRun K T) (rightRun K T) r (K .C) C₁ C₂ (K .F) F₁ F₂ p p₂ h (no-curves r q n))
+
+-- what is known once the left side has given j curves
+pub record Half (K : Call) : Type 0 where
+  pub T : Ways
+  pub is : cutOf (K .ms) (K .at) (K .first) (K .s) (K .e) (K .tol) ≡ join (K .at) (leftRun K T) (rightRun K T)
+  pub j : ℕ
+  pub C₁ : List Float
+  pub F₁ : List ℕ
+  pub p : List Float
+  pub side : Done (leftRun K T) j (K .C) C₁ (K .F) F₁ p
+  pub lc : length C₁ ≡ length (K .C)
+  pub lf : length F₁ ≡ length (K .F)
+  pub each : length p ≡ length (take (K .at + 1) (K .P))
+
+module _ (K : Call) (H : Half K) where
+  -- the numbers that the needs of the second call are worked out from
+  pub record Numbers : Type 0 where
+    pub room : Room (K .ms) (K .first) (K .C) (K .F) (K .P)
+    pub low : 0 < K .at
+    pub high : K .at + 1 < length (K .P)
+    pub few : H .j ≤ K .at
+    pub eight : length (H .side .cs) ≡ 8 * H .j
+    pub lc : length (H .C₁) ≡ length (K .C)
+    pub lf : length (H .F₁) ≡ length (K .F)
+    pub le : length (H .p) ≡ K .at + 1
+    pub lp : length (H .p ++ drop (K .at + 1) (K .P)) ≡ length (K .P)
+
+  pub numbers : Numbers
+  numbers =
+      let room = K .room in
+      let high = K .high in
+      let n : count (leftOf (K .at) (K .ms)) ≡ K .at + 1 = left-count (K .at) (K .ms) (omega arith) in
+      let z = sizes (leftOf (K .at) (K .ms)) (K .first) (K .s) (H .T .end) (K .tol) (H .side .cs) (H .side .fs) (H .p) (omega arith) (H .side .is) in
+      let l = H .side .long in
+      record {
+        room = room;
+        low = K .low;
+        high = high;
+        few = omega (arith, z .1);
+        eight = omega (arith, z .2);
+        lc = H .lc;
+        lf = H .lf;
+        le = omega (arith, z .3);
+        lp = front-length (K .at + 1) (K .P) (H .p) (omega arith) (H .each);
+      }
+
+  -- the slices as they stand after the left side
+  abbrev pub P₁ : List Float
+  P₁ = H .p ++ drop (K .at + 1) (K .P)
+
+  pub room-right : Room (take (length (K .ms) - 2 * K .at) (drop (2 * K .at) (K .ms))) (K .first + K .at) (take (length (H .C₁) - 8 * H .j) (drop (8 * H .j) (H .C₁))) (take (length (H .F₁) - H .j) (drop (H .j) (H .F₁))) (take (length P₁ - K .at) (drop (K .at) P₁))
+  room-right =
+      let n = numbers in
+      let room = n .room in
+      let lp = n .lp in
+      record {
+        even = simp (length-take, length-drop) (omega (arith, n));
+        two = simp (length-take, length-drop) (omega (arith, n));
+        near = simp (length-take, length-drop) (omega (arith, n));
+        curves = simp (length-take, length-drop) (omega (arith, n));
+        firsts = simp (length-take, length-drop) (omega (arith, n));
+      }
+
+  pub less-right : length (take (length (K .ms) - 2 * K .at) (drop (2 * K .at) (K .ms))) + 1 < length (K .ms)
+  less-right = let n = numbers in simp (length-take, length-drop) (omega (arith, n))
+
+  module _ (r : Fitted) (D₁ : List Float) (E₁ : List ℕ) (p′ : List Float)
+      (h : Left (runOf (take (length (K .ms) - 2 * K .at) (drop (2 * K .at) (K .ms))) (K .first + K .at) (H .T .start) (K .e) (K .tol)) r (take (length (H .C₁) - 8 * H .j) (drop (8 * H .j) (H .C₁))) D₁ (take (length (H .F₁) - H .j) (drop (H .j) (H .F₁))) E₁ p′) where
+    -- the right side's run, of the marks as the definition has them
+    ran : Left (rightRun K (H .T)) r (take (length (H .C₁) - 8 * H .j) (drop (8 * H .j) (H .C₁))) D₁ (take (length (H .F₁) - H .j) (drop (H .j) (H .F₁))) E₁ p′
+    ran = rw (take-all (length (K .ms) - 2 * K .at) (drop (2 * K .at) (K .ms)) (simp length-drop (omega arith))) at h
+
+    pub cut-stops-right : (q : ℕ) (C₂ : List Float) (F₂ : List ℕ) (p₂ : List Float) → r ≡ Refused q → Left (cutOf (K .ms) (K .at) (K .first) (K .s) (K .e) (K .tol)) r (K .C) C₂ (K .F) F₂ p₂
+    cut-stops-right q C₂ F₂ p₂ n =
+        rw (H .is) (stop-right (K .at) (leftRun K (H .T)) (rightRun K (H .T)) (H .side .cs) (H .side .fs) (H .p) r _ D₁ _ E₁ p′ (K .C) C₂ (K .F) F₂ p₂ (H .side .is) ran (no-curves r q n))
+
+    -- all is done: what the three lent slices hold when their parts are back
+    pub cut-done : (k : ℕ) → r ≡ Curves k
+        → Left (cutOf (K .ms) (K .at) (K .first) (K .s) (K .e) (K .tol)) (Curves (H .j + k)) (K .C) (take (8 * H .j) (H .C₁) ++ (D₁ ++ drop (length (H .C₁) - 8 * H .j) (drop (8 * H .j) (H .C₁)))) (K .F) (take (H .j) (H .F₁) ++ (E₁ ++ drop (length (H .F₁) - H .j) (drop (H .j) (H .F₁)))) (take (K .at) P₁ ++ (p′ ++ drop (length P₁ - K .at) (drop (K .at) P₁)))
+    cut-done k q =
+        let right = is-done (rightRun K (H .T)) r k _ D₁ _ E₁ p′ ran q in
+        let n = numbers in
+        rw (H .is) (both-done (K .at) (leftRun K (H .T)) (rightRun K (H .T)) (H .side .cs) (right .cs) (H .side .fs) (right .fs) (H .p) p′ (H .j) k (K .C) _ (K .F) _ _ (H .side .is) (right .is) (H .side .long) (right .long)
+        (written-behind (H .side .cs) (right .cs) (K .C) (H .C₁) D₁ (8 * H .j) (length (H .C₁) - 8 * H .j) (H .side .curves) (n .eight) refl (right .curves))
+        (written-behind (H .side .fs) (right .fs) (K .F) (H .F₁) E₁ (H .j) (length (H .F₁) - H .j) (H .side .firsts) (H .side .long) refl (right .firsts))
+        (params-join (K .at) (length P₁ - K .at) (H .p) p′ (K .P) P₁ refl (omega (arith, n)) refl))
+
+    pub right-few : (k : ℕ) → r ≡ Curves k → k + K .at < length (K .P)
+    right-few k q =
+        let right = is-done (rightRun K (H .T)) r k _ D₁ _ E₁ p′ ran q in
+        let n = numbers in
+        let m : count (rightOf (K .at) (K .ms)) ≡ count (K .ms) - K .at = right-count (K .at) (K .ms) (omega (arith, n)) in
+        let z = sizes (rightOf (K .at) (K .ms)) (K .first + K .at) (H .T .start) (K .e) (K .tol) (right .cs) (right .fs) p′ (omega (arith, n)) (right .is) in
+        omega (arith, n, z .1, right .long)

@@ -1,0 +1,3 @@
+mod Turns
+pub mod Run
+pub mod Cut

@@ -1,0 +1,136 @@
+-- Laws of the run's definition. Assumes nothing.
+use Prim.Native.Nat.{ℕ, zero, suc, _+_, _-_, _*_, _/_, _≤_, _<_}
+use native.Mathlib.Omega.{arith}
+use mathlib.Core.Path.{_≡_, refl, sym, ap, subst, _∙_}
+use mathlib.Core.List.{List, [], _∷_, _++_}
+use lib.ListN.{length, take, drop, length-append, length-take, length-drop}
+use lib.Ieee.{Float}
+use Rattle.float.specs.Answer.{Answer, ok, outcome}
+use Rattle.float.specs.Answer.{refused as no}
+use Rattle.plane.specs.declared.Point.{Point}
+use Rattle.plane.specs.declared.Curve.{Curve}
+use Rattle.marks.specs.Marks.{count}
+use Rattle.part.specs.Part.{Part, fits, cuts, fails, partOf}
+use Rattle.part.proofs.Ends.{Sound, part-sound}
+use Rattle.cut.specs.Run.{Run, refused, done, flat, waysAt, leftOf, rightOf, join, turned, run, runOf, cutOf}
+use Rattle.cut.specs.declared.Ways.{Ways}
+
+pub left-count : (k : ℕ) (ms : List Float) → k + 1 < count ms → count (leftOf k ms) ≡ k + 1
+left-count k ms h = simp (length-take) (omega arith)
+
+pub right-count : (k : ℕ) (ms : List Float) → k + 1 < count ms → count (rightOf k ms) ≡ count ms - k
+right-count k ms h = simp (length-drop) (omega arith)
+
+-- ---- any fuel from the number of marks on gives the same run
+
+turned-ext : (w : Answer Ways) (f g : Ways → Run) → ((t : Ways) → f t ≡ g t) → turned w f ≡ turned w g
+turned-ext (ok t) f g h = h t
+turned-ext (no q) f g h = refl
+
+pub run-fuel : (d d′ : ℕ) (ms : List Float) (first : ℕ) (s e : Point) (tol : Float) → 2 ≤ count ms → count ms ≤ d → count ms ≤ d′
+    → run d (partOf ms s e tol) ms first s e tol ≡ run d′ (partOf ms s e tol) ms first s e tol
+unfolding run
+run-fuel zero d′ ms first s e tol h l l′ = absurd (omega arith)
+run-fuel (suc d) zero ms first s e tol h l l′ = absurd (omega arith)
+run-fuel (suc d) (suc d′) ms first s e tol h l l′ =
+    go (partOf ms s e tol) (part-sound ms s e tol h)
+    (λ k t i j. let n = left-count k ms j in run-fuel d d′ (leftOf k ms) first s (t .end) tol (omega arith) (omega arith) (omega arith))
+    (λ k t i j. let n = right-count k ms j in run-fuel d d′ (rightOf k ms) (first + k) (t .start) e tol (omega arith) (omega arith) (omega arith))
+  where
+    go : (P : Part) → Sound ms P
+        → ((k : ℕ) (t : Ways) → 0 < k → k + 1 < count ms → run d (partOf (leftOf k ms) s (t .end) tol) (leftOf k ms) first s (t .end) tol ≡ run d′ (partOf (leftOf k ms) s (t .end) tol) (leftOf k ms) first s (t .end) tol)
+        → ((k : ℕ) (t : Ways) → 0 < k → k + 1 < count ms → run d (partOf (rightOf k ms) (t .start) e tol) (rightOf k ms) (first + k) (t .start) e tol ≡ run d′ (partOf (rightOf k ms) (t .start) e tol) (rightOf k ms) (first + k) (t .start) e tol)
+        → run (suc d) P ms first s e tol ≡ run (suc d′) P ms first s e tol
+    go (fits c ps) sd L R = refl
+    go (fails q) sd L R = refl
+    go (cuts k) sd L R = turned-ext (outcome (waysAt ms k)) _ _ (λ t. rw (L k t (sd .0) (sd .1), R k t (sd .0) (sd .1)))
+
+-- ---- the run by cases of the leaf: proofs unfold it by these three, and never see the fuel
+
+module _ (ms : List Float) (first : ℕ) (s e : Point) (tol : Float) (h : 2 ≤ count ms) where
+  pub run-fits : (c : Curve) (ps : List Float) → partOf ms s e tol ≡ fits c ps → runOf ms first s e tol ≡ done (flat c) (first ∷ []) ps
+  unfolding runOf run
+  run-fits c ps q = rw q (go (count ms) (omega arith))
+    where
+      go : (d : ℕ) → 0 < d → run d (fits c ps) ms first s e tol ≡ done (flat c) (first ∷ []) ps
+      go zero l = absurd (omega arith)
+      go (suc d) l = refl
+
+  pub run-fails : (q : ℕ) → partOf ms s e tol ≡ fails q → runOf ms first s e tol ≡ refused q
+  unfolding runOf run
+  run-fails q w = rw w (go (count ms) (omega arith))
+    where
+      go : (d : ℕ) → 0 < d → run d (fails q) ms first s e tol ≡ refused q
+      go zero l = absurd (omega arith)
+      go (suc d) l = refl
+
+  pub run-cuts : (k : ℕ) → partOf ms s e tol ≡ cuts k → runOf ms first s e tol ≡ cutOf ms k first s e tol
+  unfolding runOf run
+  run-cuts k w = rw w (go (count ms) refl)
+    where
+      sound : Sound ms (cuts k)
+      sound = rw w at (part-sound ms s e tol h)
+
+      go : (d : ℕ) → count ms ≡ d → run d (cuts k) ms first s e tol ≡ cutOf ms k first s e tol
+      go zero l = absurd (omega arith)
+      go (suc d) l =
+          let lc = left-count k ms (sound .1) in
+          let rc = right-count k ms (sound .1) in
+          turned-ext (outcome (waysAt ms k)) _ _ (λ t.
+          rw (
+            run-fuel d (count (leftOf k ms)) (leftOf k ms) first s (t .end) tol (omega (arith, sound)) (omega (arith, sound)) (omega arith),
+            run-fuel d (count (rightOf k ms)) (rightOf k ms) (first + k) (t .start) e tol (omega (arith, sound)) (omega (arith, sound)) (omega arith),
+          ))
+
+-- ---- induction: what holds of one curve and of a refusal, and is kept by a join, holds of every run
+
+module _ (Q : List Float → ℕ → Run → Type 0)
+    (one : (ms : List Float) (first : ℕ) (c : Curve) (ps : List Float) → 2 ≤ count ms → Sound ms (fits c ps) → Q ms first (done (flat c) (first ∷ []) ps))
+    (none : (ms : List Float) (first q : ℕ) → Q ms first (refused q))
+    (both : (ms : List Float) (first k : ℕ) (R R′ : Run) → 0 < k → k + 1 < count ms → Q (leftOf k ms) first R → Q (rightOf k ms) (first + k) R′ → Q ms first (join k R R′)) where
+  ind : (d : ℕ) (ms : List Float) (first : ℕ) (s e : Point) (tol : Float) → 2 ≤ count ms → count ms ≤ d → Q ms first (run d (partOf ms s e tol) ms first s e tol)
+  unfolding run
+  ind zero ms first s e tol h l = absurd (omega arith)
+  ind (suc d) ms first s e tol h l =
+      go (partOf ms s e tol) (part-sound ms s e tol h)
+      (λ k t i j. let n = left-count k ms j in ind d (leftOf k ms) first s (t .end) tol (omega arith) (omega arith))
+      (λ k t i j. let n = right-count k ms j in ind d (rightOf k ms) (first + k) (t .start) e tol (omega arith) (omega arith))
+    where
+      turn : (w : Answer Ways) (f : Ways → Run) → ((t : Ways) → Q ms first (f t)) → Q ms first (turned w f)
+      turn (ok t) f h = h t
+      turn (no q) f h = none ms first q
+
+      go : (P : Part) → Sound ms P
+          → ((k : ℕ) (t : Ways) → 0 < k → k + 1 < count ms → Q (leftOf k ms) first (run d (partOf (leftOf k ms) s (t .end) tol) (leftOf k ms) first s (t .end) tol))
+          → ((k : ℕ) (t : Ways) → 0 < k → k + 1 < count ms → Q (rightOf k ms) (first + k) (run d (partOf (rightOf k ms) (t .start) e tol) (rightOf k ms) (first + k) (t .start) e tol))
+          → Q ms first (run (suc d) P ms first s e tol)
+      go (fits c ps) sd L R = one ms first c ps h sd
+      go (fails q) sd L R = none ms first q
+      go (cuts k) sd L R = turn (outcome (waysAt ms k)) _ (λ t. both ms first k _ _ (sd .0) (sd .1) (L k t (sd .0) (sd .1)) (R k t (sd .0) (sd .1)))
+
+  pub run-ind : (ms : List Float) (first : ℕ) (s e : Point) (tol : Float) → 2 ≤ count ms → Q ms first (runOf ms first s e tol)
+  unfolding runOf
+  run-ind ms first s e tol h = ind (count ms) ms first s e tol h (omega arith)
+
+-- ---- sizes: from 1 to n - 1 curves, eight numbers for each, and n parameters
+
+abbrev pub Sized : List Float → ℕ → Run → Type 0
+Sized ms first (refused q) = Unit {0}
+Sized ms first (done cs fs ps) = (0 < length fs) × (length fs < count ms) × (length cs ≡ 8 * length fs) × (length ps ≡ count ms)
+
+pub sized-join : (ms : List Float) (first k : ℕ) (R R′ : Run) → 0 < k → k + 1 < count ms → Sized (leftOf k ms) first R → Sized (rightOf k ms) (first + k) R′ → Sized ms first (join k R R′)
+sized-join ms first k (refused q) R′ i j l r = tt
+sized-join ms first k (done c f p) (refused q) i j l r = tt
+sized-join ms first k (done c f p) (done c′ f′ p′) i j l r =
+    let lc = left-count k ms j in
+    let rc = right-count k ms j in
+    let la = l .1 in let ld = l .3 in
+    let ra = r .1 in let rd = r .3 in
+    (simp length-append (omega arith), simp length-append (omega arith), simp length-append (omega arith), simp (length-append, length-take) (omega arith))
+
+pub run-sized : (ms : List Float) (first : ℕ) (s e : Point) (tol : Float) → 2 ≤ count ms → Sized ms first (runOf ms first s e tol)
+run-sized =
+    run-ind Sized
+    (λ ms first c ps h sd. (omega arith, omega arith, refl, sd .2))
+    (λ ms first q. tt)
+    sized-join

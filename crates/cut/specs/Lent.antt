@@ -1,0 +1,35 @@
+-- What a run leaves in lent slices, and what it asks of them: words of the inner contracts. Definitions only.
+use Prim.Native.Nat.{ℕ, _+_, _*_, _≤_}
+use mathlib.Core.Path.{_≡_}
+use mathlib.Core.List.{List, _++_}
+use lib.ListN.{length, drop}
+use lib.Ieee.{Float}
+use Rattle.float.specs.Answer.{Answer, ok}
+use Rattle.float.specs.Answer.{refused as no}
+use Rattle.cut.specs.Run.{Run, refused, done}
+use Rattle.cut.specs.declared.Ways.{Ways}
+use Rattle.cut.specs.declared.Turn.{Turn}
+use Rattle.cut.specs.declared.Turn.the-variants as turn
+use Rattle.cut.specs.declared.Fitted.{Fitted}
+use Rattle.cut.specs.declared.Fitted.the-variants.{Curves, Refused}
+
+unfoldable pub turnAnswer : Turn → Answer Ways
+turnAnswer (turn.At w) = ok w
+turnAnswer turn.Lost = no 6
+
+-- xs written over the front of ys
+abbrev pub written : {A : Type 0} → List A → List A → List A
+written xs ys = xs ++ drop (length xs) ys
+
+-- the answer r, and of each lent slice what it held and holds (of a refused run, the answer alone)
+abbrev pub Left : Run → Fitted → List Float → List Float → List ℕ → List ℕ → List Float → Type 0
+Left (refused q) r C C′ F F′ P′ = r ≡ Refused q
+Left (done cs fs ps) r C C′ F F′ P′ = (r ≡ Curves (length fs)) × (C′ ≡ written cs C) × (F′ ≡ written fs F) × (P′ ≡ ps)
+
+-- two marks or more, a parameter for each, and room
+pub record Room (ms : List Float) (first : ℕ) (C : List Float) (F : List ℕ) (P : List Float) : Type 0 where
+  pub even : length ms ≡ 2 * length P
+  pub two : 2 ≤ length P
+  pub near : first + length P ≤ 65536
+  pub curves : 8 * length P ≤ length C + 8
+  pub firsts : length P ≤ length F + 1

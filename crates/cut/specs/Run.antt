@@ -1,0 +1,71 @@
+-- The run of a part: one curve, or the run of its left side and then of its right. Definitions only.
+use Prim.Native.Nat.{ℕ, zero, suc, _+_, _-_, _*_}
+use mathlib.Core.List.{List, [], _∷_, _++_}
+use lib.ListN.{length, take, drop}
+use lib.Ieee.{Float, neg}
+use Rattle.float.specs.Number.{f1}
+use Rattle.float.specs.Calc.{Calc, give, _>>=_}
+use Rattle.float.specs.Answer.{Answer, ok, outcome}
+use Rattle.float.specs.Answer.{refused as no}
+use Rattle.plane.specs.Plane.{times}
+use Rattle.plane.specs.declared.Point.{Point}
+use Rattle.plane.specs.declared.Curve.{Curve}
+use Rattle.marks.specs.Marks.{count, markAt}
+use Rattle.marks.specs.Tangent.{tangentBetween}
+use Rattle.part.specs.Part.{Part, fits, cuts, fails, partOf}
+use Rattle.cut.specs.declared.Ways.{Ways}
+
+-- refused with a number; or the curves' numbers, each curve's first mark, and each mark's parameter
+pub data Run : Type 0 where
+  refused : ℕ → Run
+  done : List Float → List ℕ → List Float → Run
+
+-- a curve's eight numbers: start, first control, second control, end, each x then y
+abbrev pub flat : Curve → List Float
+flat c = c .start .x ∷ c .start .y ∷ c .cp1 .x ∷ c .cp1 .y ∷ c .cp2 .x ∷ c .cp2 .y ∷ c .end .x ∷ c .end .y ∷ []
+
+-- the shared tangent at a cut at mark k: tangent_between's at the left's end, and that times -1 at the right's start
+unfoldable pub waysAt : List Float → ℕ → Calc Ways
+waysAt ms k = do
+  t ← tangentBetween (markAt ms (k - 1)) (markAt ms k) (markAt ms (k + 1))
+  u ← times t (neg f1)
+  give (record { end = t; start = u })
+
+-- the marks left of a cut at k, and right of it: mark k is in both
+abbrev pub leftOf : ℕ → List Float → List Float
+leftOf k ms = take (2 * k + 2) ms
+
+abbrev pub rightOf : ℕ → List Float → List Float
+rightOf k ms = drop (2 * k) ms
+
+-- left, then right: the first refusal, or all curves. Mark k has the right side's parameter
+abbrev pub join : ℕ → Run → Run → Run
+join k (refused q) r = refused q
+join k (done c f p) (refused q) = refused q
+join k (done c f p) (done c′ f′ p′) = done (c ++ c′) (f ++ f′) (take k p ++ p′)
+
+-- on with the tangents, or their refusal
+abbrev pub turned : Answer Ways → (Ways → Run) → Run
+turned (ok w) f = f w
+turned (no q) f = refused q
+
+-- The run of a part that comes to P. The number bounds how deep the cuts go: as many as there are marks is enough.
+unfoldable pub run : ℕ → Part → List Float → ℕ → Point → Point → Float → Run
+run zero P ms first s e tol = refused 0
+run (suc d) (fits c ps) ms first s e tol = done (flat c) (first ∷ []) ps
+run (suc d) (fails q) ms first s e tol = refused q
+run (suc d) (cuts k) ms first s e tol =
+    turned (outcome (waysAt ms k))
+    (λ w. join k
+    (run d (partOf (leftOf k ms) s (w .end) tol) (leftOf k ms) first s (w .end) tol)
+    (run d (partOf (rightOf k ms) (w .start) e tol) (rightOf k ms) (first + k) (w .start) e tol))
+
+-- marks, the number of their first, tangents at the ends, tolerance
+unfoldable pub runOf : List Float → ℕ → Point → Point → Float → Run
+unfolding run
+runOf ms first s e tol = run (count ms) (partOf ms s e tol) ms first s e tol
+
+-- a part that is cut at k
+abbrev pub cutOf : List Float → ℕ → ℕ → Point → Point → Float → Run
+cutOf ms k first s e tol =
+    turned (outcome (waysAt ms k)) (λ w. join k (runOf (leftOf k ms) first s (w .end) tol) (runOf (rightOf k ms) (first + k) (w .start) e tol))

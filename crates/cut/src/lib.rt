@@ -1,0 +1,155 @@
+// A part that is not within the tolerance is cut at its worst mark, and each side is a fit of its own: `fit_part` and `cut_part` call each
+// other on fewer marks each time, over parts of the marks and of the lent slices.
+ghost use mathlib.Core.Path.{_≡_};
+ghost use Prim.Native.Nat.{_+_, _*_, _≤_, _<_};
+ghost use lib.ListN.{length};
+ghost use Rattle.float.specs.Answer.{outcome};
+ghost use Rattle.cut.specs.Run.{flat, waysAt, runOf, cutOf};
+ghost use Rattle.cut.specs.Lent.{turnAnswer, written, Left, Room};
+use float::refusal::NOT_FINITE;
+use marks::Way;
+use part::Tried;
+use plane::Curve;
+use plane::Point;
+
+// The tangents at a cut: at the left side's end, and turned about at the right side's start.
+pub struct Ways {
+    pub end: Point,
+    pub start: Point,
+}
+
+// The tangents at a cut, or that an operation gave NaN or infinity.
+enum Turn {
+    At(Ways),
+    Lost,
+}
+
+// How many curves a fit made, or its refusal by number.
+pub enum Fitted {
+    Curves(usize),
+    Refused(u32),
+}
+
+// The tangents at a cut at mark `at`, from its two neighbours.
+fn ways_at(marks: &[f64], at: usize) -> Turn
+    requires { ⌜ (0 < at) × (2 * at + 3 < length (now marks)) ⌝ }
+    ensures { λ r. ⌜ turnAnswer r ≡ outcome (waysAt (now (marks .entry)) at) ⌝ }
+{
+    let Way::Toward(end) = marks::tangent_between(
+        marks::mark_at(marks, at - 1),
+        marks::mark_at(marks, at),
+        marks::mark_at(marks, at + 1),
+    ) else {
+        return Turn::Lost;
+    };
+    let start = plane::scale(end, -1.0);
+    if plane::point_finite(start) {
+        return Turn::At(Ways { end, start });
+    }
+    Turn::Lost
+}
+
+// The eight numbers of a curve, at the front of the slice.
+fn put_curve(curves: &mut [f64], c: Curve)
+    requires { ⌜ 8 ≤ length (now curves) ⌝ }
+    ensures { λ _. ⌜ now (curves .exit) ≡ written (flat c) (now (curves .entry)) ⌝ }
+{
+    curves[0] = c.start.x;
+    curves[1] = c.start.y;
+    curves[2] = c.cp1.x;
+    curves[3] = c.cp1.y;
+    curves[4] = c.cp2.x;
+    curves[5] = c.cp2.y;
+    curves[6] = c.end.x;
+    curves[7] = c.end.y;
+}
+
+// The curves of a part whose first mark has the number `first`, with the tangents at its ends.
+pub fn fit_part(
+    marks: &[f64],
+    first: usize,
+    start: Point,
+    end: Point,
+    tolerance: f64,
+    curves: &mut [f64],
+    firsts: &mut [u32],
+    params: &mut [f64],
+) -> Fitted
+    requires { ⌜ Room (now marks) first (now curves) (now firsts) (now params) ⌝ }
+    ensures { λ r. ⌜ Left (runOf (now (marks .entry)) first start end tolerance) r (now (curves .entry)) (now (curves .exit)) (now (firsts .entry)) (now (firsts .exit)) (now (params .exit)) ⌝ }
+{
+    let tried = part::try_part(marks, start, end, tolerance, params);
+    match tried {
+        Tried::Good(c) => {
+            put_curve(curves, c);
+            firsts[0] = first as u32;
+            Fitted::Curves(1)
+        }
+        Tried::Cut(at) => cut_part(
+            marks,
+            at,
+            first,
+            start,
+            end,
+            tolerance,
+            curves,
+            firsts,
+            params,
+        ),
+        Tried::Refused(q) => Fitted::Refused(q),
+    }
+}
+
+// The curves of both sides of a cut. The cut mark is in both; its parameter is the right side's.
+fn cut_part(
+    marks: &[f64],
+    at: usize,
+    first: usize,
+    start: Point,
+    end: Point,
+    tolerance: f64,
+    curves: &mut [f64],
+    firsts: &mut [u32],
+    params: &mut [f64],
+) -> Fitted
+    requires { ⌜ Room (now marks) first (now curves) (now firsts) (now params) ⌝ }
+    requires { ⌜ (0 < at) × (at + 1 < length (now params)) ⌝ }
+    ensures { λ r. ⌜ Left (cutOf (now (marks .entry)) at first start end tolerance) r (now (curves .entry)) (now (curves .exit)) (now (firsts .entry)) (now (firsts .exit)) (now (params .exit)) ⌝ }
+{
+    let Turn::At(ways) = ways_at(marks, at) else {
+        return Fitted::Refused(NOT_FINITE);
+    };
+    let middle = ways.end;
+    let front = 2 * at + 2;
+    let shared = at + 1;
+    let left = fit_part(
+        &marks[..front],
+        first,
+        start,
+        middle,
+        tolerance,
+        curves,
+        firsts,
+        &mut params[..shared],
+    );
+    let Fitted::Curves(j) = left else {
+        return left;
+    };
+    let turned = ways.start;
+    let back = 2 * at;
+    let behind = 8 * j;
+    let right = fit_part(
+        &marks[back..],
+        first + at,
+        turned,
+        end,
+        tolerance,
+        &mut curves[behind..],
+        &mut firsts[j..],
+        &mut params[at..],
+    );
+    let Fitted::Curves(k) = right else {
+        return right;
+    };
+    Fitted::Curves(j + k)
+}
