@@ -1,0 +1,68 @@
+-- The loop over the marks' numbers, and what a passed gate says. Assumes nothing.
+use Prim.Native.Nat.{ℕ, suc, _+_, _-_, _*_, _%_, _≤_, _<_}
+use native.Mathlib.Omega.{arith}
+use native.Mathlib.Numerals.{add-one}
+use mathlib.Core.Path.{_≡_, refl, sym, _∙_}
+use mathlib.Core.Bool.{Bool, true, false, not, _&&_}
+use mathlib.Core.List.{List}
+use lib.ListN.{length, drop, getD, drop-of-length-le}
+use lib.Seq.{drop-cons}
+use lib.Dec.{ltb, eqb}
+use lib.Ieee.{Float, nan}
+use borrow.Author.Tests.{ltb-false, eqb-true, not-false}
+use Rattle.plane.specs.Range.{coordinate}
+use Rattle.marks.specs.Marks.{count}
+use Rattle.gate.specs.Gate.{inRange, tolerable, refuse, gateOf}
+
+module _ (ms : List Float) (i : ℕ) (inv : inRange (drop i ms) ≡ inRange ms) where
+  next : i < length ms → inRange (drop i ms) ≡ coordinate (getD ms i nan) && inRange (drop (i + 1) ms)
+  unfolding inRange
+  next h = rw (add-one, drop-cons ms i nan)
+
+  module _ (b : Bool) (h : i < length ms) (e : b ≡ coordinate (getD ms i nan)) where
+    pub range-more : b ≡ true → inRange (drop (i + 1) ms) ≡ inRange ms
+    range-more t = sym (next h ∙ rw (← e, t)) ∙ inv
+
+    pub range-stop : b ≡ false → false ≡ inRange ms
+    range-stop t = sym (next h ∙ rw (← e, t)) ∙ inv
+
+  pub range-end : length ms ≤ i → true ≡ inRange ms
+  unfolding inRange
+  range-end h = rw (drop-of-length-le ms {i = i} h) at inv
+
+past : (b : Bool) (q n : ℕ) → refuse b (suc q) n ≡ 0 → (b ≡ false) × (n ≡ 0)
+past true q n h = absurd (omega arith)
+past false q n h = (refl, h)
+
+-- what a gate that gave 0 has tested
+pub record Passed (top : ℕ) (ms : List Float) (tol : Float) (c f p : ℕ) : Type 0 where
+  pub even : length ms % 2 ≡ 0
+  pub two : 2 ≤ count ms
+  pub most : count ms ≤ top
+  pub curves : 8 * (count ms - 1) ≤ c
+  pub firsts : count ms - 1 ≤ f
+  pub params : count ms ≤ p
+  pub near : inRange ms ≡ true
+  pub usable : tolerable tol ≡ true
+
+pub passed : (top : ℕ) (ms : List Float) (tol : Float) (c f p : ℕ) → gateOf top ms tol c f p ≡ 0 → Passed top ms tol c f p
+unfolding gateOf
+passed top ms tol c f p h =
+    let a = past (not (eqb (length ms % 2) 0)) 2 _ h in
+    let b = past (ltb (count ms) 2) 0 _ (a .1) in
+    let d = past (ltb top (count ms)) 1 _ (b .1) in
+    let e = past (ltb c (8 * (count ms - 1))) 3 _ (d .1) in
+    let g = past (ltb f (count ms - 1)) 3 _ (e .1) in
+    let i = past (ltb p (count ms)) 3 _ (g .1) in
+    let j = past (not (inRange ms)) 4 _ (i .1) in
+    let k = past (not (tolerable tol)) 4 0 (j .1) in
+    record {
+      even = eqb-true _ _ (not-false _ (a .0));
+      two = ltb-false _ _ (b .0);
+      most = ltb-false _ _ (d .0);
+      curves = ltb-false _ _ (e .0);
+      firsts = ltb-false _ _ (g .0);
+      params = ltb-false _ _ (i .0);
+      near = not-false _ (j .0);
+      usable = not-false _ (k .0);
+    }

@@ -1,0 +1,36 @@
+-- What a fit tests before it runs, in the order 3, 1, 2, 4, 5. Definitions only.
+use Prim.Native.Nat.{ℕ, _-_, _*_, _%_}
+use mathlib.Core.Bool.{Bool, true, false, not, _&&_}
+use mathlib.Core.List.{List, [], _∷_}
+use lib.ListN.{length}
+use lib.Dec.{ltb, eqb}
+use lib.Ieee.{Float, le}
+use Rattle.float.specs.Number.{f0, finite}
+use Rattle.plane.specs.Range.{coordinate}
+use Rattle.marks.specs.Marks.{count}
+
+-- each number finite and of magnitude at most 1,000,000
+unfoldable pub inRange : List Float → Bool
+inRange [] = true
+inRange (x ∷ xs) = coordinate x && inRange xs
+
+-- finite and not below zero
+unfoldable pub tolerable : Float → Bool
+tolerable x = finite x && le f0 x
+
+-- refusal q if the test holds, else what the later tests say
+abbrev pub refuse : Bool → ℕ → ℕ → ℕ
+refuse true q n = q
+refuse false q n = n
+
+-- at most `top` marks; room for c numbers of curves, f first marks and p parameters; 0 if all tests pass
+unfoldable pub gateOf : ℕ → List Float → Float → ℕ → ℕ → ℕ → ℕ
+gateOf top ms tol c f p =
+    refuse (not (eqb (length ms % 2) 0)) 3
+    (refuse (ltb (count ms) 2) 1
+    (refuse (ltb top (count ms)) 2
+    (refuse (ltb c (8 * (count ms - 1))) 4
+    (refuse (ltb f (count ms - 1)) 4
+    (refuse (ltb p (count ms)) 4
+    (refuse (not (inRange ms)) 5
+    (refuse (not (tolerable tol)) 5 0)))))))

@@ -1,0 +1,95 @@
+// What every fit tests before it runs, in the order of the refusals, and the zeros that a refused run leaves.
+ghost use mathlib.Core.Path.{_≡_};
+ghost use lib.ListN.{length, replicate};
+ghost use Rattle.float.specs.Number.{f0};
+ghost use Rattle.gate.specs.Gate.{inRange, tolerable, gateOf};
+use float::refusal::NO_ROOM;
+use float::refusal::ODD;
+use float::refusal::OUT_OF_RANGE;
+use float::refusal::TOO_FEW;
+use float::refusal::TOO_MANY;
+
+// Whether every number may be a coordinate.
+pub fn all_in_range(marks: &[f64]) -> bool
+    ensures { λ r. ⌜ r ≡ inRange (now (marks .entry)) ⌝ }
+{
+    let mut i = 0;
+    while i < marks.len() {
+        if plane::is_coordinate(marks[i]) {
+            i += 1;
+        } else {
+            return false;
+        }
+    }
+    true
+}
+
+// Whether x may be a tolerance: finite and not below zero.
+pub fn is_tolerable(x: f64) -> bool
+    ensures { λ r. ⌜ r ≡ tolerable x ⌝ }
+{
+    float::finite(x) & (0.0 <= x)
+}
+
+// The refusal before a run over these marks, at most `top` of them, with room for so many numbers of curves, first marks and
+// parameters; 0 if there is none.
+pub fn gate(
+    marks: &[f64],
+    tolerance: f64,
+    top: usize,
+    curves: usize,
+    firsts: usize,
+    params: usize,
+) -> u32
+    ensures { λ r. ⌜ r ≡ gateOf «top» (now (marks .entry)) tolerance «curves» «firsts» «params» ⌝ }
+{
+    let len = marks.len();
+    if len % 2 != 0 {
+        return ODD;
+    }
+    let n = len / 2;
+    if n < 2 {
+        return TOO_FEW;
+    }
+    if n > top {
+        return TOO_MANY;
+    }
+    if curves < 8 * (n - 1) {
+        return NO_ROOM;
+    }
+    if firsts < n - 1 {
+        return NO_ROOM;
+    }
+    if params < n {
+        return NO_ROOM;
+    }
+    if !all_in_range(marks) {
+        return OUT_OF_RANGE;
+    }
+    if !is_tolerable(tolerance) {
+        return OUT_OF_RANGE;
+    }
+    0
+}
+
+// Every number plus zero.
+pub fn zero_floats(s: &mut [f64])
+    ensures { λ _. ⌜ now (s .exit) ≡ replicate (length (now (s .entry))) f0 ⌝ }
+{
+    let mut i = 0;
+    while i < s.len() {
+        s[i] = 0.0;
+        i += 1;
+    }
+}
+
+// Every number zero.
+pub fn zero_numbers(s: &mut [u32])
+    ensures { λ _. ⌜ now (s .exit) ≡ replicate (length (now (s .entry))) 0 ⌝ }
+{
+    let mut i = 0;
+    while i < s.len() {
+        s[i] = 0;
+        i += 1;
+    }
+}
