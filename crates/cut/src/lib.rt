@@ -19,7 +19,7 @@ pub struct Ways {
 }
 
 // The tangents at a cut, or that an operation gave NaN or infinity.
-enum Turn {
+pub enum Turn {
     At(Ways),
     Lost,
 }

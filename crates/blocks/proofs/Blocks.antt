@@ -1,0 +1,107 @@
+-- Laws of the blocks' definition. Assumes nothing.
+use Prim.Native.Nat.{ℕ, zero, suc, _+_, _-_, _*_, _≤_, _<_}
+use native.Mathlib.Omega.{arith}
+use mathlib.Core.Path.{_≡_, refl, sym, ap, _∙_}
+use mathlib.Core.Bool.{Bool, true, false}
+use mathlib.Core.List.{List, [], _∷_, _++_, append-assoc}
+use lib.ListN.{length, take, drop, length-take, length-drop}
+use lib.Dec.{leb, ltb}
+use lib.Ieee.{Float}
+use borrow.Author.Tests.{le-leb, lt-leb, leb-false}
+use Rattle.float.specs.Answer.{Answer, ok, outcome}
+use Rattle.float.specs.Answer.{refused as no}
+use Rattle.marks.specs.Marks.{count}
+use Rattle.cut.specs.Run.{Run, refused, done, join, turned, runOf}
+use Rattle.cut.specs.declared.Ways.{Ways}
+use Rattle.cut.specs.declared.Turn.{Turn}
+use Rattle.cut.specs.declared.Turn.the-variants as turn
+use Rattle.cut.specs.declared.Fitted.{Fitted}
+use Rattle.cut.specs.declared.Fitted.the-variants.{Refused}
+use Rattle.cut.specs.Lent.{turnAnswer, Left, Room}
+use Rattle.cut.proofs.Cut.{sizes, ways-are, ways-lost}
+use Rattle.blocks.specs.declared.Cutting.{Cutting}
+use Rattle.blocks.specs.Blocks.{over, waysOf, blockOf, lastOf, blocks, blocksFrom, blocksOf}
+
+module _ (k : Cutting) (ms : List Float) (n size : ℕ) (tol : Float) where
+  -- ---- the blocks by cases: proofs unfold them by `blocks-last` and `blocks-more`, and never see the bound
+
+  abbrev at : ℕ → ℕ → Run
+  at d from = blocks d (leb (n - from) (size + over k)) k ms n size tol from
+
+  blocks-fuel : (d d′ from : ℕ) → 0 < size → from < n → n - from ≤ d → n - from ≤ d′ → at d from ≡ at d′ from
+  unfolding blocks
+  blocks-fuel zero d′ from z h l l′ = absurd (omega arith)
+  blocks-fuel (suc d) zero from z h l l′ = absurd (omega arith)
+  blocks-fuel (suc d) (suc d′) from z h l l′ =
+      go (leb (n - from) (size + over k)) refl (λ j. blocks-fuel d d′ (from + size) z (omega arith) (omega arith) (omega arith))
+    where
+      go : (b : Bool) → leb (n - from) (size + over k) ≡ b → (size + over k < n - from → at d (from + size) ≡ at d′ (from + size)) → blocks (suc d) b k ms n size tol from ≡ blocks (suc d′) b k ms n size tol from
+      go true e R = refl
+      go false e R = ap (join size (blockOf k ms n tol from (from + (size + over k)))) (R (leb-false _ _ e))
+
+  pub blocks-last : (from : ℕ) → from < n → n - from ≤ size + over k → blocksFrom k ms n size tol from ≡ lastOf (ltb (n - from) 2) k ms n tol from
+  unfolding blocksFrom blocks
+  blocks-last from h l = rw (le-leb (n - from) (size + over k) l) (go n (omega arith))
+    where
+      go : (d : ℕ) → 0 < d → blocks d true k ms n size tol from ≡ lastOf (ltb (n - from) 2) k ms n tol from
+      go zero l = absurd (omega arith)
+      go (suc d) l = refl
+
+  pub blocks-more : (from : ℕ) → 0 < size → size + over k < n - from → blocksFrom k ms n size tol from ≡ join size (blockOf k ms n tol from (from + (size + over k))) (blocksFrom k ms n size tol (from + size))
+  unfolding blocksFrom blocks
+  blocks-more from z l = rw (lt-leb (n - from) (size + over k) l) (go n refl)
+    where
+      go : (d : ℕ) → n ≡ d → blocks d false k ms n size tol from ≡ join size (blockOf k ms n tol from (from + (size + over k))) (at n (from + size))
+      go zero e = absurd (omega arith)
+      go (suc d) e = ap (join size (blockOf k ms n tol from (from + (size + over k)))) (blocks-fuel d n (from + size) z (omega arith) (omega arith) (omega arith))
+
+  -- ---- one block: fewer curves than marks, eight numbers for each, and a parameter for each mark
+
+  abbrev pub Sized : ℕ → List Float → List ℕ → List Float → Type 0
+  Sized m cs fs p = (0 < length fs) × (length fs < m) × (length cs ≡ 8 * length fs) × (length p ≡ m)
+
+  pub block-sized : (from to : ℕ) (cs : List Float) (fs : List ℕ) (p : List Float) → length ms ≡ 2 * n → from + 2 ≤ to → to ≤ n → blockOf k ms n tol from to ≡ done cs fs p → Sized (to - from) cs fs p
+  block-sized from to cs fs p e h l q = go (outcome (waysOf k ms n from to)) q
+    where
+      many : count (take (2 * to - 2 * from) (drop (2 * from) ms)) ≡ to - from
+      many = simp (length-take, length-drop) (omega arith)
+
+      go : (w : Answer Ways) → turned w (λ w. runOf (take (2 * to - 2 * from) (drop (2 * from) ms)) from (w .start) (w .end) tol) ≡ done cs fs p → Sized (to - from) cs fs p
+      go (ok w) q =
+          let z = sizes (take (2 * to - 2 * from) (drop (2 * from) ms)) from (w .start) (w .end) tol cs fs p (omega (arith, many)) q in
+          (z .0, omega (arith, many, z .1), z .2, z .3 ∙ many)
+      go (no i) q = let z : _≡_ {A = ℕ} 0 1 = cc in absurd (omega arith)
+
+-- ---- fit_block's returns
+
+pub block-room : (ms : List Float) (n from to : ℕ) (C : List Float) (F : List ℕ) (P : List Float) → length ms ≡ 2 * n → (from + 2 ≤ to) × (to ≤ n) × (n ≤ 65536)
+    → (to ≡ from + length P) × (8 * length P ≤ length C + 8) × (length P ≤ length F + 1) → Room (take (2 * to - 2 * from) (drop (2 * from) ms)) from C F P
+block-room ms n from to C F P e h l =
+    let m : length (take (2 * to - 2 * from) (drop (2 * from) ms)) ≡ 2 * to - 2 * from = simp (length-take, length-drop) (omega arith) in
+    record { even = omega arith; two = omega arith; near = omega arith; curves = omega arith; firsts = omega arith }
+
+module _ (k : Cutting) (ms : List Float) (n : ℕ) (tol : Float) (from to : ℕ) (w : Turn) (h : turnAnswer w ≡ outcome (waysOf k ms n from to)) where
+  pub block-lost : w ≡ turn.Lost → (C C₁ : List Float) (F F₁ : List ℕ) (p : List Float) → Left (blockOf k ms n tol from to) (Refused 6) C C₁ F F₁ p
+  block-lost e C C₁ F F₁ p = rw (ways-lost w (outcome (waysOf k ms n from to)) h e) refl
+
+  pub block-ran : (T : Ways) → w ≡ turn.At T → (r : Fitted) (C C₁ : List Float) (F F₁ : List ℕ) (p : List Float)
+      → Left (runOf (take (2 * to - 2 * from) (drop (2 * from) ms)) from (T .start) (T .end) tol) r C C₁ F F₁ p → Left (blockOf k ms n tol from to) r C C₁ F F₁ p
+  block-ran T e r C C₁ F F₁ p ran = rw (ways-are w (outcome (waysOf k ms n from to)) T h e) ran
+
+-- ---- what has been written stands before the rest of the run
+
+abbrev pub prepend : List Float → List ℕ → List Float → Run → Run
+prepend c f p (refused q) = refused q
+prepend c f p (done c′ f′ p′) = done (c ++ c′) (f ++ f′) (p ++ p′)
+
+pub join-prepend : (k : ℕ) (c : List Float) (f : List ℕ) (p : List Float) (R : Run) → join k (done c f p) R ≡ prepend c f (take k p) R
+join-prepend k c f p (refused q) = refl
+join-prepend k c f p (done c′ f′ p′) = refl
+
+pub prepend-twice : (c c′ : List Float) (f f′ : List ℕ) (p p′ : List Float) (R : Run) → prepend c f p (prepend c′ f′ p′ R) ≡ prepend (c ++ c′) (f ++ f′) (p ++ p′) R
+prepend-twice c c′ f f′ p p′ (refused q) = refl
+prepend-twice c c′ f f′ p p′ (done c″ f″ p″) = rw (← append-assoc c c′ c″, ← append-assoc f f′ f″, ← append-assoc p p′ p″)
+
+pub prepend-none : (R : Run) → R ≡ prepend [] [] [] R
+prepend-none (refused q) = refl
+prepend-none (done c f p) = refl

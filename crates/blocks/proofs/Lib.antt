@@ -1,0 +1,3 @@
+pub mod Tangents
+pub mod Blocks
+pub mod Sofar

@@ -1,0 +1,67 @@
+-- `blocks::end_at` meets its contract. Assumes nothing.
+use borrow.Author.Needs.{needs}
+use native.Mathlib.Omega.{arith}
+use Prim.Native.Nat.{_+_}
+use mathlib.Core.Path.{refl}
+use borrow.Author.Tests.{lt-ltb, le-ltb}
+use Rattle.blocks.specs.Blocks.{endAt}
+use Rattle.blocks.proofs.end_at.Statement.{statement}
+use Rattle.blocks.proofs.end_at.Tie as tie
+
+enum-told : tie.Need-enum-told
+enum-told c = search needs
+
+enum-told-2 : tie.Need-enum-told-2
+enum-told-2 c = search needs
+
+add-if1 : tie.Need-add-if1
+add-if1 c = omega arith
+
+add-result : tie.Need-add-result
+add-result c = omega arith
+
+returns : tie.Need-returns
+unfolding endAt
+returns c = rw (c .before .enum-told2 .given .1, lt-ltb (c .before .before .before .args .to + 1) (c .before .before .before .args .n) (c .if1 .taken))
+
+enum-told-3 : tie.Need-enum-told-3
+enum-told-3 c = search needs
+
+add-if2 : tie.Need-add-if2
+add-if2 c = omega arith
+
+add-result-2 : tie.Need-add-result-2
+add-result-2 c = omega arith
+
+returns-2 : tie.Need-returns-2
+unfolding endAt
+returns-2 c = rw (c .before .enum-told3 .given .1, lt-ltb (c .before .before .before .args .to + 1) (c .before .before .before .args .n) (c .if2 .taken))
+
+returns-3 : tie.Need-returns-3
+unfolding endAt
+returns-3 c = rw (c .enum-told .given .1)
+
+returns-4 : tie.Need-returns-4
+unfolding endAt
+returns-4 c = rw (c .before .enum-told2 .given .1, le-ltb (c .before .before .before .args .to + 1) (c .before .before .before .args .n) (c .if1 .left))
+
+returns-5 : tie.Need-returns-5
+unfolding endAt
+returns-5 c = rw (c .before .enum-told3 .given .1, le-ltb (c .before .before .before .args .to + 1) (c .before .before .before .args .n) (c .if2 .left))
+
+pub end-at-spec : {M : Type 1} → statement M
+end-at-spec =
+    tie.close
+    (tie.spec
+    enum-told
+    enum-told-2
+    add-if1
+    add-result
+    returns
+    enum-told-3
+    add-if2
+    add-result-2
+    returns-2
+    returns-3
+    returns-4
+    returns-5)
