@@ -1,3 +1,4 @@
 pub mod Tangents
 pub mod Blocks
 pub mod Sofar
+pub mod Joined

@@ -1,3 +1,4 @@
 mod Turns
 pub mod Run
 pub mod Cut
+pub mod Chain
