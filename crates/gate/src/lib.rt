@@ -76,10 +76,10 @@ pub fn gate(
 pub fn zero_floats(s: &mut [f64])
     ensures { λ _. ⌜ now (s .exit) ≡ replicate (length (now (s .entry))) f0 ⌝ }
 {
-    let mut i = 0;
-    while i < s.len() {
-        s[i] = 0.0;
-        i += 1;
+    let mut k = 0;
+    while k < s.len() {
+        s[k] = 0.0;
+        k += 1;
     }
 }
 

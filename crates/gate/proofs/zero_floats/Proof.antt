@@ -19,25 +19,25 @@ loop-holds : tie.Need-loop-holds Inv-loop μ-loop
 loop-holds c = (omega arith, refl)
 
 mul-s : tie.Need-mul-s Inv-loop μ-loop
-mul-s c = scaled-fits (c .before .loop .i) (length (c .before .before .args .s .now)) 8 (let l = same f0 (c .before .before .args .s .now) (c .before .loop .s) (c .before .loop .i) (c .before .loop .inv) in omega arith) (c .before .before .good .0 .1)
+mul-s c = scaled-fits (c .before .loop .k) (length (c .before .before .args .s .now)) 8 (let l = same f0 (c .before .before .args .s .now) (c .before .loop .s) (c .before .loop .k) (c .before .loop .inv) in omega arith) (c .before .before .good .0 .1)
 
 slice-write-s : tie.Need-slice-write-s Inv-loop μ-loop
 slice-write-s c = omega arith
 
-add-i : tie.Need-add-i Inv-loop μ-loop
-add-i c = omega arith
+add-k : tie.Need-add-k Inv-loop μ-loop
+add-k c = omega arith
 
 loop-less : tie.Need-loop-less Inv-loop μ-loop
-loop-less c = let l = same f0 (c .before .before .args .s .now) (c .before .loop .s) (c .before .loop .i) (c .before .loop .inv) in omega arith
+loop-less c = let l = same f0 (c .before .before .args .s .now) (c .before .loop .s) (c .before .loop .k) (c .before .loop .inv) in omega arith
 
 loop-again : tie.Need-loop-again Inv-loop μ-loop
-loop-again c = let l = same f0 (c .before .before .args .s .now) (c .before .loop .s) (c .before .loop .i) (c .before .loop .inv) in more f0 (c .before .before .args .s .now) (c .before .loop .s) (c .before .loop .i) (c .before .loop .inv) (omega arith)
+loop-again c = let l = same f0 (c .before .before .args .s .now) (c .before .loop .s) (c .before .loop .k) (c .before .loop .inv) in more f0 (c .before .before .args .s .now) (c .before .loop .s) (c .before .loop .k) (c .before .loop .inv) (omega arith)
 
 same-length : tie.Need-same-length Inv-loop μ-loop
-same-length c = same f0 (c .before .before .args .s .now) (c .before .loop .s) (c .before .loop .i) (c .before .loop .inv)
+same-length c = same f0 (c .before .before .args .s .now) (c .before .loop .s) (c .before .loop .k) (c .before .loop .inv)
 
 returns : tie.Need-returns Inv-loop μ-loop
-returns c = all f0 (c .before .before .args .s .now) (c .before .loop .s) (c .before .loop .i) (c .before .loop .inv) (omega arith)
+returns c = all f0 (c .before .before .args .s .now) (c .before .loop .s) (c .before .loop .k) (c .before .loop .inv) (omega arith)
 
 pub zero-floats-spec : {M : Type 1} → statement M
 zero-floats-spec =
@@ -48,7 +48,7 @@ zero-floats-spec =
     loop-holds
     mul-s
     slice-write-s
-    add-i
+    add-k
     loop-less
     loop-again
     same-length
