@@ -1,0 +1,3 @@
+mod Turns
+pub mod Puts
+pub mod Ways

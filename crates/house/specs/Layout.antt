@@ -1,0 +1,58 @@
+-- The words of inner contracts: heads at fixed places, and room. No public promise cites these. Definitions only.
+use Prim.Native.Nat.{ℕ, zero, suc, _+_, _-_, _*_, _≤_}
+use mathlib.Core.Path.{_≡_}
+use mathlib.Core.Bool.{Bool, true, _&&_, cond}
+use mathlib.Core.List.{List}
+use lib.Dec.{eqb, ltb}
+use lib.ListN.{length, drop}
+use Rattle.house.specs.declared.reader.Layout.{Layout}
+use Rattle.house.specs.declared.reader.Layout.the-variants as layout
+use Rattle.house.specs.Limits.{lengthField, kindField, numberField, markNumbers, curveNumbers, markBytes, curveBytes, marksHead, toleranceKind, marksKind, curveKind, paramsKind}
+use Rattle.house.specs.Bytes.{num}
+use Rattle.house.specs.File.{File, paramsFor}
+use Rattle.house.specs.Held.{isFile, marksEnd, paramsAt, marksHeld, curvesHeld}
+use Rattle.house.specs.Slices.{over}
+
+-- the length and the kind of the record at p
+unfoldable pub headAt : List ℕ → ℕ → ℕ → ℕ → Bool
+headAt b p size kind = eqb (num lengthField b p) size && eqb (num kindField b (p + lengthField)) kind
+
+-- kinds 1 and 2, with n marks
+unfoldable pub startsWith : List ℕ → ℕ → Bool
+startsWith b n = headAt b 0 (kindField + numberField) toleranceKind && headAt b marksHead (kindField + markBytes * n) marksKind
+
+-- k records of kind 3 at the front
+unfoldable pub curvesLead : ℕ → List ℕ → Bool
+curvesLead zero b = true
+curvesLead (suc k) b = headAt b 0 (curveBytes - lengthField) curveKind && curvesLead k (drop curveBytes b)
+
+-- behind n marks k records of kind 3, above none and fewer than marks, and kind 4 up to the end
+unfoldable pub endsWith : List ℕ → ℕ → ℕ → Bool
+endsWith b n k =
+    eqb (length b) (paramsAt n k + numberField * n)
+    && (ltb 0 k
+    && (ltb k n
+    && (curvesLead k (drop (marksEnd n) b)
+    && headAt b (marksEnd n + curveBytes * k) (kindField + numberField * n) paramsKind)))
+
+unfoldable pub layoutOf : List ℕ → Layout
+layoutOf b = cond (isFile b) (layout.Counts (marksHeld b) (curvesHeld b (marksHeld b))) layout.Broken
+
+-- how many bytes a file of n marks and k curves has
+abbrev pub sizeFor : ℕ → ℕ → ℕ
+sizeFor n k = cond (eqb k 0) (marksEnd n) (paramsAt n k + numberField * n)
+
+-- n marks and k curves are within the bytes and within the slices
+pub record Room (n k : ℕ) (b M P C Q : List ℕ) : Type 0 where
+  pub bytes : sizeFor n k ≤ length b
+  pub marks : markNumbers * n ≤ length M
+  pub firsts : k ≤ length P
+  pub curves : curveNumbers * k ≤ length C
+  pub params : paramsFor n k ≤ length Q
+
+-- a file stands at the front of the slices
+pub record Copied (F : File) (M P C Q M′ P′ C′ Q′ : List ℕ) : Type 0 where
+  pub marks : M′ ≡ over (F .marks) M
+  pub firsts : P′ ≡ over (F .firsts) P
+  pub curves : C′ ≡ over (F .curves) C
+  pub params : Q′ ≡ over (F .params) Q

@@ -1,0 +1,8 @@
+pub mod Limits
+pub mod Bytes
+pub mod File
+pub mod Held
+pub mod Slices
+pub mod Reader
+pub mod Writer
+pub mod Layout

@@ -1,0 +1,3 @@
+pub mod Choose
+pub mod Nearest
+pub mod Tests

@@ -1,0 +1,9 @@
+// Runs the port on the oracle's cases: for each the answer, as a line of numbers, and below it the Rust's parameter where the port's is
+// not near it; at the end how many parameters agree. tools/nearest_cases.py writes the input and the expected output.
+mod case;
+mod compare;
+mod words;
+
+fn main() {
+    case::write_tally(case::report_all());
+}

@@ -1,0 +1,4 @@
+pub mod Points
+pub mod Numbers
+pub mod Heights
+pub mod Tests

@@ -1,0 +1,4 @@
+pub mod Baseline
+pub mod Rounds
+pub mod Looks
+pub mod Stack

@@ -1,0 +1,5 @@
+pub mod Line
+pub mod Flat
+pub mod Intercept
+pub mod Find
+pub mod Tests

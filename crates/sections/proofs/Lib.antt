@@ -1,0 +1,11 @@
+pub mod Signs
+pub mod Calm
+pub mod Vary
+pub mod Halve
+pub mod Sign
+pub mod Tree
+pub mod Ends
+pub mod Bound
+pub mod Total
+pub mod Test
+pub mod Search
