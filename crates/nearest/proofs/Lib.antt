@@ -1,2 +1,3 @@
 pub mod Candidates
 pub mod Calls
+pub mod Agree
