@@ -2,3 +2,4 @@ pub mod Number
 pub mod Calc
 pub mod Answer
 pub mod Folds
+pub mod Slices

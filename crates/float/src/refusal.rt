@@ -20,3 +20,9 @@ pub const NOT_FINITE: u32 = 6;
 
 // The worst mark is a part's first or last.
 pub const WORST_AT_END: u32 = 7;
+
+// The search for the nearest point goes too deep.
+pub const TOO_DEEP: u32 = 8;
+
+// A house file that is badly formed.
+pub const BADLY_FORMED: u32 = 9;
