@@ -1,11 +1,12 @@
 -- What a run leaves in lent slices, and what it asks of them: words of the inner contracts. Definitions only.
 use Prim.Native.Nat.{ℕ, _+_, _*_, _≤_}
 use mathlib.Core.Path.{_≡_}
-use mathlib.Core.List.{List, _++_}
-use lib.ListN.{length, drop}
+use mathlib.Core.List.{List}
+use lib.ListN.{length}
 use lib.Ieee.{Float}
 use Rattle.float.specs.Answer.{Answer, ok}
 use Rattle.float.specs.Answer.{refused as no}
+use Rattle.float.specs.Slices.{written}
 use Rattle.cut.specs.Run.{Run, refused, done}
 use Rattle.cut.specs.declared.Ways.{Ways}
 use Rattle.cut.specs.declared.Turn.{Turn}
@@ -16,10 +17,6 @@ use Rattle.cut.specs.declared.Fitted.the-variants.{Curves, Refused}
 unfoldable pub turnAnswer : Turn → Answer Ways
 turnAnswer (turn.At w) = ok w
 turnAnswer turn.Lost = no 6
-
--- xs written over the front of ys
-abbrev pub written : {A : Type 0} → List A → List A → List A
-written xs ys = xs ++ drop (length xs) ys
 
 -- the answer r, and of each lent slice what it held and holds (of a refused run, the answer alone)
 abbrev pub Left : Run → Fitted → List Float → List Float → List ℕ → List ℕ → List Float → Type 0
