@@ -9,11 +9,9 @@ use crate::flat::flat_enough;
 use crate::intercept::Root;
 use crate::intercept::root_of;
 use float::refusal::NOT_FINITE;
+use float::refusal::TOO_DEEP;
 use quintic::points::Halves;
 use quintic::points::Section;
-
-// The nearest search went too deep.
-pub const TOO_DEEP: u32 = 8;
 
 // A section at this depth is not halved.
 pub const DEEPEST: usize = 64;
