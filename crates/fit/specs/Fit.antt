@@ -4,16 +4,17 @@ use mathlib.Core.Bool.{Bool, not, _&&_, cond}
 use mathlib.Core.List.{List}
 use lib.ListN.{length, replicate}
 use lib.Dec.{eqb}
-use lib.Ieee.{Float, le}
-use Rattle.float.specs.Number.{f0, f2, finite, abs}
+use lib.Ieee.{Float}
+use Rattle.float.specs.Number.{f0, f2}
 use Rattle.float.specs.Answer.{Answer, ok}
 use Rattle.float.specs.Answer.{refused as no}
+use Rattle.float.specs.Slices.{written}
+use Rattle.plane.specs.Range.{upTo}
 use Rattle.plane.specs.declared.Point.{Point}
 use Rattle.marks.specs.Marks.{count}
 use Rattle.marks.specs.Block.{blockSize}
 use Rattle.gate.specs.Gate.{refuse, gateOf}
 use Rattle.cut.specs.Run.{Run, refused, done, runOf}
-use Rattle.cut.specs.Lent.{written}
 use Rattle.cut.specs.declared.Fitted.{Fitted}
 use Rattle.cut.specs.declared.Fitted.the-variants as fitted
 use Rattle.blocks.specs.declared.Cutting.{Cutting}
@@ -50,7 +51,7 @@ fitOf k ms tol C F P = entered (gateOf 4096 ms tol (length C) (length F) (length
 
 -- a tangent's components: finite and of magnitude at most 2
 unfoldable pub component : Float → Bool
-component x = finite x && le (abs x) f2
+component x = upTo f2 x
 
 unfoldable pub areTangents : Point → Point → Bool
 areTangents v w = component (v .x) && component (v .y) && (component (w .x) && component (w .y))

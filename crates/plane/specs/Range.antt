@@ -9,9 +9,13 @@ use Rattle.plane.specs.declared.Curve.{Curve}
 abbrev pub million : Float
 million = ofBits binary64 0x412e_8480_0000_0000
 
+-- finite and of magnitude at most m
+abbrev pub upTo : Float → Float → Bool
+upTo m x = finite x && le (abs x) m
+
 -- finite and of magnitude at most 1,000,000
 unfoldable pub coordinate : Float → Bool
-coordinate x = finite x && le (abs x) million
+coordinate x = upTo million x
 
 unfoldable pub pointInRange : Point → Bool
 pointInRange p = coordinate (p .x) && coordinate (p .y)
