@@ -2,6 +2,7 @@
 use Prim.Native.Nat.{ℕ}
 use mathlib.Core.Path.{_≡_}
 use lib.Ieee.{Float, binary64, ofBits}
+use Rattle.float.specs.Number.{f0, f1, f2}
 use Rattle.float.specs.Calc.{give}
 use Rattle.root.specs.Root.{sqrt}
 use Rattle.plane.specs.Plane.{at}
@@ -9,6 +10,7 @@ use Rattle.plane.specs.declared.Point.{Point}
 use Rattle.plane.specs.declared.Curve.{Curve}
 use Rattle.marks.specs.Block.{blockSize}
 use Rattle.marks.specs.Line.{lineOf}
+use Rattle.marks.specs.Tangent.{half}
 use Rattle.cubic.specs.Basis.{pointAt}
 use Rattle.cubic.specs.Subdivide.{subdivide4Of}
 
@@ -16,30 +18,18 @@ use Rattle.cubic.specs.Subdivide.{subdivide4Of}
 abbrev pub n64 : ℕ → Float
 n64 b = ofBits binary64 b
 
-abbrev pub zero : Float
-zero = n64 0
-
 abbrev pub quarter : Float
 quarter = n64 0x3fd0_0000_0000_0000
 
-abbrev pub half : Float
-half = n64 0x3fe0_0000_0000_0000
-
 abbrev pub three-quarters : Float
 three-quarters = n64 0x3fe8_0000_0000_0000
-
-abbrev pub one : Float
-one = n64 0x3ff0_0000_0000_0000
-
-abbrev pub two : Float
-two = n64 0x4000_0000_0000_0000
 
 abbrev pub four : Float
 four = n64 0x4010_0000_0000_0000
 
 -- (0,0), (0,1), (1,1), (1,0)
 abbrev pub arch : Curve
-arch = record { start = at zero zero; cp1 = at zero one; cp2 = at one one; end = at one zero }
+arch = record { start = at f0 f0; cp1 = at f0 f1; cp2 = at f1 f1; end = at f1 f0 }
 
 pub record Table : Type 0 where
   pub block199 : blockSize 199 ≡ 200
@@ -49,9 +39,9 @@ pub record Table : Type 0 where
   pub block250 : blockSize 250 ≡ 200
   pub block400 : blockSize 400 ≡ 175
   pub middle : pointAt arch half ≡ give (at half three-quarters)
-  pub left : subdivide4Of half (at zero zero) (at zero one) (at one one) (at one zero) .val .left ≡ record { start = at zero zero; cp1 = at zero half; cp2 = at quarter three-quarters; end = at half three-quarters }
-  pub line : lineOf (at zero zero) (at four zero) ≡ give (record { start = at zero zero; cp1 = at (n64 0x3ff5_1eb8_51eb_851f) zero; cp2 = at (n64 0x4005_1eb8_51eb_851f) zero; end = at four zero })
-  pub root0 : sqrt binary64 zero ≡ zero
+  pub left : subdivide4Of half (at f0 f0) (at f0 f1) (at f1 f1) (at f1 f0) .val .left ≡ record { start = at f0 f0; cp1 = at f0 half; cp2 = at quarter three-quarters; end = at half three-quarters }
+  pub line : lineOf (at f0 f0) (at four f0) ≡ give (record { start = at f0 f0; cp1 = at (n64 0x3ff5_1eb8_51eb_851f) f0; cp2 = at (n64 0x4005_1eb8_51eb_851f) f0; end = at four f0 })
+  pub root0 : sqrt binary64 f0 ≡ f0
   pub rootQuarter : sqrt binary64 quarter ≡ half
-  pub root4 : sqrt binary64 four ≡ two
+  pub root4 : sqrt binary64 four ≡ f2
   pub rootLeast : sqrt binary64 (n64 1) ≡ n64 0x1e60_0000_0000_0000
