@@ -18,6 +18,7 @@ use Rattle.cut.specs.declared.Turn.the-variants as turn
 use Rattle.cut.specs.declared.Fitted.{Fitted}
 use Rattle.cut.specs.declared.Fitted.the-variants.{Refused}
 use Rattle.cut.specs.Lent.{turnAnswer, Left, Room}
+use Rattle.cut.proofs.Run.{Sizes}
 use Rattle.cut.proofs.Cut.{sizes, ways-are, ways-lost}
 use Rattle.blocks.specs.declared.Cutting.{Cutting}
 use Rattle.blocks.specs.Blocks.{over, waysOf, blockOf, lastOf, blocks, blocksFrom, blocksOf}
@@ -57,16 +58,13 @@ module _ (k : Cutting) (ms : List Float) (n size : ℕ) (tol : Float) where
 
   -- ---- one block: fewer curves than marks, eight numbers for each, and a parameter for each mark
 
-  abbrev pub Sized : ℕ → List Float → List ℕ → List Float → Type 0
-  Sized m cs fs p = (0 < length fs) × (length fs < m) × (length cs ≡ 8 * length fs) × (length p ≡ m)
-
-  pub block-sized : (from to : ℕ) (cs : List Float) (fs : List ℕ) (p : List Float) → length ms ≡ 2 * n → from + 2 ≤ to → to ≤ n → blockOf k ms n tol from to ≡ done cs fs p → Sized (to - from) cs fs p
+  pub block-sized : (from to : ℕ) (cs : List Float) (fs : List ℕ) (p : List Float) → length ms ≡ 2 * n → from + 2 ≤ to → to ≤ n → blockOf k ms n tol from to ≡ done cs fs p → Sizes (to - from) cs fs p
   block-sized from to cs fs p e h l q = go (outcome (waysOf k ms n from to)) q
     where
       many : count (take (2 * to - 2 * from) (drop (2 * from) ms)) ≡ to - from
       many = simp (length-take, length-drop) (omega arith)
 
-      go : (w : Answer Ways) → turned w (λ w. runOf (take (2 * to - 2 * from) (drop (2 * from) ms)) from (w .start) (w .end) tol) ≡ done cs fs p → Sized (to - from) cs fs p
+      go : (w : Answer Ways) → turned w (λ w. runOf (take (2 * to - 2 * from) (drop (2 * from) ms)) from (w .start) (w .end) tol) ≡ done cs fs p → Sizes (to - from) cs fs p
       go (ok w) q =
           let z = sizes (take (2 * to - 2 * from) (drop (2 * from) ms)) from (w .start) (w .end) tol cs fs p (omega (arith, many)) q in
           (z .0, omega (arith, many, z .1), z .2, z .3 ∙ many)

@@ -9,12 +9,14 @@ use lib.Dec.{ltb}
 use lib.Ieee.{Float}
 use borrow.Author.Tests.{lt-ltb, le-ltb}
 use Rattle.float.specs.Number.{f0}
+use Rattle.float.specs.Slices.{written}
 use Rattle.marks.specs.Marks.{count}
 use Rattle.cut.specs.Run.{Run, refused, done, join}
-use Rattle.cut.specs.Lent.{written, Left, Room}
+use Rattle.cut.specs.Lent.{Left, Room}
 use Rattle.cut.specs.declared.Fitted.{Fitted}
 use Rattle.cut.specs.declared.Fitted.the-variants.{Curves, Refused}
-use Rattle.cut.proofs.Cut.{Done, is-done, no-curves, written-behind, part-length, inner-length}
+use Rattle.cut.proofs.Run.{Sizes}
+use Rattle.cut.proofs.Cut.{is-done, is-refused, written-behind, part-length, inner-length}
 use Rattle.blocks.specs.declared.Cutting.{Cutting}
 use Rattle.blocks.specs.Blocks.{over, blockOf, lastOf, blocksFrom, blocksOf}
 use Rattle.blocks.proofs.Tangents.{over-small}
@@ -130,15 +132,6 @@ module _ (K : Call) (A : Asked K) (from made : ℕ) (C₁ : List Float) (F₁ : 
   abbrev pub FF : List ℕ
   FF = take (length F₁ - made) (drop made F₁)
 
-  -- a run that stops there stops the whole
-  stops : (R S : Run) (r : Fitted) (q : ℕ) (D₁ : List Float) (E₁ : List ℕ) (p C₂ : List Float) (F₂ : List ℕ) (P₂ : List Float) → r ≡ Refused q → Left R r CC D₁ FF E₁ p → Left (prepend (so .cs) (so .fs) (so .ps) (join (K .size) R S)) r (K .C) C₂ (K .F) F₂ P₂
-  stops (refused x) S r q D₁ E₁ p C₂ F₂ P₂ e h = h
-  stops (done cs fs ps) S r q D₁ E₁ p C₂ F₂ P₂ e h = absurd (no-curves r q e (length fs) (h .0))
-
-  stops-last : (R : Run) (r : Fitted) (q : ℕ) (D₁ : List Float) (E₁ : List ℕ) (p C₂ : List Float) (F₂ : List ℕ) (P₂ : List Float) → r ≡ Refused q → Left R r CC D₁ FF E₁ p → Left (prepend (so .cs) (so .fs) (so .ps) R) r (K .C) C₂ (K .F) F₂ P₂
-  stops-last (refused x) r q D₁ E₁ p C₂ F₂ P₂ e h = h
-  stops-last (done cs fs ps) r q D₁ E₁ p C₂ F₂ P₂ e h = absurd (no-curves r q e (length fs) (h .0))
-
   -- ---- a block that is not the last
   module _ (more : K .w < n - from) where
     abbrev to : ℕ
@@ -162,9 +155,9 @@ module _ (K : Call) (A : Asked K) (from made : ℕ) (C₁ : List Float) (F₁ : 
 
     module _ (r : Fitted) (D₁ : List Float) (E₁ : List ℕ) (p : List Float) (left : Left (block K from to) r CC D₁ FF E₁ p) where
       pub so-stops : (q : ℕ) → r ≡ Refused q → (C₂ : List Float) (F₂ : List ℕ) (P₂ : List Float) → Left (blocksOf (K .k) (K .ms) (K .size) (K .tol)) r (K .C) C₂ (K .F) F₂ P₂
-      so-stops q e C₂ F₂ P₂ = rw (whole-is K A, so .whole, split) (stops (block K from to) (rest K (from + K .size)) r q D₁ E₁ p C₂ F₂ P₂ e left)
+      so-stops q e C₂ F₂ P₂ = rw (whole-is K A, so .whole, split, is-refused (block K from to) r q CC D₁ FF E₁ p left e) e
 
-      sized : (c : List Float) (f : List ℕ) → block K from to ≡ done c f p → (0 < length f) × (length f < K .w) × (length c ≡ 8 * length f) × (length p ≡ K .w)
+      sized : (c : List Float) (f : List ℕ) → block K from to ≡ done c f p → Sizes (K .w) c f p
       sized c f q =
           let m = numbers in
           let z = block-sized (K .k) (K .ms) n (K .size) (K .tol) from to c f p (omega (arith, m)) (omega (arith, m)) (omega (arith, m)) q in
@@ -239,7 +232,7 @@ module _ (K : Call) (A : Asked K) (from made : ℕ) (C₁ : List Float) (F₁ : 
 
       module _ (r : Fitted) (D₁ : List Float) (E₁ : List ℕ) (p : List Float) (left : Left (block K from n) r CC D₁ FF E₁ p) where
         pub last-stops : (q : ℕ) → r ≡ Refused q → (C₂ : List Float) (F₂ : List ℕ) (P₂ : List Float) → Left (blocksOf (K .k) (K .ms) (K .size) (K .tol)) r (K .C) C₂ (K .F) F₂ P₂
-        last-stops q e C₂ F₂ P₂ = rw whole-last (stops-last (block K from n) r q D₁ E₁ p C₂ F₂ P₂ e left)
+        last-stops q e C₂ F₂ P₂ = rw (whole-last, is-refused (block K from n) r q CC D₁ FF E₁ p left e) e
 
         pub last-few : (j : ℕ) → r ≡ Curves j → j + from < n
         last-few j e =

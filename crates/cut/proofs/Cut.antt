@@ -8,6 +8,7 @@ use lib.Seq.{take-all, take-at, drop-at, drop-drop, take-append-le}
 use lib.Ieee.{Float}
 use Rattle.float.specs.Answer.{Answer, ok, outcome}
 use Rattle.float.specs.Answer.{refused as no}
+use Rattle.float.specs.Slices.{written}
 use Rattle.plane.specs.declared.Point.{Point}
 use Rattle.plane.specs.declared.Curve.{Curve}
 use Rattle.marks.specs.Marks.{count}
@@ -18,7 +19,7 @@ use Rattle.part.specs.declared.Tried.the-variants.{Good, Cut}
 use Rattle.part.specs.declared.Tried.the-variants.{Refused as TRefused}
 use Rattle.part.proofs.Ends.{Sound, part-sound}
 use Rattle.cut.specs.Run.{Run, refused, done, flat, waysAt, leftOf, rightOf, join, turned, runOf, cutOf}
-use Rattle.cut.specs.Lent.{turnAnswer, written, Left, Room}
+use Rattle.cut.specs.Lent.{turnAnswer, Left, Room}
 use Rattle.cut.specs.declared.Ways.{Ways}
 use Rattle.cut.specs.declared.Turn.{Turn}
 use Rattle.cut.specs.declared.Turn.the-variants as turn
@@ -100,17 +101,10 @@ is-done (done cs fs ps) r j C C₁ F F₁ p h e =
     let f : Curves (length fs) ≡ Curves j = sym (h .0) ∙ e in
     record { cs = cs; fs = fs; is = rw (h .3); long = cc; curves = h .1; firsts = h .2 }
 
--- the left side stops the whole
-pub stop-left : (k : ℕ) (R R′ : Run) (r : Fitted) (C C₁ C₂ : List Float) (F F₁ F₂ : List ℕ) (p p₂ : List Float)
-    → Left R r C C₁ F F₁ p → ((j : ℕ) → r ≡ Curves j → ⊥) → Left (join k R R′) r C C₂ F F₂ p₂
-stop-left k (refused q) R′ r C C₁ C₂ F F₁ F₂ p p₂ h n = h
-stop-left k (done cs fs ps) R′ r C C₁ C₂ F F₁ F₂ p p₂ h n = absurd (n (length fs) (h .0))
-
--- the right side stops the whole
-pub stop-right : (k : ℕ) (R R′ : Run) (cs : List Float) (fs : List ℕ) (p : List Float) (r : Fitted) (D D₁ : List Float) (E E₁ : List ℕ) (p′ : List Float) (C C₂ : List Float) (F F₂ : List ℕ) (p₂ : List Float)
-    → R ≡ done cs fs p → Left R′ r D D₁ E E₁ p′ → ((j : ℕ) → r ≡ Curves j → ⊥) → Left (join k R R′) r C C₂ F F₂ p₂
-stop-right k R (refused q) cs fs p r D D₁ E E₁ p′ C C₂ F F₂ p₂ e h n = rw e h
-stop-right k R (done cs′ fs′ ps′) cs fs p r D D₁ E E₁ p′ C C₂ F F₂ p₂ e h n = absurd (n (length fs′) (h .0))
+-- a run that gave a refusal
+pub is-refused : (R : Run) (r : Fitted) (q : ℕ) (C C₁ : List Float) (F F₁ : List ℕ) (p : List Float) → Left R r C C₁ F F₁ p → r ≡ Refused q → R ≡ refused q
+is-refused (refused x) r q C C₁ F F₁ p h e = let f : Refused x ≡ Refused q = sym h ∙ e in let g : x ≡ q = cc in ap refused g
+is-refused (done cs fs ps) r q C C₁ F F₁ p h e = let f = h .0 in let z : _≡_ {A = ℕ} 0 1 = cc in absurd (omega arith)
 
 -- both sides are done
 pub both-done : (k : ℕ) (R R′ : Run) (cs cs′ : List Float) (fs fs′ : List ℕ) (p p′ : List Float) (j j′ : ℕ) (C C₂ : List Float) (F F₂ : List ℕ) (p₂ : List Float)
@@ -146,9 +140,6 @@ cut-asks ms first s e tol C F P p r k room l did q =
     let n : count ms ≡ length P = omega arith in
     let sound : Sound ms (cuts k) = rw (from-cut (partOf ms s e tol) r p k did q) at (part-sound ms s e tol (omega arith)) in
     (record { even = omega arith; two = omega arith; near = omega arith; curves = omega arith; firsts = omega arith }, (sound .0, omega (arith, sound .1)))
-
-pub no-curves : (r : Fitted) (q : ℕ) → r ≡ Refused q → (j : ℕ) → r ≡ Curves j → ⊥
-no-curves r q e j f = let z : _≡_ {A = ℕ} 0 1 = cc in omega arith
 
 -- ---- cut_part calls fit_part at the left, and at the right
 
@@ -208,7 +199,7 @@ pub cut-stops-left : (K : Call) (T : Ways) (r : Fitted) (q : ℕ) (C₁ C₂ : L
     → outcome (waysAt (K .ms) (K .at)) ≡ ok T → Left (leftRun K T) r (K .C) C₁ (K .F) F₁ p → r ≡ Refused q
     → Left (cutOf (K .ms) (K .at) (K .first) (K .s) (K .e) (K .tol)) r (K .C) C₂ (K .F) F₂ p₂
 cut-stops-left K T r q C₁ C₂ F₁ F₂ p p₂ e h n =
-    rw (cut-is K T e) (stop-left (K .at) (leftRun K T) (rightRun K T) r (K .C) C₁ C₂ (K .F) F₁ F₂ p p₂ h (no-curves r q n))
+    rw (cut-is K T e, is-refused (leftRun K T) r q (K .C) C₁ (K .F) F₁ p h n) n
 
 -- what is known once the left side has given j curves
 pub record Half (K : Call) : Type 0 where
@@ -283,7 +274,7 @@ module _ (K : Call) (H : Half K) where
 
     pub cut-stops-right : (q : ℕ) (C₂ : List Float) (F₂ : List ℕ) (p₂ : List Float) → r ≡ Refused q → Left (cutOf (K .ms) (K .at) (K .first) (K .s) (K .e) (K .tol)) r (K .C) C₂ (K .F) F₂ p₂
     cut-stops-right q C₂ F₂ p₂ n =
-        rw (H .is) (stop-right (K .at) (leftRun K (H .T)) (rightRun K (H .T)) (H .side .cs) (H .side .fs) (H .p) r _ D₁ _ E₁ p′ (K .C) C₂ (K .F) F₂ p₂ (H .side .is) ran (no-curves r q n))
+        rw (H .is, H .side .is, is-refused (rightRun K (H .T)) r q _ D₁ _ E₁ p′ ran n) n
 
     -- all is done: what the three lent slices hold when their parts are back
     pub cut-done : (k : ℕ) → r ≡ Curves k

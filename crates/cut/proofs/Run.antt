@@ -114,9 +114,12 @@ module _ (Q : List Float → ℕ → Run → Type 0)
 
 -- ---- sizes: from 1 to n - 1 curves, eight numbers for each, and n parameters
 
+abbrev pub Sizes : ℕ → List Float → List ℕ → List Float → Type 0
+Sizes n cs fs ps = (0 < length fs) × (length fs < n) × (length cs ≡ 8 * length fs) × (length ps ≡ n)
+
 abbrev pub Sized : List Float → ℕ → Run → Type 0
 Sized ms first (refused q) = Unit {0}
-Sized ms first (done cs fs ps) = (0 < length fs) × (length fs < count ms) × (length cs ≡ 8 * length fs) × (length ps ≡ count ms)
+Sized ms first (done cs fs ps) = Sizes (count ms) cs fs ps
 
 pub sized-join : (ms : List Float) (first k : ℕ) (R R′ : Run) → 0 < k → k + 1 < count ms → Sized (leftOf k ms) first R → Sized (rightOf k ms) (first + k) R′ → Sized ms first (join k R R′)
 sized-join ms first k (refused q) R′ i j l r = tt

@@ -17,18 +17,11 @@ use Rattle.marks.specs.Block.{sizeFrom, blockSize}
 use Rattle.gate.specs.Gate.{refuse, gateOf}
 use Rattle.gate.proofs.Tests.{Passed, passed}
 use Rattle.cut.specs.Run.{Run, refused, done}
-use Rattle.cut.specs.Lent.{written, Left, Room}
+use Rattle.cut.specs.Lent.{Left, Room}
 use Rattle.cut.specs.declared.Fitted.{Fitted}
 use Rattle.cut.specs.declared.Fitted.the-variants.{Curves, Refused}
-use Rattle.cut.proofs.Cut.{Done, is-done, no-curves, front-length}
+use Rattle.cut.proofs.Cut.{Done, is-done, is-refused, front-length}
 use Rattle.fit.specs.Fit.{fittedAnswer, Ending, ending, ended, entered, component, areTangents, cubicGate}
-
--- a NaN or an infinity is not at most 2, so the finite test adds nothing
-pub by-size : (x : Float) → le (abs x) f2 ≡ component x
-unfolding component finite abs le lt eq ofBits
-by-size nan = refl
-by-size (inf s) = refl
-by-size (fin s m e) = refl
 
 -- ---- block sizes
 
@@ -77,11 +70,10 @@ module _ (R : Run) (C : List Float) (F : List ℕ) (P : List Float) (g : ℕ) (q
     pub end-refused : (k : ℕ) (C₂ : List Float) (F₂ : List ℕ) (P₂ : List Float) → out ≡ Refused k → C₂ ≡ replicate (length C) f0 → F₂ ≡ replicate (length F) 0 → P₂ ≡ replicate (length P) f0
         → ending (fittedAnswer out) C₂ F₂ P₂ ≡ entered g R C F P
     unfolding fittedAnswer
-    end-refused k C₂ F₂ P₂ o ec ef ep = go R left ∙ sym ran
+    end-refused k C₂ F₂ P₂ o ec ef ep = go R (is-refused R out k C C₁ F F₁ p left o) ∙ sym ran
       where
-        go : (S : Run) → Left S out C C₁ F F₁ p → ending (fittedAnswer out) C₂ F₂ P₂ ≡ ended S C F P
-        go (refused x) h = rw (h, ec, ef, ep)
-        go (done cs fs ps) h = absurd (no-curves out k o (length fs) (h .0))
+        go : (S : Run) → S ≡ refused k → ending (fittedAnswer out) C₂ F₂ P₂ ≡ ended S C F P
+        go S is = rw (is, o, ec, ef, ep)
 
     pub end-done : (k n : ℕ) → out ≡ Curves k → length p ≡ n → ending (ok k) C₁ F₁ (p ++ drop n P) ≡ entered g R C F P
     end-done k n o l = go R (is-done R out k C C₁ F F₁ p left o) ∙ sym ran
