@@ -16,7 +16,7 @@ use Rattle.cut.specs.Lent.{Left, Room}
 use Rattle.cut.specs.declared.Fitted.{Fitted}
 use Rattle.cut.specs.declared.Fitted.the-variants.{Curves, Refused}
 use Rattle.cut.proofs.Run.{Sizes}
-use Rattle.cut.proofs.Cut.{is-done, is-refused, written-behind, part-length, inner-length}
+use Rattle.cut.proofs.Cut.{Done, is-done, is-refused, written-behind, part-length, inner-length}
 use Rattle.blocks.specs.declared.Cutting.{Cutting}
 use Rattle.blocks.specs.Blocks.{over, blockOf, lastOf, blocksFrom, blocksOf}
 use Rattle.blocks.proofs.Tangents.{over-small}
@@ -30,6 +30,9 @@ set-last i v [] h = absurd (omega arith)
 set-last zero v (x ∷ []) h = refl
 set-last zero v (x ∷ y ∷ l) h = absurd (omega arith)
 set-last {A = A} (suc i) v (x ∷ l) h = ap (λ (t : List A). x ∷ t) (set-last i v l (omega arith))
+
+take-behind : {A : Type 0} (a b : ℕ) (xs ys p zs : List A) → xs ≡ ys → length ys ≡ a → b ≤ length p → take (a + b) (xs ++ (p ++ zs)) ≡ ys ++ take b p
+take-behind {A = A} a b xs ys p zs e l h = rw (e, ← l) (take-append-add ys _ b ∙ ap (λ (t : List A). ys ++ t) (take-append-le b p zs h))
 
 -- a call of fit_blocks: its arguments, and how many marks a block takes in
 pub record Call : Type 0 where
@@ -69,6 +72,15 @@ whole-is K A =
     let e : count (K .ms) ≡ length (K .P) = omega arith in
     ap (λ (n : ℕ). blocksFrom (K .k) (K .ms) n (K .size) (K .tol) 0) e
 
+-- the run from there on, with a block that is not the last, and with the last
+rest-more : (K : Call) → Asked K → (from : ℕ) → K .w < length (K .P) - from → rest K from ≡ join (K .size) (block K from (from + K .w)) (rest K (from + K .size))
+rest-more K A from more =
+    let z = A .two in
+    rw (A .ew) (blocks-more (K .k) (K .ms) (length (K .P)) (K .size) (K .tol) from (omega arith) (rw (A .ew) at more))
+
+rest-last : (K : Call) → Asked K → (from : ℕ) → from < length (K .P) → length (K .P) - from ≤ K .w → rest K from ≡ lastOf (ltb (length (K .P) - from) 2) (K .k) (K .ms) (length (K .P)) (K .tol) from
+rest-last K A from h stop = blocks-last (K .k) (K .ms) (length (K .P)) (K .size) (K .tol) from h (rw (A .ew) at stop)
+
 pub record Sofar (K : Call) (from made : ℕ) (C₁ : List Float) (F₁ : List ℕ) (P₁ : List Float) : Type 0 where
   pub cs : List Float
   pub fs : List ℕ
@@ -105,24 +117,59 @@ so-none K A = record {
   lp = refl;
 }
 
--- the numbers that the needs are worked out from
-pub record Numbers (K : Call) (from made : ℕ) (C₁ : List Float) (F₁ : List ℕ) (P₁ : List Float) : Type 0 where
-  pub room : Room (K .ms) 0 (K .C) (K .F) (K .P)
-  pub two : 2 ≤ K .size
-  pub top : K .size ≤ 200
-  pub low : K .size ≤ K .w
-  pub high : K .w ≤ K .size + 1
-  pub few : made ≤ from
-  pub ahead : from + K .w < length (K .P) + K .size
-  pub lc : length C₁ ≡ length (K .C)
-  pub lf : length F₁ ≡ length (K .F)
-  pub lp : length P₁ ≡ length (K .P)
+-- the loop's head: a call, what it asks, and what stands
+pub record Head : Type 0 where
+  pub K : Call
+  pub A : Asked K
+  pub from : ℕ
+  pub made : ℕ
+  pub C₁ : List Float
+  pub F₁ : List ℕ
+  pub P₁ : List Float
+  pub so : Sofar K from made C₁ F₁ P₁
 
-module _ (K : Call) (A : Asked K) (from made : ℕ) (C₁ : List Float) (F₁ : List ℕ) (P₁ : List Float) (so : Sofar K from made C₁ F₁ P₁) where
+-- the numbers that the needs are worked out from
+pub record Numbers (H : Head) : Type 0 where
+  pub room : Room (H .K .ms) 0 (H .K .C) (H .K .F) (H .K .P)
+  pub two : 2 ≤ H .K .size
+  pub top : H .K .size ≤ 200
+  pub low : H .K .size ≤ H .K .w
+  pub high : H .K .w ≤ H .K .size + 1
+  pub few : H .made ≤ H .from
+  pub ahead : H .from + H .K .w < length (H .K .P) + H .K .size
+  pub lc : length (H .C₁) ≡ length (H .K .C)
+  pub lf : length (H .F₁) ≡ length (H .K .F)
+  pub lp : length (H .P₁) ≡ length (H .K .P)
+
+module _ (H : Head) where
+  abbrev K : Call
+  K = H .K
+
+  abbrev A : Asked K
+  A = H .A
+
+  abbrev from : ℕ
+  from = H .from
+
+  abbrev made : ℕ
+  made = H .made
+
+  abbrev C₁ : List Float
+  C₁ = H .C₁
+
+  abbrev F₁ : List ℕ
+  F₁ = H .F₁
+
+  abbrev P₁ : List Float
+  P₁ = H .P₁
+
+  abbrev so : Sofar K from made C₁ F₁ P₁
+  so = H .so
+
   abbrev n : ℕ
   n = length (K .P)
 
-  pub numbers : Numbers K from made C₁ F₁ P₁
+  pub numbers : Numbers H
   numbers = record { room = A .room; two = A .two; top = A .top; low = let e = A .ew in omega arith; high = let e = A .ew in let s = over-small (K .k) in omega arith; few = so .few; ahead = so .ahead; lc = so .lc; lf = so .lf; lp = so .lp }
 
   -- what is lent of the curves and of the first marks
@@ -131,6 +178,37 @@ module _ (K : Call) (A : Asked K) (from made : ℕ) (C₁ : List Float) (F₁ : 
 
   abbrev pub FF : List ℕ
   FF = take (length F₁ - made) (drop made F₁)
+
+  -- the block up to mark `to`, over m parameters: its answer, and what it left of the parts that it was lent
+  pub record Ran (to m : ℕ) : Type 0 where
+    pub r : Fitted
+    pub D₁ : List Float
+    pub E₁ : List ℕ
+    pub p : List Float
+    pub left : Left (block K from to) r CC D₁ FF E₁ p
+    pub ld : length D₁ ≡ length CC
+    pub le : length E₁ ≡ length FF
+    pub lp : length p ≡ length (take m (drop from P₁))
+
+  -- the lent slices when their parts are back
+  module _ {to m : ℕ} (R : Ran to m) where
+    abbrev pub C₂ : List Float
+    C₂ = take (8 * made) C₁ ++ (R .D₁ ++ drop (length C₁ - 8 * made) (drop (8 * made) C₁))
+
+    abbrev pub F₂ : List ℕ
+    F₂ = take made F₁ ++ (R .E₁ ++ drop (length F₁ - made) (drop made F₁))
+
+    abbrev pub P₂ : List Float
+    P₂ = take from P₁ ++ (R .p ++ drop m (drop from P₁))
+
+    pub as-long-curves : length C₂ ≡ length (K .C)
+    as-long-curves = let z = numbers in part-length (8 * made) (length C₁ - 8 * made) C₁ (R .D₁) (omega (arith, z)) refl (R .ld) ∙ so .lc
+
+    pub as-long-firsts : length F₂ ≡ length (K .F)
+    as-long-firsts = let z = numbers in part-length made (length F₁ - made) F₁ (R .E₁) (omega (arith, z)) refl (R .le) ∙ so .lf
+
+    pub as-long-params : from + m ≤ n → length P₂ ≡ length (K .P)
+    as-long-params h = let z = numbers in inner-length from m P₁ (R .p) (omega (arith, z)) (R .lp) ∙ so .lp
 
   -- ---- a block that is not the last
   module _ (more : K .w < n - from) where
@@ -148,57 +226,52 @@ module _ (K : Call) (A : Asked K) (from made : ℕ) (C₁ : List Float) (F₁ : 
         let bf : length FF ≡ length F₁ - made = part-len made _ F₁ (omega (arith, m)) in
         (omega (arith, m), ((omega (arith, m), omega (arith, m), omega (arith, m)), (omega (arith, m), omega (arith, m), omega (arith, m))))
 
-    split : rest K from ≡ join (K .size) (block K from to) (rest K (from + K .size))
-    split =
-        let z = A .two in
-        rw (A .ew) (blocks-more (K .k) (K .ms) n (K .size) (K .tol) from (omega arith) (rw (A .ew) at more))
+    module _ (R : Ran to (to - from)) where
+      abbrev did : (j : ℕ) → R .r ≡ Curves j → Done (block K from to) j CC (R .D₁) FF (R .E₁) (R .p)
+      did j e = is-done (block K from to) (R .r) j CC (R .D₁) FF (R .E₁) (R .p) (R .left) e
 
-    module _ (r : Fitted) (D₁ : List Float) (E₁ : List ℕ) (p : List Float) (left : Left (block K from to) r CC D₁ FF E₁ p) where
-      pub so-stops : (q : ℕ) → r ≡ Refused q → (C₂ : List Float) (F₂ : List ℕ) (P₂ : List Float) → Left (blocksOf (K .k) (K .ms) (K .size) (K .tol)) r (K .C) C₂ (K .F) F₂ P₂
-      so-stops q e C₂ F₂ P₂ = rw (whole-is K A, so .whole, split, is-refused (block K from to) r q CC D₁ FF E₁ p left e) e
+      pub so-stops : (q : ℕ) → R .r ≡ Refused q → (C₂ : List Float) (F₂ : List ℕ) (P₂ : List Float) → Left (blocksOf (K .k) (K .ms) (K .size) (K .tol)) (R .r) (K .C) C₂ (K .F) F₂ P₂
+      so-stops q e C₂ F₂ P₂ = rw (whole-is K A, so .whole, rest-more K A from more, is-refused (block K from to) (R .r) q CC (R .D₁) FF (R .E₁) (R .p) (R .left) e) e
 
-      sized : (c : List Float) (f : List ℕ) → block K from to ≡ done c f p → Sizes (K .w) c f p
+      sized : (c : List Float) (f : List ℕ) → block K from to ≡ done c f (R .p) → Sizes (K .w) c f (R .p)
       sized c f q =
           let m = numbers in
-          let z = block-sized (K .k) (K .ms) n (K .size) (K .tol) from to c f p (omega (arith, m)) (omega (arith, m)) (omega (arith, m)) q in
+          let z = block-sized (K .k) (K .ms) n (K .size) (K .tol) from to c f (R .p) (omega (arith, m)) (omega (arith, m)) (omega (arith, m)) q in
           let d : to - from ≡ K .w = omega arith in
           (z .0, omega (arith, z .1), z .2, z .3 ∙ d)
 
-      pub so-few : (j : ℕ) → r ≡ Curves j → j ≤ K .size
+      pub so-few : (j : ℕ) → R .r ≡ Curves j → j ≤ K .size
       so-few j e =
-          let did = is-done (block K from to) r j CC D₁ FF E₁ p left e in
+          let D = did j e in
           let m = numbers in
-          omega (arith, sized (did .cs) (did .fs) (did .is), did .long, m)
+          omega (arith, sized (D .cs) (D .fs) (D .is), D .long, m)
 
-      pub so-more : (j : ℕ) → r ≡ Curves j → length D₁ ≡ length CC → length E₁ ≡ length FF → length p ≡ length (take (to - from) (drop from P₁))
-          → Sofar K (from + K .size) (made + j) (take (8 * made) C₁ ++ (D₁ ++ drop (length C₁ - 8 * made) (drop (8 * made) C₁))) (take made F₁ ++ (E₁ ++ drop (length F₁ - made) (drop made F₁))) (take from P₁ ++ (p ++ drop (to - from) (drop from P₁)))
-      so-more j e ld le lp′ =
-          let did = is-done (block K from to) r j CC D₁ FF E₁ p left e in
-          let z = sized (did .cs) (did .fs) (did .is) in
+      pub so-more : (j : ℕ) → R .r ≡ Curves j → Sofar K (from + K .size) (made + j) (C₂ R) (F₂ R) (P₂ R)
+      so-more j e =
+          let D = did j e in
+          let z = sized (D .cs) (D .fs) (D .is) in
           let m = numbers in
           let next = rest K (from + K .size) in
-          let front : take from P₁ ≡ so .ps = so .front in
           let each = so .each in
           let eight = so .eight in
           let long = so .long in
-          let pl : length p ≡ K .w = z .3 in
-          let lp = m .lp in
+          let pl : length (R .p) ≡ K .w = z .3 in
           record {
-            cs = so .cs ++ did .cs;
-            fs = so .fs ++ did .fs;
-            ps = so .ps ++ take (K .size) p;
-            whole = so .whole ∙ ap (prepend (so .cs) (so .fs) (so .ps)) (split ∙ ap (λ (R : Run). join (K .size) R next) (did .is) ∙ join-prepend (K .size) (did .cs) (did .fs) p next) ∙ prepend-twice (so .cs) (did .cs) (so .fs) (did .fs) (so .ps) (take (K .size) p) next;
-            eight = simp length-append (omega (arith, z .2, did .long));
-            long = simp length-append (omega (arith, did .long));
-            each = simp (length-append, length-take) (omega arith);
-            curves = written-behind (so .cs) (did .cs) (K .C) C₁ D₁ (8 * made) (length C₁ - 8 * made) (so .curves) (so .eight) refl (did .curves);
-            firsts = written-behind (so .fs) (did .fs) (K .F) F₁ E₁ made (length F₁ - made) (so .firsts) (so .long) refl (did .firsts);
-            front = rw (front, ← each) (take-append-add (so .ps) _ (K .size) ∙ ap (λ (l : List Float). so .ps ++ l) (take-append-le (K .size) p _ (omega arith)));
+            cs = so .cs ++ D .cs;
+            fs = so .fs ++ D .fs;
+            ps = so .ps ++ take (K .size) (R .p);
+            whole = so .whole ∙ ap (prepend (so .cs) (so .fs) (so .ps)) (rest-more K A from more ∙ ap (λ (R : Run). join (K .size) R next) (D .is) ∙ join-prepend (K .size) (D .cs) (D .fs) (R .p) next) ∙ prepend-twice (so .cs) (D .cs) (so .fs) (D .fs) (so .ps) (take (K .size) (R .p)) next;
+            eight = simp length-append (omega (arith, z .2, D .long));
+            long = simp length-append (omega (arith, D .long));
+            each = simp (length-append, length-take) (omega (arith, m));
+            curves = written-behind (so .cs) (D .cs) (K .C) C₁ (R .D₁) (8 * made) (length C₁ - 8 * made) (so .curves) (so .eight) refl (D .curves);
+            firsts = written-behind (so .fs) (D .fs) (K .F) F₁ (R .E₁) made (length F₁ - made) (so .firsts) (so .long) refl (D .firsts);
+            front = take-behind from (K .size) (take from P₁) (so .ps) (R .p) _ (so .front) (so .each) (omega (arith, m));
             few = omega (arith, m, so-few j e);
             ahead = omega (arith, m);
-            lc = part-length (8 * made) (length C₁ - 8 * made) C₁ D₁ (omega (arith, m)) refl ld ∙ so .lc;
-            lf = part-length made (length F₁ - made) F₁ E₁ (omega (arith, m)) refl le ∙ so .lf;
-            lp = inner-length from (to - from) P₁ p (omega (arith, m)) lp′ ∙ so .lp;
+            lc = as-long-curves R;
+            lf = as-long-firsts R;
+            lp = as-long-params R (omega (arith, m));
           }
 
   -- ---- the last block
@@ -206,7 +279,7 @@ module _ (K : Call) (A : Asked K) (from made : ℕ) (C₁ : List Float) (F₁ : 
     all-is : blocksOf (K .k) (K .ms) (K .size) (K .tol) ≡ prepend (so .cs) (so .fs) (so .ps) (lastOf (ltb (n - from) 2) (K .k) (K .ms) n (K .tol) from)
     all-is =
         let m = numbers in
-        whole-is K A ∙ so .whole ∙ ap (prepend (so .cs) (so .fs) (so .ps)) (blocks-last (K .k) (K .ms) n (K .size) (K .tol) from (omega (arith, m)) (rw (A .ew) at stop))
+        whole-is K A ∙ so .whole ∙ ap (prepend (so .cs) (so .fs) (so .ps)) (rest-last K A from (omega (arith, m)) stop)
 
     -- a single mark
     pub last-one : n - from < 2 → Left (blocksOf (K .k) (K .ms) (K .size) (K .tol)) (Curves made) (K .C) C₁ (K .F) F₁ (set P₁ from f0)
@@ -230,28 +303,30 @@ module _ (K : Call) (A : Asked K) (from made : ℕ) (C₁ : List Float) (F₁ : 
       whole-last : blocksOf (K .k) (K .ms) (K .size) (K .tol) ≡ prepend (so .cs) (so .fs) (so .ps) (block K from n)
       whole-last = all-is ∙ rw (le-ltb (n - from) 2 some)
 
-      module _ (r : Fitted) (D₁ : List Float) (E₁ : List ℕ) (p : List Float) (left : Left (block K from n) r CC D₁ FF E₁ p) where
-        pub last-stops : (q : ℕ) → r ≡ Refused q → (C₂ : List Float) (F₂ : List ℕ) (P₂ : List Float) → Left (blocksOf (K .k) (K .ms) (K .size) (K .tol)) r (K .C) C₂ (K .F) F₂ P₂
-        last-stops q e C₂ F₂ P₂ = rw (whole-last, is-refused (block K from n) r q CC D₁ FF E₁ p left e) e
+      module _ (R : Ran n (length P₁ - from)) where
+        abbrev ended : (j : ℕ) → R .r ≡ Curves j → Done (block K from n) j CC (R .D₁) FF (R .E₁) (R .p)
+        ended j e = is-done (block K from n) (R .r) j CC (R .D₁) FF (R .E₁) (R .p) (R .left) e
 
-        pub last-few : (j : ℕ) → r ≡ Curves j → j + from < n
+        pub last-stops : (q : ℕ) → R .r ≡ Refused q → (C₂ : List Float) (F₂ : List ℕ) (P₂ : List Float) → Left (blocksOf (K .k) (K .ms) (K .size) (K .tol)) (R .r) (K .C) C₂ (K .F) F₂ P₂
+        last-stops q e C₂ F₂ P₂ = rw (whole-last, is-refused (block K from n) (R .r) q CC (R .D₁) FF (R .E₁) (R .p) (R .left) e) e
+
+        pub last-few : (j : ℕ) → R .r ≡ Curves j → j + from < n
         last-few j e =
-            let did = is-done (block K from n) r j CC D₁ FF E₁ p left e in
+            let D = ended j e in
             let m = numbers in
-            let z = block-sized (K .k) (K .ms) n (K .size) (K .tol) from n (did .cs) (did .fs) p (omega (arith, m)) (omega (arith, m)) (omega arith) (did .is) in
-            omega (arith, z .1, did .long)
+            let z = block-sized (K .k) (K .ms) n (K .size) (K .tol) from n (D .cs) (D .fs) (R .p) (omega (arith, m)) (omega (arith, m)) (omega arith) (D .is) in
+            omega (arith, z .1, D .long)
 
-        pub last-done : (j : ℕ) → r ≡ Curves j
-            → Left (blocksOf (K .k) (K .ms) (K .size) (K .tol)) (Curves (made + j)) (K .C) (take (8 * made) C₁ ++ (D₁ ++ drop (length C₁ - 8 * made) (drop (8 * made) C₁))) (K .F) (take made F₁ ++ (E₁ ++ drop (length F₁ - made) (drop made F₁))) (take from P₁ ++ (p ++ drop (length P₁ - from) (drop from P₁)))
+        pub last-done : (j : ℕ) → R .r ≡ Curves j → Left (blocksOf (K .k) (K .ms) (K .size) (K .tol)) (Curves (made + j)) (K .C) (C₂ R) (K .F) (F₂ R) (P₂ R)
         last-done j e =
-            let did = is-done (block K from n) r j CC D₁ FF E₁ p left e in
+            let D = ended j e in
             let none : drop (length P₁ - from) (drop from P₁) ≡ [] = drop-of-length-le (drop from P₁) {i = length P₁ - from} (simp length-drop (omega arith)) in
-            let is : blocksOf (K .k) (K .ms) (K .size) (K .tol) ≡ done (so .cs ++ did .cs) (so .fs ++ did .fs) (so .ps ++ p) = whole-last ∙ ap (prepend (so .cs) (so .fs) (so .ps)) (did .is) in
-            let many : made + j ≡ length (so .fs ++ did .fs) = simp length-append (omega (arith, so .long, did .long)) in
-            let pe : take from P₁ ++ (p ++ drop (length P₁ - from) (drop from P₁)) ≡ so .ps ++ p = rw (none, append-nil, so .front) in
+            let is : blocksOf (K .k) (K .ms) (K .size) (K .tol) ≡ done (so .cs ++ D .cs) (so .fs ++ D .fs) (so .ps ++ R .p) = whole-last ∙ ap (prepend (so .cs) (so .fs) (so .ps)) (D .is) in
+            let many : made + j ≡ length (so .fs ++ D .fs) = simp length-append (omega (arith, so .long, D .long)) in
+            let pe : P₂ R ≡ so .ps ++ R .p = rw (none, append-nil, so .front) in
             rw is (
               ap Curves many,
-              written-behind (so .cs) (did .cs) (K .C) C₁ D₁ (8 * made) (length C₁ - 8 * made) (so .curves) (so .eight) refl (did .curves),
-              written-behind (so .fs) (did .fs) (K .F) F₁ E₁ made (length F₁ - made) (so .firsts) (so .long) refl (did .firsts),
+              written-behind (so .cs) (D .cs) (K .C) C₁ (R .D₁) (8 * made) (length C₁ - 8 * made) (so .curves) (so .eight) refl (D .curves),
+              written-behind (so .fs) (D .fs) (K .F) F₁ (R .E₁) made (length F₁ - made) (so .firsts) (so .long) refl (D .firsts),
               pe,
             )

@@ -1,12 +1,11 @@
 -- `blocks::fit_blocks`: at the loop's head the whole is what is written and the rest (`Sofar`). Assumes nothing.
 use borrow.Author.Needs.{needs}
 use native.Mathlib.Omega.{arith}
-use Prim.Native.Nat.{ℕ, _≤_, _<_, _-_, _+_, _*_}
-use mathlib.Core.Path.{_≡_, refl, sym, ap, _∙_}
+use Prim.Native.Nat.{_≤_, _<_, _-_, _+_}
+use mathlib.Core.Path.{refl}
 use lib.ListN.{length, length-set}
-use Rattle.cut.proofs.Cut.{part-length, inner-length}
 use Rattle.blocks.proofs.Tangents.{over-small}
-use Rattle.blocks.proofs.Sofar.{call, asked, Sofar, so-none, numbers, block-asks, so-stops, so-few, so-more, last-one, last-asks, last-stops, last-few, last-done}
+use Rattle.blocks.proofs.Sofar.{Call, call, Asked, asked, Sofar, so-none, Head, numbers, Ran, as-long-curves, as-long-firsts, as-long-params, block-asks, so-stops, so-few, so-more, last-one, last-asks, last-stops, last-few, last-done}
 use Rattle.blocks.proofs.fit_blocks.Statement.{statement}
 use Rattle.blocks.proofs.fit_blocks.Tie as tie
 
@@ -16,62 +15,113 @@ Inv-loop cutting marks size tolerance curves₀ firsts₀ params₀ n whole from
 abbrev μ-loop : tie.MeasureT-loop
 μ-loop cutting marks size tolerance curves₀ firsts₀ params₀ n whole from₀ made₀ curves firsts params from made = n - from
 
+-- ---- what is known at each place
+
+abbrev first : tie.After-shared Inv-loop μ-loop → tie.Start Inv-loop μ-loop
+first c = c .before .before .before .before .before
+
+abbrev entry : tie.After-shared Inv-loop μ-loop → Call
+entry c = call (first c .args .cutting) (first c .args .marks .now) (first c .args .size) (first c .args .tolerance) (first c .args .curves .now) (first c .args .firsts .now) (first c .args .params .now) (first c .args .size + c .shared .result)
+
+abbrev asks : (c : tie.After-shared Inv-loop μ-loop) → Asked (entry c)
+asks c = asked (first c .args .cutting) (first c .args .marks .now) (first c .args .size) (first c .args .tolerance) (first c .args .curves .now) (first c .args .firsts .now) (first c .args .params .now) (c .shared .result) (first c .pre) (c .shared .ensures)
+
+abbrev head : tie.At-loop Inv-loop μ-loop → Head
+head c = record { K = entry (c .before); A = asks (c .before); from = c .loop .from; made = c .loop .made; C₁ = c .loop .curves; F₁ = c .loop .firsts; P₁ = c .loop .params; so = c .loop .inv }
+
+-- a block that is not the last, when its parts of the lent slices are back
+abbrev answer : tie.After-slice-known6 Inv-loop μ-loop → tie.After-fit-block Inv-loop μ-loop
+answer c = c .before .before .before .before .before .before
+
+abbrev turn : tie.After-slice-known6 Inv-loop μ-loop → tie.In-loop Inv-loop μ-loop
+turn c = answer c .before .before .before .before
+
+abbrev opened : tie.After-slice-known6 Inv-loop μ-loop → Head
+opened c = head (turn c .before)
+
+abbrev more : (c : tie.After-slice-known6 Inv-loop μ-loop) → opened c .K .w < length (opened c .K .P) - opened c .from
+more c = turn c .loop-test .taken
+
+abbrev ran : (c : tie.After-slice-known6 Inv-loop μ-loop) → Ran (opened c) (opened c .from + opened c .K .w) (opened c .from + opened c .K .w - opened c .from)
+ran c = record { r = answer c .fit-block .result; D₁ = answer c .fit-block .last .1 .1 .1 .1 .1 .1 .0; E₁ = answer c .fit-block .last .1 .1 .1 .1 .1 .1 .1 .0; p = answer c .fit-block .last .1 .1 .1 .1 .1 .1 .1 .1 .0; left = answer c .fit-block .ensures; ld = answer c .fit-block .kept .1 .1 .1 .1 .1 .1 .0; le = answer c .fit-block .kept .1 .1 .1 .1 .1 .1 .1 .0; lp = answer c .fit-block .kept .1 .1 .1 .1 .1 .1 .1 .1 .0 }
+
+-- the last block, likewise
+abbrev answer2 : tie.After-slice-known9 Inv-loop μ-loop → tie.After-fit-block2 Inv-loop μ-loop
+answer2 c = c .before .before .before .before .before .before
+
+abbrev beyond : tie.After-slice-known9 Inv-loop μ-loop → tie.Else1 Inv-loop μ-loop
+beyond c = answer2 c .before .before .before .before
+
+abbrev closed : tie.After-slice-known9 Inv-loop μ-loop → Head
+closed c = head (beyond c .before .before)
+
+abbrev stop : (c : tie.After-slice-known9 Inv-loop μ-loop) → length (closed c .K .P) - closed c .from ≤ closed c .K .w
+stop c = beyond c .before .loop-test .left
+
+abbrev some : (c : tie.After-slice-known9 Inv-loop μ-loop) → 2 ≤ length (closed c .K .P) - closed c .from
+some c = beyond c .if1 .left
+
+abbrev last : (c : tie.After-slice-known9 Inv-loop μ-loop) → Ran (closed c) (length (closed c .K .P)) (length (closed c .P₁) - closed c .from)
+last c = record { r = answer2 c .fit-block2 .result; D₁ = answer2 c .fit-block2 .last .1 .1 .1 .1 .1 .1 .0; E₁ = answer2 c .fit-block2 .last .1 .1 .1 .1 .1 .1 .1 .0; p = answer2 c .fit-block2 .last .1 .1 .1 .1 .1 .1 .1 .1 .0; left = answer2 c .fit-block2 .ensures; ld = answer2 c .fit-block2 .kept .1 .1 .1 .1 .1 .1 .0; le = answer2 c .fit-block2 .kept .1 .1 .1 .1 .1 .1 .1 .0; lp = answer2 c .fit-block2 .kept .1 .1 .1 .1 .1 .1 .1 .1 .0 }
+
+-- ---- the needs
+
 shared-requires : tie.Need-shared-requires Inv-loop μ-loop
 shared-requires c κs = tt
 
 add-whole : tie.Need-add-whole Inv-loop μ-loop
-add-whole c = let s = over-small (c .before .before .before .before .before .args .cutting) in omega (arith, c .shared .ensures, c .before .before .before .before .before .pre)
+add-whole c = let s = over-small (first c .args .cutting) in omega (arith, c .shared .ensures, first c .pre)
 
 loop-holds : tie.Need-loop-holds Inv-loop μ-loop
-loop-holds c = so-none (call (c .before .before .before .before .before .args .cutting) (c .before .before .before .before .before .args .marks .now) (c .before .before .before .before .before .args .size) (c .before .before .before .before .before .args .tolerance) (c .before .before .before .before .before .args .curves .now) (c .before .before .before .before .before .args .firsts .now) (c .before .before .before .before .before .args .params .now) (c .before .before .before .before .before .args .size + c .shared .result)) (asked (c .before .before .before .before .before .args .cutting) (c .before .before .before .before .before .args .marks .now) (c .before .before .before .before .before .args .size) (c .before .before .before .before .before .args .tolerance) (c .before .before .before .before .before .args .curves .now) (c .before .before .before .before .before .args .firsts .now) (c .before .before .before .before .before .args .params .now) (c .shared .result) (c .before .before .before .before .before .pre) (c .shared .ensures))
+loop-holds c = so-none (entry c) (asks c)
 
 sub-loop : tie.Need-sub-loop Inv-loop μ-loop
-sub-loop c = omega (arith, numbers (call (c .before .before .before .before .before .before .args .cutting) (c .before .before .before .before .before .before .args .marks .now) (c .before .before .before .before .before .before .args .size) (c .before .before .before .before .before .before .args .tolerance) (c .before .before .before .before .before .before .args .curves .now) (c .before .before .before .before .before .before .args .firsts .now) (c .before .before .before .before .before .before .args .params .now) (c .before .before .before .before .before .before .args .size + c .before .shared .result)) (asked (c .before .before .before .before .before .before .args .cutting) (c .before .before .before .before .before .before .args .marks .now) (c .before .before .before .before .before .before .args .size) (c .before .before .before .before .before .before .args .tolerance) (c .before .before .before .before .before .before .args .curves .now) (c .before .before .before .before .before .before .args .firsts .now) (c .before .before .before .before .before .before .args .params .now) (c .before .shared .result) (c .before .before .before .before .before .before .pre) (c .before .shared .ensures)) (c .loop .from) (c .loop .made) (c .loop .curves) (c .loop .firsts) (c .loop .params) (c .loop .inv))
+sub-loop c = omega (arith, numbers (head c))
 
 add-to : tie.Need-add-to Inv-loop μ-loop
-add-to c = omega (arith, numbers (call (c .before .before .before .before .before .before .before .args .cutting) (c .before .before .before .before .before .before .before .args .marks .now) (c .before .before .before .before .before .before .before .args .size) (c .before .before .before .before .before .before .before .args .tolerance) (c .before .before .before .before .before .before .before .args .curves .now) (c .before .before .before .before .before .before .before .args .firsts .now) (c .before .before .before .before .before .before .before .args .params .now) (c .before .before .before .before .before .before .before .args .size + c .before .before .shared .result)) (asked (c .before .before .before .before .before .before .before .args .cutting) (c .before .before .before .before .before .before .before .args .marks .now) (c .before .before .before .before .before .before .before .args .size) (c .before .before .before .before .before .before .before .args .tolerance) (c .before .before .before .before .before .before .before .args .curves .now) (c .before .before .before .before .before .before .before .args .firsts .now) (c .before .before .before .before .before .before .before .args .params .now) (c .before .before .shared .result) (c .before .before .before .before .before .before .before .pre) (c .before .before .shared .ensures)) (c .before .loop .from) (c .before .loop .made) (c .before .loop .curves) (c .before .loop .firsts) (c .before .loop .params) (c .before .loop .inv), c .loop-test .taken)
+add-to c = omega (arith, numbers (head (c .before)), c .loop-test .taken)
 
 mul-behind : tie.Need-mul-behind Inv-loop μ-loop
-mul-behind c = omega (arith, numbers (call (c .before .before .before .before .before .before .before .args .cutting) (c .before .before .before .before .before .before .before .args .marks .now) (c .before .before .before .before .before .before .before .args .size) (c .before .before .before .before .before .before .before .args .tolerance) (c .before .before .before .before .before .before .before .args .curves .now) (c .before .before .before .before .before .before .before .args .firsts .now) (c .before .before .before .before .before .before .before .args .params .now) (c .before .before .before .before .before .before .before .args .size + c .before .before .shared .result)) (asked (c .before .before .before .before .before .before .before .args .cutting) (c .before .before .before .before .before .before .before .args .marks .now) (c .before .before .before .before .before .before .before .args .size) (c .before .before .before .before .before .before .before .args .tolerance) (c .before .before .before .before .before .before .before .args .curves .now) (c .before .before .before .before .before .before .before .args .firsts .now) (c .before .before .before .before .before .before .before .args .params .now) (c .before .before .shared .result) (c .before .before .before .before .before .before .before .pre) (c .before .before .shared .ensures)) (c .before .loop .from) (c .before .loop .made) (c .before .loop .curves) (c .before .loop .firsts) (c .before .loop .params) (c .before .loop .inv), c .loop-test .taken)
+mul-behind c = omega (arith, numbers (head (c .before)), c .loop-test .taken)
 
 mul-fit-block : tie.Need-mul-fit-block Inv-loop μ-loop
-mul-fit-block c = omega (arith, numbers (call (c .before .before .before .before .before .before .before .args .cutting) (c .before .before .before .before .before .before .before .args .marks .now) (c .before .before .before .before .before .before .before .args .size) (c .before .before .before .before .before .before .before .args .tolerance) (c .before .before .before .before .before .before .before .args .curves .now) (c .before .before .before .before .before .before .before .args .firsts .now) (c .before .before .before .before .before .before .before .args .params .now) (c .before .before .before .before .before .before .before .args .size + c .before .before .shared .result)) (asked (c .before .before .before .before .before .before .before .args .cutting) (c .before .before .before .before .before .before .before .args .marks .now) (c .before .before .before .before .before .before .before .args .size) (c .before .before .before .before .before .before .before .args .tolerance) (c .before .before .before .before .before .before .before .args .curves .now) (c .before .before .before .before .before .before .before .args .firsts .now) (c .before .before .before .before .before .before .before .args .params .now) (c .before .before .shared .result) (c .before .before .before .before .before .before .before .pre) (c .before .before .shared .ensures)) (c .before .loop .from) (c .before .loop .made) (c .before .loop .curves) (c .before .loop .firsts) (c .before .loop .params) (c .before .loop .inv), c .loop-test .taken)
+mul-fit-block c = omega (arith, numbers (head (c .before)), c .loop-test .taken)
 
 sub-fit-block : tie.Need-sub-fit-block Inv-loop μ-loop
-sub-fit-block c = omega (arith, numbers (call (c .before .before .before .before .before .before .before .args .cutting) (c .before .before .before .before .before .before .before .args .marks .now) (c .before .before .before .before .before .before .before .args .size) (c .before .before .before .before .before .before .before .args .tolerance) (c .before .before .before .before .before .before .before .args .curves .now) (c .before .before .before .before .before .before .before .args .firsts .now) (c .before .before .before .before .before .before .before .args .params .now) (c .before .before .before .before .before .before .before .args .size + c .before .before .shared .result)) (asked (c .before .before .before .before .before .before .before .args .cutting) (c .before .before .before .before .before .before .before .args .marks .now) (c .before .before .before .before .before .before .before .args .size) (c .before .before .before .before .before .before .before .args .tolerance) (c .before .before .before .before .before .before .before .args .curves .now) (c .before .before .before .before .before .before .before .args .firsts .now) (c .before .before .before .before .before .before .before .args .params .now) (c .before .before .shared .result) (c .before .before .before .before .before .before .before .pre) (c .before .before .shared .ensures)) (c .before .loop .from) (c .before .loop .made) (c .before .loop .curves) (c .before .loop .firsts) (c .before .loop .params) (c .before .loop .inv), c .loop-test .taken)
+sub-fit-block c = omega (arith, numbers (head (c .before)), c .loop-test .taken)
 
 part-fit-block-start : tie.Need-part-fit-block-start Inv-loop μ-loop
-part-fit-block-start c = omega (arith, numbers (call (c .before .before .before .before .before .before .before .args .cutting) (c .before .before .before .before .before .before .before .args .marks .now) (c .before .before .before .before .before .before .before .args .size) (c .before .before .before .before .before .before .before .args .tolerance) (c .before .before .before .before .before .before .before .args .curves .now) (c .before .before .before .before .before .before .before .args .firsts .now) (c .before .before .before .before .before .before .before .args .params .now) (c .before .before .before .before .before .before .before .args .size + c .before .before .shared .result)) (asked (c .before .before .before .before .before .before .before .args .cutting) (c .before .before .before .before .before .before .before .args .marks .now) (c .before .before .before .before .before .before .before .args .size) (c .before .before .before .before .before .before .before .args .tolerance) (c .before .before .before .before .before .before .before .args .curves .now) (c .before .before .before .before .before .before .before .args .firsts .now) (c .before .before .before .before .before .before .before .args .params .now) (c .before .before .shared .result) (c .before .before .before .before .before .before .before .pre) (c .before .before .shared .ensures)) (c .before .loop .from) (c .before .loop .made) (c .before .loop .curves) (c .before .loop .firsts) (c .before .loop .params) (c .before .loop .inv), c .loop-test .taken)
+part-fit-block-start c = omega (arith, numbers (head (c .before)), c .loop-test .taken)
 
 part-fit-block-end : tie.Need-part-fit-block-end Inv-loop μ-loop
-part-fit-block-end c = omega (arith, numbers (call (c .before .before .before .before .before .before .before .args .cutting) (c .before .before .before .before .before .before .before .args .marks .now) (c .before .before .before .before .before .before .before .args .size) (c .before .before .before .before .before .before .before .args .tolerance) (c .before .before .before .before .before .before .before .args .curves .now) (c .before .before .before .before .before .before .before .args .firsts .now) (c .before .before .before .before .before .before .before .args .params .now) (c .before .before .before .before .before .before .before .args .size + c .before .before .shared .result)) (asked (c .before .before .before .before .before .before .before .args .cutting) (c .before .before .before .before .before .before .before .args .marks .now) (c .before .before .before .before .before .before .before .args .size) (c .before .before .before .before .before .before .before .args .tolerance) (c .before .before .before .before .before .before .before .args .curves .now) (c .before .before .before .before .before .before .before .args .firsts .now) (c .before .before .before .before .before .before .before .args .params .now) (c .before .before .shared .result) (c .before .before .before .before .before .before .before .pre) (c .before .before .shared .ensures)) (c .before .loop .from) (c .before .loop .made) (c .before .loop .curves) (c .before .loop .firsts) (c .before .loop .params) (c .before .loop .inv), c .loop-test .taken)
+part-fit-block-end c = omega (arith, numbers (head (c .before)), c .loop-test .taken)
 
 mul-fit-block-2 : tie.Need-mul-fit-block-2 Inv-loop μ-loop
-mul-fit-block-2 c = omega (arith, numbers (call (c .before .before .before .before .before .before .before .before .args .cutting) (c .before .before .before .before .before .before .before .before .args .marks .now) (c .before .before .before .before .before .before .before .before .args .size) (c .before .before .before .before .before .before .before .before .args .tolerance) (c .before .before .before .before .before .before .before .before .args .curves .now) (c .before .before .before .before .before .before .before .before .args .firsts .now) (c .before .before .before .before .before .before .before .before .args .params .now) (c .before .before .before .before .before .before .before .before .args .size + c .before .before .before .shared .result)) (asked (c .before .before .before .before .before .before .before .before .args .cutting) (c .before .before .before .before .before .before .before .before .args .marks .now) (c .before .before .before .before .before .before .before .before .args .size) (c .before .before .before .before .before .before .before .before .args .tolerance) (c .before .before .before .before .before .before .before .before .args .curves .now) (c .before .before .before .before .before .before .before .before .args .firsts .now) (c .before .before .before .before .before .before .before .before .args .params .now) (c .before .before .before .shared .result) (c .before .before .before .before .before .before .before .before .pre) (c .before .before .before .shared .ensures)) (c .before .before .loop .from) (c .before .before .loop .made) (c .before .before .loop .curves) (c .before .before .loop .firsts) (c .before .before .loop .params) (c .before .before .loop .inv), c .before .loop-test .taken)
+mul-fit-block-2 c = omega (arith, numbers (head (c .before .before)), c .before .loop-test .taken)
 
 sub-fit-block-2 : tie.Need-sub-fit-block-2 Inv-loop μ-loop
-sub-fit-block-2 c = omega (arith, numbers (call (c .before .before .before .before .before .before .before .before .args .cutting) (c .before .before .before .before .before .before .before .before .args .marks .now) (c .before .before .before .before .before .before .before .before .args .size) (c .before .before .before .before .before .before .before .before .args .tolerance) (c .before .before .before .before .before .before .before .before .args .curves .now) (c .before .before .before .before .before .before .before .before .args .firsts .now) (c .before .before .before .before .before .before .before .before .args .params .now) (c .before .before .before .before .before .before .before .before .args .size + c .before .before .before .shared .result)) (asked (c .before .before .before .before .before .before .before .before .args .cutting) (c .before .before .before .before .before .before .before .before .args .marks .now) (c .before .before .before .before .before .before .before .before .args .size) (c .before .before .before .before .before .before .before .before .args .tolerance) (c .before .before .before .before .before .before .before .before .args .curves .now) (c .before .before .before .before .before .before .before .before .args .firsts .now) (c .before .before .before .before .before .before .before .before .args .params .now) (c .before .before .before .shared .result) (c .before .before .before .before .before .before .before .before .pre) (c .before .before .before .shared .ensures)) (c .before .before .loop .from) (c .before .before .loop .made) (c .before .before .loop .curves) (c .before .before .loop .firsts) (c .before .before .loop .params) (c .before .before .loop .inv), c .before .loop-test .taken)
+sub-fit-block-2 c = omega (arith, numbers (head (c .before .before)), c .before .loop-test .taken)
 
 part-fit-block-start-2 : tie.Need-part-fit-block-start-2 Inv-loop μ-loop
-part-fit-block-start-2 c = omega (arith, numbers (call (c .before .before .before .before .before .before .before .before .args .cutting) (c .before .before .before .before .before .before .before .before .args .marks .now) (c .before .before .before .before .before .before .before .before .args .size) (c .before .before .before .before .before .before .before .before .args .tolerance) (c .before .before .before .before .before .before .before .before .args .curves .now) (c .before .before .before .before .before .before .before .before .args .firsts .now) (c .before .before .before .before .before .before .before .before .args .params .now) (c .before .before .before .before .before .before .before .before .args .size + c .before .before .before .shared .result)) (asked (c .before .before .before .before .before .before .before .before .args .cutting) (c .before .before .before .before .before .before .before .before .args .marks .now) (c .before .before .before .before .before .before .before .before .args .size) (c .before .before .before .before .before .before .before .before .args .tolerance) (c .before .before .before .before .before .before .before .before .args .curves .now) (c .before .before .before .before .before .before .before .before .args .firsts .now) (c .before .before .before .before .before .before .before .before .args .params .now) (c .before .before .before .shared .result) (c .before .before .before .before .before .before .before .before .pre) (c .before .before .before .shared .ensures)) (c .before .before .loop .from) (c .before .before .loop .made) (c .before .before .loop .curves) (c .before .before .loop .firsts) (c .before .before .loop .params) (c .before .before .loop .inv), c .before .loop-test .taken)
+part-fit-block-start-2 c = omega (arith, numbers (head (c .before .before)), c .before .loop-test .taken)
 
 part-fit-block-end-2 : tie.Need-part-fit-block-end-2 Inv-loop μ-loop
-part-fit-block-end-2 c = omega (arith, numbers (call (c .before .before .before .before .before .before .before .before .args .cutting) (c .before .before .before .before .before .before .before .before .args .marks .now) (c .before .before .before .before .before .before .before .before .args .size) (c .before .before .before .before .before .before .before .before .args .tolerance) (c .before .before .before .before .before .before .before .before .args .curves .now) (c .before .before .before .before .before .before .before .before .args .firsts .now) (c .before .before .before .before .before .before .before .before .args .params .now) (c .before .before .before .before .before .before .before .before .args .size + c .before .before .before .shared .result)) (asked (c .before .before .before .before .before .before .before .before .args .cutting) (c .before .before .before .before .before .before .before .before .args .marks .now) (c .before .before .before .before .before .before .before .before .args .size) (c .before .before .before .before .before .before .before .before .args .tolerance) (c .before .before .before .before .before .before .before .before .args .curves .now) (c .before .before .before .before .before .before .before .before .args .firsts .now) (c .before .before .before .before .before .before .before .before .args .params .now) (c .before .before .before .shared .result) (c .before .before .before .before .before .before .before .before .pre) (c .before .before .before .shared .ensures)) (c .before .before .loop .from) (c .before .before .loop .made) (c .before .before .loop .curves) (c .before .before .loop .firsts) (c .before .before .loop .params) (c .before .before .loop .inv), c .before .loop-test .taken)
+part-fit-block-end-2 c = omega (arith, numbers (head (c .before .before)), c .before .loop-test .taken)
 
 mul-fit-block-3 : tie.Need-mul-fit-block-3 Inv-loop μ-loop
-mul-fit-block-3 c = omega (arith, numbers (call (c .before .before .before .before .before .before .before .before .before .args .cutting) (c .before .before .before .before .before .before .before .before .before .args .marks .now) (c .before .before .before .before .before .before .before .before .before .args .size) (c .before .before .before .before .before .before .before .before .before .args .tolerance) (c .before .before .before .before .before .before .before .before .before .args .curves .now) (c .before .before .before .before .before .before .before .before .before .args .firsts .now) (c .before .before .before .before .before .before .before .before .before .args .params .now) (c .before .before .before .before .before .before .before .before .before .args .size + c .before .before .before .before .shared .result)) (asked (c .before .before .before .before .before .before .before .before .before .args .cutting) (c .before .before .before .before .before .before .before .before .before .args .marks .now) (c .before .before .before .before .before .before .before .before .before .args .size) (c .before .before .before .before .before .before .before .before .before .args .tolerance) (c .before .before .before .before .before .before .before .before .before .args .curves .now) (c .before .before .before .before .before .before .before .before .before .args .firsts .now) (c .before .before .before .before .before .before .before .before .before .args .params .now) (c .before .before .before .before .shared .result) (c .before .before .before .before .before .before .before .before .before .pre) (c .before .before .before .before .shared .ensures)) (c .before .before .before .loop .from) (c .before .before .before .loop .made) (c .before .before .before .loop .curves) (c .before .before .before .loop .firsts) (c .before .before .before .loop .params) (c .before .before .before .loop .inv), c .before .before .loop-test .taken)
+mul-fit-block-3 c = omega (arith, numbers (head (c .before .before .before)), c .before .before .loop-test .taken)
 
 sub-fit-block-3 : tie.Need-sub-fit-block-3 Inv-loop μ-loop
-sub-fit-block-3 c = omega (arith, numbers (call (c .before .before .before .before .before .before .before .before .before .args .cutting) (c .before .before .before .before .before .before .before .before .before .args .marks .now) (c .before .before .before .before .before .before .before .before .before .args .size) (c .before .before .before .before .before .before .before .before .before .args .tolerance) (c .before .before .before .before .before .before .before .before .before .args .curves .now) (c .before .before .before .before .before .before .before .before .before .args .firsts .now) (c .before .before .before .before .before .before .before .before .before .args .params .now) (c .before .before .before .before .before .before .before .before .before .args .size + c .before .before .before .before .shared .result)) (asked (c .before .before .before .before .before .before .before .before .before .args .cutting) (c .before .before .before .before .before .before .before .before .before .args .marks .now) (c .before .before .before .before .before .before .before .before .before .args .size) (c .before .before .before .before .before .before .before .before .before .args .tolerance) (c .before .before .before .before .before .before .before .before .before .args .curves .now) (c .before .before .before .before .before .before .before .before .before .args .firsts .now) (c .before .before .before .before .before .before .before .before .before .args .params .now) (c .before .before .before .before .shared .result) (c .before .before .before .before .before .before .before .before .before .pre) (c .before .before .before .before .shared .ensures)) (c .before .before .before .loop .from) (c .before .before .before .loop .made) (c .before .before .before .loop .curves) (c .before .before .before .loop .firsts) (c .before .before .before .loop .params) (c .before .before .before .loop .inv), c .before .before .loop-test .taken)
+sub-fit-block-3 c = omega (arith, numbers (head (c .before .before .before)), c .before .before .loop-test .taken)
 
 part-fit-block-start-3 : tie.Need-part-fit-block-start-3 Inv-loop μ-loop
-part-fit-block-start-3 c = omega (arith, numbers (call (c .before .before .before .before .before .before .before .before .before .args .cutting) (c .before .before .before .before .before .before .before .before .before .args .marks .now) (c .before .before .before .before .before .before .before .before .before .args .size) (c .before .before .before .before .before .before .before .before .before .args .tolerance) (c .before .before .before .before .before .before .before .before .before .args .curves .now) (c .before .before .before .before .before .before .before .before .before .args .firsts .now) (c .before .before .before .before .before .before .before .before .before .args .params .now) (c .before .before .before .before .before .before .before .before .before .args .size + c .before .before .before .before .shared .result)) (asked (c .before .before .before .before .before .before .before .before .before .args .cutting) (c .before .before .before .before .before .before .before .before .before .args .marks .now) (c .before .before .before .before .before .before .before .before .before .args .size) (c .before .before .before .before .before .before .before .before .before .args .tolerance) (c .before .before .before .before .before .before .before .before .before .args .curves .now) (c .before .before .before .before .before .before .before .before .before .args .firsts .now) (c .before .before .before .before .before .before .before .before .before .args .params .now) (c .before .before .before .before .shared .result) (c .before .before .before .before .before .before .before .before .before .pre) (c .before .before .before .before .shared .ensures)) (c .before .before .before .loop .from) (c .before .before .before .loop .made) (c .before .before .before .loop .curves) (c .before .before .before .loop .firsts) (c .before .before .before .loop .params) (c .before .before .before .loop .inv), c .before .before .loop-test .taken)
+part-fit-block-start-3 c = omega (arith, numbers (head (c .before .before .before)), c .before .before .loop-test .taken)
 
 part-fit-block-end-3 : tie.Need-part-fit-block-end-3 Inv-loop μ-loop
-part-fit-block-end-3 c = omega (arith, numbers (call (c .before .before .before .before .before .before .before .before .before .args .cutting) (c .before .before .before .before .before .before .before .before .before .args .marks .now) (c .before .before .before .before .before .before .before .before .before .args .size) (c .before .before .before .before .before .before .before .before .before .args .tolerance) (c .before .before .before .before .before .before .before .before .before .args .curves .now) (c .before .before .before .before .before .before .before .before .before .args .firsts .now) (c .before .before .before .before .before .before .before .before .before .args .params .now) (c .before .before .before .before .before .before .before .before .before .args .size + c .before .before .before .before .shared .result)) (asked (c .before .before .before .before .before .before .before .before .before .args .cutting) (c .before .before .before .before .before .before .before .before .before .args .marks .now) (c .before .before .before .before .before .before .before .before .before .args .size) (c .before .before .before .before .before .before .before .before .before .args .tolerance) (c .before .before .before .before .before .before .before .before .before .args .curves .now) (c .before .before .before .before .before .before .before .before .before .args .firsts .now) (c .before .before .before .before .before .before .before .before .before .args .params .now) (c .before .before .before .before .shared .result) (c .before .before .before .before .before .before .before .before .before .pre) (c .before .before .before .before .shared .ensures)) (c .before .before .before .loop .from) (c .before .before .before .loop .made) (c .before .before .before .loop .curves) (c .before .before .before .loop .firsts) (c .before .before .before .loop .params) (c .before .before .before .loop .inv), c .before .before .loop-test .taken)
+part-fit-block-end-3 c = omega (arith, numbers (head (c .before .before .before)), c .before .before .loop-test .taken)
 
 fit-block-requires : tie.Need-fit-block-requires Inv-loop μ-loop
-fit-block-requires c κs = block-asks (call (c .before .before .before .before .before .before .before .before .before .before .args .cutting) (c .before .before .before .before .before .before .before .before .before .before .args .marks .now) (c .before .before .before .before .before .before .before .before .before .before .args .size) (c .before .before .before .before .before .before .before .before .before .before .args .tolerance) (c .before .before .before .before .before .before .before .before .before .before .args .curves .now) (c .before .before .before .before .before .before .before .before .before .before .args .firsts .now) (c .before .before .before .before .before .before .before .before .before .before .args .params .now) (c .before .before .before .before .before .before .before .before .before .before .args .size + c .before .before .before .before .before .shared .result)) (asked (c .before .before .before .before .before .before .before .before .before .before .args .cutting) (c .before .before .before .before .before .before .before .before .before .before .args .marks .now) (c .before .before .before .before .before .before .before .before .before .before .args .size) (c .before .before .before .before .before .before .before .before .before .before .args .tolerance) (c .before .before .before .before .before .before .before .before .before .before .args .curves .now) (c .before .before .before .before .before .before .before .before .before .before .args .firsts .now) (c .before .before .before .before .before .before .before .before .before .before .args .params .now) (c .before .before .before .before .before .shared .result) (c .before .before .before .before .before .before .before .before .before .before .pre) (c .before .before .before .before .before .shared .ensures)) (c .before .before .before .before .loop .from) (c .before .before .before .before .loop .made) (c .before .before .before .before .loop .curves) (c .before .before .before .before .loop .firsts) (c .before .before .before .before .loop .params) (c .before .before .before .before .loop .inv) (c .before .before .before .loop-test .taken)
+fit-block-requires c κs = block-asks (head (c .before .before .before .before)) (c .before .before .before .loop-test .taken)
 
 enum-known-out : tie.Need-enum-known-out Inv-loop μ-loop
 enum-known-out c = search needs
@@ -80,37 +130,37 @@ enum-told : tie.Need-enum-told Inv-loop μ-loop
 enum-told c = search needs
 
 same-length : tie.Need-same-length Inv-loop μ-loop
-same-length c = part-length (8 * c .before .before .before .before .before .before .before .before .before .before .before .before .before .loop .made) _ (c .before .before .before .before .before .before .before .before .before .before .before .before .before .loop .curves) (c .before .before .before .before .before .before .before .before .fit-block .last .1 .1 .1 .1 .1 .1 .0) (omega (arith, numbers (call (c .before .before .before .before .before .before .before .before .before .before .before .before .before .before .before .before .before .before .before .args .cutting) (c .before .before .before .before .before .before .before .before .before .before .before .before .before .before .before .before .before .before .before .args .marks .now) (c .before .before .before .before .before .before .before .before .before .before .before .before .before .before .before .before .before .before .before .args .size) (c .before .before .before .before .before .before .before .before .before .before .before .before .before .before .before .before .before .before .before .args .tolerance) (c .before .before .before .before .before .before .before .before .before .before .before .before .before .before .before .before .before .before .before .args .curves .now) (c .before .before .before .before .before .before .before .before .before .before .before .before .before .before .before .before .before .before .before .args .firsts .now) (c .before .before .before .before .before .before .before .before .before .before .before .before .before .before .before .before .before .before .before .args .params .now) (c .before .before .before .before .before .before .before .before .before .before .before .before .before .before .before .before .before .before .before .args .size + c .before .before .before .before .before .before .before .before .before .before .before .before .before .before .shared .result)) (asked (c .before .before .before .before .before .before .before .before .before .before .before .before .before .before .before .before .before .before .before .args .cutting) (c .before .before .before .before .before .before .before .before .before .before .before .before .before .before .before .before .before .before .before .args .marks .now) (c .before .before .before .before .before .before .before .before .before .before .before .before .before .before .before .before .before .before .before .args .size) (c .before .before .before .before .before .before .before .before .before .before .before .before .before .before .before .before .before .before .before .args .tolerance) (c .before .before .before .before .before .before .before .before .before .before .before .before .before .before .before .before .before .before .before .args .curves .now) (c .before .before .before .before .before .before .before .before .before .before .before .before .before .before .before .before .before .before .before .args .firsts .now) (c .before .before .before .before .before .before .before .before .before .before .before .before .before .before .before .before .before .before .before .args .params .now) (c .before .before .before .before .before .before .before .before .before .before .before .before .before .before .shared .result) (c .before .before .before .before .before .before .before .before .before .before .before .before .before .before .before .before .before .before .before .pre) (c .before .before .before .before .before .before .before .before .before .before .before .before .before .before .shared .ensures)) (c .before .before .before .before .before .before .before .before .before .before .before .before .before .loop .from) (c .before .before .before .before .before .before .before .before .before .before .before .before .before .loop .made) (c .before .before .before .before .before .before .before .before .before .before .before .before .before .loop .curves) (c .before .before .before .before .before .before .before .before .before .before .before .before .before .loop .firsts) (c .before .before .before .before .before .before .before .before .before .before .before .before .before .loop .params) (c .before .before .before .before .before .before .before .before .before .before .before .before .before .loop .inv))) refl (c .before .before .before .before .before .before .before .before .fit-block .kept .1 .1 .1 .1 .1 .1 .0) ∙ c .before .before .before .before .before .before .before .before .before .before .before .before .before .loop .inv .lc
+same-length c = as-long-curves (opened (c .before .before)) (ran (c .before .before))
 
 same-length-2 : tie.Need-same-length-2 Inv-loop μ-loop
-same-length-2 c = part-length (c .before .before .before .before .before .before .before .before .before .before .before .before .before .loop .made) _ (c .before .before .before .before .before .before .before .before .before .before .before .before .before .loop .firsts) (c .before .before .before .before .before .before .before .before .fit-block .last .1 .1 .1 .1 .1 .1 .1 .0) (omega (arith, numbers (call (c .before .before .before .before .before .before .before .before .before .before .before .before .before .before .before .before .before .before .before .args .cutting) (c .before .before .before .before .before .before .before .before .before .before .before .before .before .before .before .before .before .before .before .args .marks .now) (c .before .before .before .before .before .before .before .before .before .before .before .before .before .before .before .before .before .before .before .args .size) (c .before .before .before .before .before .before .before .before .before .before .before .before .before .before .before .before .before .before .before .args .tolerance) (c .before .before .before .before .before .before .before .before .before .before .before .before .before .before .before .before .before .before .before .args .curves .now) (c .before .before .before .before .before .before .before .before .before .before .before .before .before .before .before .before .before .before .before .args .firsts .now) (c .before .before .before .before .before .before .before .before .before .before .before .before .before .before .before .before .before .before .before .args .params .now) (c .before .before .before .before .before .before .before .before .before .before .before .before .before .before .before .before .before .before .before .args .size + c .before .before .before .before .before .before .before .before .before .before .before .before .before .before .shared .result)) (asked (c .before .before .before .before .before .before .before .before .before .before .before .before .before .before .before .before .before .before .before .args .cutting) (c .before .before .before .before .before .before .before .before .before .before .before .before .before .before .before .before .before .before .before .args .marks .now) (c .before .before .before .before .before .before .before .before .before .before .before .before .before .before .before .before .before .before .before .args .size) (c .before .before .before .before .before .before .before .before .before .before .before .before .before .before .before .before .before .before .before .args .tolerance) (c .before .before .before .before .before .before .before .before .before .before .before .before .before .before .before .before .before .before .before .args .curves .now) (c .before .before .before .before .before .before .before .before .before .before .before .before .before .before .before .before .before .before .before .args .firsts .now) (c .before .before .before .before .before .before .before .before .before .before .before .before .before .before .before .before .before .before .before .args .params .now) (c .before .before .before .before .before .before .before .before .before .before .before .before .before .before .shared .result) (c .before .before .before .before .before .before .before .before .before .before .before .before .before .before .before .before .before .before .before .pre) (c .before .before .before .before .before .before .before .before .before .before .before .before .before .before .shared .ensures)) (c .before .before .before .before .before .before .before .before .before .before .before .before .before .loop .from) (c .before .before .before .before .before .before .before .before .before .before .before .before .before .loop .made) (c .before .before .before .before .before .before .before .before .before .before .before .before .before .loop .curves) (c .before .before .before .before .before .before .before .before .before .before .before .before .before .loop .firsts) (c .before .before .before .before .before .before .before .before .before .before .before .before .before .loop .params) (c .before .before .before .before .before .before .before .before .before .before .before .before .before .loop .inv))) refl (c .before .before .before .before .before .before .before .before .fit-block .kept .1 .1 .1 .1 .1 .1 .1 .0) ∙ c .before .before .before .before .before .before .before .before .before .before .before .before .before .loop .inv .lf
+same-length-2 c = as-long-firsts (opened (c .before .before)) (ran (c .before .before))
 
 same-length-3 : tie.Need-same-length-3 Inv-loop μ-loop
-same-length-3 c = inner-length (c .before .before .before .before .before .before .before .before .before .before .before .before .before .loop .from) (c .before .before .before .before .before .before .before .before .before .before .before .before .before .loop .from + (c .before .before .before .before .before .before .before .before .before .before .before .before .before .before .before .before .before .before .before .args .size + c .before .before .before .before .before .before .before .before .before .before .before .before .before .before .shared .result) - c .before .before .before .before .before .before .before .before .before .before .before .before .before .loop .from) (c .before .before .before .before .before .before .before .before .before .before .before .before .before .loop .params) (c .before .before .before .before .before .before .before .before .fit-block .last .1 .1 .1 .1 .1 .1 .1 .1 .0) (omega (arith, numbers (call (c .before .before .before .before .before .before .before .before .before .before .before .before .before .before .before .before .before .before .before .args .cutting) (c .before .before .before .before .before .before .before .before .before .before .before .before .before .before .before .before .before .before .before .args .marks .now) (c .before .before .before .before .before .before .before .before .before .before .before .before .before .before .before .before .before .before .before .args .size) (c .before .before .before .before .before .before .before .before .before .before .before .before .before .before .before .before .before .before .before .args .tolerance) (c .before .before .before .before .before .before .before .before .before .before .before .before .before .before .before .before .before .before .before .args .curves .now) (c .before .before .before .before .before .before .before .before .before .before .before .before .before .before .before .before .before .before .before .args .firsts .now) (c .before .before .before .before .before .before .before .before .before .before .before .before .before .before .before .before .before .before .before .args .params .now) (c .before .before .before .before .before .before .before .before .before .before .before .before .before .before .before .before .before .before .before .args .size + c .before .before .before .before .before .before .before .before .before .before .before .before .before .before .shared .result)) (asked (c .before .before .before .before .before .before .before .before .before .before .before .before .before .before .before .before .before .before .before .args .cutting) (c .before .before .before .before .before .before .before .before .before .before .before .before .before .before .before .before .before .before .before .args .marks .now) (c .before .before .before .before .before .before .before .before .before .before .before .before .before .before .before .before .before .before .before .args .size) (c .before .before .before .before .before .before .before .before .before .before .before .before .before .before .before .before .before .before .before .args .tolerance) (c .before .before .before .before .before .before .before .before .before .before .before .before .before .before .before .before .before .before .before .args .curves .now) (c .before .before .before .before .before .before .before .before .before .before .before .before .before .before .before .before .before .before .before .args .firsts .now) (c .before .before .before .before .before .before .before .before .before .before .before .before .before .before .before .before .before .before .before .args .params .now) (c .before .before .before .before .before .before .before .before .before .before .before .before .before .before .shared .result) (c .before .before .before .before .before .before .before .before .before .before .before .before .before .before .before .before .before .before .before .pre) (c .before .before .before .before .before .before .before .before .before .before .before .before .before .before .shared .ensures)) (c .before .before .before .before .before .before .before .before .before .before .before .before .before .loop .from) (c .before .before .before .before .before .before .before .before .before .before .before .before .before .loop .made) (c .before .before .before .before .before .before .before .before .before .before .before .before .before .loop .curves) (c .before .before .before .before .before .before .before .before .before .before .before .before .before .loop .firsts) (c .before .before .before .before .before .before .before .before .before .before .before .before .before .loop .params) (c .before .before .before .before .before .before .before .before .before .before .before .before .before .loop .inv), c .before .before .before .before .before .before .before .before .before .before .before .before .loop-test .taken)) (c .before .before .before .before .before .before .before .before .fit-block .kept .1 .1 .1 .1 .1 .1 .1 .1 .0) ∙ c .before .before .before .before .before .before .before .before .before .before .before .before .before .loop .inv .lp
+same-length-3 c = as-long-params (opened (c .before .before)) (ran (c .before .before)) (omega (arith, numbers (opened (c .before .before)), more (c .before .before)))
 
 returns : tie.Need-returns Inv-loop μ-loop
-returns c = so-stops (call (c .before .before .before .before .before .before .before .before .before .before .before .before .before .before .before .before .before .before .before .args .cutting) (c .before .before .before .before .before .before .before .before .before .before .before .before .before .before .before .before .before .before .before .args .marks .now) (c .before .before .before .before .before .before .before .before .before .before .before .before .before .before .before .before .before .before .before .args .size) (c .before .before .before .before .before .before .before .before .before .before .before .before .before .before .before .before .before .before .before .args .tolerance) (c .before .before .before .before .before .before .before .before .before .before .before .before .before .before .before .before .before .before .before .args .curves .now) (c .before .before .before .before .before .before .before .before .before .before .before .before .before .before .before .before .before .before .before .args .firsts .now) (c .before .before .before .before .before .before .before .before .before .before .before .before .before .before .before .before .before .before .before .args .params .now) (c .before .before .before .before .before .before .before .before .before .before .before .before .before .before .before .before .before .before .before .args .size + c .before .before .before .before .before .before .before .before .before .before .before .before .before .before .shared .result)) (asked (c .before .before .before .before .before .before .before .before .before .before .before .before .before .before .before .before .before .before .before .args .cutting) (c .before .before .before .before .before .before .before .before .before .before .before .before .before .before .before .before .before .before .before .args .marks .now) (c .before .before .before .before .before .before .before .before .before .before .before .before .before .before .before .before .before .before .before .args .size) (c .before .before .before .before .before .before .before .before .before .before .before .before .before .before .before .before .before .before .before .args .tolerance) (c .before .before .before .before .before .before .before .before .before .before .before .before .before .before .before .before .before .before .before .args .curves .now) (c .before .before .before .before .before .before .before .before .before .before .before .before .before .before .before .before .before .before .before .args .firsts .now) (c .before .before .before .before .before .before .before .before .before .before .before .before .before .before .before .before .before .before .before .args .params .now) (c .before .before .before .before .before .before .before .before .before .before .before .before .before .before .shared .result) (c .before .before .before .before .before .before .before .before .before .before .before .before .before .before .before .before .before .before .before .pre) (c .before .before .before .before .before .before .before .before .before .before .before .before .before .before .shared .ensures)) (c .before .before .before .before .before .before .before .before .before .before .before .before .before .loop .from) (c .before .before .before .before .before .before .before .before .before .before .before .before .before .loop .made) (c .before .before .before .before .before .before .before .before .before .before .before .before .before .loop .curves) (c .before .before .before .before .before .before .before .before .before .before .before .before .before .loop .firsts) (c .before .before .before .before .before .before .before .before .before .before .before .before .before .loop .params) (c .before .before .before .before .before .before .before .before .before .before .before .before .before .loop .inv) (c .before .before .before .before .before .before .before .before .before .before .before .before .loop-test .taken) (c .before .before .before .before .before .before .before .before .fit-block .result) (c .before .before .before .before .before .before .before .before .fit-block .last .1 .1 .1 .1 .1 .1 .0) (c .before .before .before .before .before .before .before .before .fit-block .last .1 .1 .1 .1 .1 .1 .1 .0) (c .before .before .before .before .before .before .before .before .fit-block .last .1 .1 .1 .1 .1 .1 .1 .1 .0) (c .before .before .before .before .before .before .before .before .fit-block .ensures) (c .enum-told .given .0 .0) (c .enum-told .given .1) _ _ _
+returns c = so-stops (opened (c .before .before)) (more (c .before .before)) (ran (c .before .before)) (c .enum-told .given .0 .0) (c .enum-told .given .1) _ _ _
 
 add-made : tie.Need-add-made Inv-loop μ-loop
-add-made c = omega (arith, numbers (call (c .before .before .before .before .before .before .before .before .before .before .before .before .before .before .before .before .before .before .before .before .args .cutting) (c .before .before .before .before .before .before .before .before .before .before .before .before .before .before .before .before .before .before .before .before .args .marks .now) (c .before .before .before .before .before .before .before .before .before .before .before .before .before .before .before .before .before .before .before .before .args .size) (c .before .before .before .before .before .before .before .before .before .before .before .before .before .before .before .before .before .before .before .before .args .tolerance) (c .before .before .before .before .before .before .before .before .before .before .before .before .before .before .before .before .before .before .before .before .args .curves .now) (c .before .before .before .before .before .before .before .before .before .before .before .before .before .before .before .before .before .before .before .before .args .firsts .now) (c .before .before .before .before .before .before .before .before .before .before .before .before .before .before .before .before .before .before .before .before .args .params .now) (c .before .before .before .before .before .before .before .before .before .before .before .before .before .before .before .before .before .before .before .before .args .size + c .before .before .before .before .before .before .before .before .before .before .before .before .before .before .before .shared .result)) (asked (c .before .before .before .before .before .before .before .before .before .before .before .before .before .before .before .before .before .before .before .before .args .cutting) (c .before .before .before .before .before .before .before .before .before .before .before .before .before .before .before .before .before .before .before .before .args .marks .now) (c .before .before .before .before .before .before .before .before .before .before .before .before .before .before .before .before .before .before .before .before .args .size) (c .before .before .before .before .before .before .before .before .before .before .before .before .before .before .before .before .before .before .before .before .args .tolerance) (c .before .before .before .before .before .before .before .before .before .before .before .before .before .before .before .before .before .before .before .before .args .curves .now) (c .before .before .before .before .before .before .before .before .before .before .before .before .before .before .before .before .before .before .before .before .args .firsts .now) (c .before .before .before .before .before .before .before .before .before .before .before .before .before .before .before .before .before .before .before .before .args .params .now) (c .before .before .before .before .before .before .before .before .before .before .before .before .before .before .before .shared .result) (c .before .before .before .before .before .before .before .before .before .before .before .before .before .before .before .before .before .before .before .before .pre) (c .before .before .before .before .before .before .before .before .before .before .before .before .before .before .before .shared .ensures)) (c .before .before .before .before .before .before .before .before .before .before .before .before .before .before .loop .from) (c .before .before .before .before .before .before .before .before .before .before .before .before .before .before .loop .made) (c .before .before .before .before .before .before .before .before .before .before .before .before .before .before .loop .curves) (c .before .before .before .before .before .before .before .before .before .before .before .before .before .before .loop .firsts) (c .before .before .before .before .before .before .before .before .before .before .before .before .before .before .loop .params) (c .before .before .before .before .before .before .before .before .before .before .before .before .before .before .loop .inv), so-few (call (c .before .before .before .before .before .before .before .before .before .before .before .before .before .before .before .before .before .before .before .before .args .cutting) (c .before .before .before .before .before .before .before .before .before .before .before .before .before .before .before .before .before .before .before .before .args .marks .now) (c .before .before .before .before .before .before .before .before .before .before .before .before .before .before .before .before .before .before .before .before .args .size) (c .before .before .before .before .before .before .before .before .before .before .before .before .before .before .before .before .before .before .before .before .args .tolerance) (c .before .before .before .before .before .before .before .before .before .before .before .before .before .before .before .before .before .before .before .before .args .curves .now) (c .before .before .before .before .before .before .before .before .before .before .before .before .before .before .before .before .before .before .before .before .args .firsts .now) (c .before .before .before .before .before .before .before .before .before .before .before .before .before .before .before .before .before .before .before .before .args .params .now) (c .before .before .before .before .before .before .before .before .before .before .before .before .before .before .before .before .before .before .before .before .args .size + c .before .before .before .before .before .before .before .before .before .before .before .before .before .before .before .shared .result)) (asked (c .before .before .before .before .before .before .before .before .before .before .before .before .before .before .before .before .before .before .before .before .args .cutting) (c .before .before .before .before .before .before .before .before .before .before .before .before .before .before .before .before .before .before .before .before .args .marks .now) (c .before .before .before .before .before .before .before .before .before .before .before .before .before .before .before .before .before .before .before .before .args .size) (c .before .before .before .before .before .before .before .before .before .before .before .before .before .before .before .before .before .before .before .before .args .tolerance) (c .before .before .before .before .before .before .before .before .before .before .before .before .before .before .before .before .before .before .before .before .args .curves .now) (c .before .before .before .before .before .before .before .before .before .before .before .before .before .before .before .before .before .before .before .before .args .firsts .now) (c .before .before .before .before .before .before .before .before .before .before .before .before .before .before .before .before .before .before .before .before .args .params .now) (c .before .before .before .before .before .before .before .before .before .before .before .before .before .before .before .shared .result) (c .before .before .before .before .before .before .before .before .before .before .before .before .before .before .before .before .before .before .before .before .pre) (c .before .before .before .before .before .before .before .before .before .before .before .before .before .before .before .shared .ensures)) (c .before .before .before .before .before .before .before .before .before .before .before .before .before .before .loop .from) (c .before .before .before .before .before .before .before .before .before .before .before .before .before .before .loop .made) (c .before .before .before .before .before .before .before .before .before .before .before .before .before .before .loop .curves) (c .before .before .before .before .before .before .before .before .before .before .before .before .before .before .loop .firsts) (c .before .before .before .before .before .before .before .before .before .before .before .before .before .before .loop .params) (c .before .before .before .before .before .before .before .before .before .before .before .before .before .before .loop .inv) (c .before .before .before .before .before .before .before .before .before .before .before .before .before .loop-test .taken) (c .before .before .before .before .before .before .before .before .before .fit-block .result) (c .before .before .before .before .before .before .before .before .before .fit-block .last .1 .1 .1 .1 .1 .1 .0) (c .before .before .before .before .before .before .before .before .before .fit-block .last .1 .1 .1 .1 .1 .1 .1 .0) (c .before .before .before .before .before .before .before .before .before .fit-block .last .1 .1 .1 .1 .1 .1 .1 .1 .0) (c .before .before .before .before .before .before .before .before .before .fit-block .ensures) (c .before .out .given .0 .0) (c .before .out .given .1), c .before .before .before .before .before .before .before .before .before .before .before .before .before .loop-test .taken)
+add-made c = omega (arith, numbers (opened (c .before .before .before)), so-few (opened (c .before .before .before)) (more (c .before .before .before)) (ran (c .before .before .before)) (c .before .out .given .0 .0) (c .before .out .given .1), more (c .before .before .before))
 
 add-from : tie.Need-add-from Inv-loop μ-loop
-add-from c = omega (arith, numbers (call (c .before .before .before .before .before .before .before .before .before .before .before .before .before .before .before .before .before .before .before .before .args .cutting) (c .before .before .before .before .before .before .before .before .before .before .before .before .before .before .before .before .before .before .before .before .args .marks .now) (c .before .before .before .before .before .before .before .before .before .before .before .before .before .before .before .before .before .before .before .before .args .size) (c .before .before .before .before .before .before .before .before .before .before .before .before .before .before .before .before .before .before .before .before .args .tolerance) (c .before .before .before .before .before .before .before .before .before .before .before .before .before .before .before .before .before .before .before .before .args .curves .now) (c .before .before .before .before .before .before .before .before .before .before .before .before .before .before .before .before .before .before .before .before .args .firsts .now) (c .before .before .before .before .before .before .before .before .before .before .before .before .before .before .before .before .before .before .before .before .args .params .now) (c .before .before .before .before .before .before .before .before .before .before .before .before .before .before .before .before .before .before .before .before .args .size + c .before .before .before .before .before .before .before .before .before .before .before .before .before .before .before .shared .result)) (asked (c .before .before .before .before .before .before .before .before .before .before .before .before .before .before .before .before .before .before .before .before .args .cutting) (c .before .before .before .before .before .before .before .before .before .before .before .before .before .before .before .before .before .before .before .before .args .marks .now) (c .before .before .before .before .before .before .before .before .before .before .before .before .before .before .before .before .before .before .before .before .args .size) (c .before .before .before .before .before .before .before .before .before .before .before .before .before .before .before .before .before .before .before .before .args .tolerance) (c .before .before .before .before .before .before .before .before .before .before .before .before .before .before .before .before .before .before .before .before .args .curves .now) (c .before .before .before .before .before .before .before .before .before .before .before .before .before .before .before .before .before .before .before .before .args .firsts .now) (c .before .before .before .before .before .before .before .before .before .before .before .before .before .before .before .before .before .before .before .before .args .params .now) (c .before .before .before .before .before .before .before .before .before .before .before .before .before .before .before .shared .result) (c .before .before .before .before .before .before .before .before .before .before .before .before .before .before .before .before .before .before .before .before .pre) (c .before .before .before .before .before .before .before .before .before .before .before .before .before .before .before .shared .ensures)) (c .before .before .before .before .before .before .before .before .before .before .before .before .before .before .loop .from) (c .before .before .before .before .before .before .before .before .before .before .before .before .before .before .loop .made) (c .before .before .before .before .before .before .before .before .before .before .before .before .before .before .loop .curves) (c .before .before .before .before .before .before .before .before .before .before .before .before .before .before .loop .firsts) (c .before .before .before .before .before .before .before .before .before .before .before .before .before .before .loop .params) (c .before .before .before .before .before .before .before .before .before .before .before .before .before .before .loop .inv), c .before .before .before .before .before .before .before .before .before .before .before .before .before .loop-test .taken)
+add-from c = omega (arith, numbers (opened (c .before .before .before)), more (c .before .before .before))
 
 loop-less : tie.Need-loop-less Inv-loop μ-loop
-loop-less c = omega (arith, numbers (call (c .before .before .before .before .before .before .before .before .before .before .before .before .before .before .before .before .before .before .before .before .args .cutting) (c .before .before .before .before .before .before .before .before .before .before .before .before .before .before .before .before .before .before .before .before .args .marks .now) (c .before .before .before .before .before .before .before .before .before .before .before .before .before .before .before .before .before .before .before .before .args .size) (c .before .before .before .before .before .before .before .before .before .before .before .before .before .before .before .before .before .before .before .before .args .tolerance) (c .before .before .before .before .before .before .before .before .before .before .before .before .before .before .before .before .before .before .before .before .args .curves .now) (c .before .before .before .before .before .before .before .before .before .before .before .before .before .before .before .before .before .before .before .before .args .firsts .now) (c .before .before .before .before .before .before .before .before .before .before .before .before .before .before .before .before .before .before .before .before .args .params .now) (c .before .before .before .before .before .before .before .before .before .before .before .before .before .before .before .before .before .before .before .before .args .size + c .before .before .before .before .before .before .before .before .before .before .before .before .before .before .before .shared .result)) (asked (c .before .before .before .before .before .before .before .before .before .before .before .before .before .before .before .before .before .before .before .before .args .cutting) (c .before .before .before .before .before .before .before .before .before .before .before .before .before .before .before .before .before .before .before .before .args .marks .now) (c .before .before .before .before .before .before .before .before .before .before .before .before .before .before .before .before .before .before .before .before .args .size) (c .before .before .before .before .before .before .before .before .before .before .before .before .before .before .before .before .before .before .before .before .args .tolerance) (c .before .before .before .before .before .before .before .before .before .before .before .before .before .before .before .before .before .before .before .before .args .curves .now) (c .before .before .before .before .before .before .before .before .before .before .before .before .before .before .before .before .before .before .before .before .args .firsts .now) (c .before .before .before .before .before .before .before .before .before .before .before .before .before .before .before .before .before .before .before .before .args .params .now) (c .before .before .before .before .before .before .before .before .before .before .before .before .before .before .before .shared .result) (c .before .before .before .before .before .before .before .before .before .before .before .before .before .before .before .before .before .before .before .before .pre) (c .before .before .before .before .before .before .before .before .before .before .before .before .before .before .before .shared .ensures)) (c .before .before .before .before .before .before .before .before .before .before .before .before .before .before .loop .from) (c .before .before .before .before .before .before .before .before .before .before .before .before .before .before .loop .made) (c .before .before .before .before .before .before .before .before .before .before .before .before .before .before .loop .curves) (c .before .before .before .before .before .before .before .before .before .before .before .before .before .before .loop .firsts) (c .before .before .before .before .before .before .before .before .before .before .before .before .before .before .loop .params) (c .before .before .before .before .before .before .before .before .before .before .before .before .before .before .loop .inv), c .before .before .before .before .before .before .before .before .before .before .before .before .before .loop-test .taken)
+loop-less c = omega (arith, numbers (opened (c .before .before .before)), more (c .before .before .before))
 
 loop-again : tie.Need-loop-again Inv-loop μ-loop
-loop-again c = so-more (call (c .before .before .before .before .before .before .before .before .before .before .before .before .before .before .before .before .before .before .before .before .args .cutting) (c .before .before .before .before .before .before .before .before .before .before .before .before .before .before .before .before .before .before .before .before .args .marks .now) (c .before .before .before .before .before .before .before .before .before .before .before .before .before .before .before .before .before .before .before .before .args .size) (c .before .before .before .before .before .before .before .before .before .before .before .before .before .before .before .before .before .before .before .before .args .tolerance) (c .before .before .before .before .before .before .before .before .before .before .before .before .before .before .before .before .before .before .before .before .args .curves .now) (c .before .before .before .before .before .before .before .before .before .before .before .before .before .before .before .before .before .before .before .before .args .firsts .now) (c .before .before .before .before .before .before .before .before .before .before .before .before .before .before .before .before .before .before .before .before .args .params .now) (c .before .before .before .before .before .before .before .before .before .before .before .before .before .before .before .before .before .before .before .before .args .size + c .before .before .before .before .before .before .before .before .before .before .before .before .before .before .before .shared .result)) (asked (c .before .before .before .before .before .before .before .before .before .before .before .before .before .before .before .before .before .before .before .before .args .cutting) (c .before .before .before .before .before .before .before .before .before .before .before .before .before .before .before .before .before .before .before .before .args .marks .now) (c .before .before .before .before .before .before .before .before .before .before .before .before .before .before .before .before .before .before .before .before .args .size) (c .before .before .before .before .before .before .before .before .before .before .before .before .before .before .before .before .before .before .before .before .args .tolerance) (c .before .before .before .before .before .before .before .before .before .before .before .before .before .before .before .before .before .before .before .before .args .curves .now) (c .before .before .before .before .before .before .before .before .before .before .before .before .before .before .before .before .before .before .before .before .args .firsts .now) (c .before .before .before .before .before .before .before .before .before .before .before .before .before .before .before .before .before .before .before .before .args .params .now) (c .before .before .before .before .before .before .before .before .before .before .before .before .before .before .before .shared .result) (c .before .before .before .before .before .before .before .before .before .before .before .before .before .before .before .before .before .before .before .before .pre) (c .before .before .before .before .before .before .before .before .before .before .before .before .before .before .before .shared .ensures)) (c .before .before .before .before .before .before .before .before .before .before .before .before .before .before .loop .from) (c .before .before .before .before .before .before .before .before .before .before .before .before .before .before .loop .made) (c .before .before .before .before .before .before .before .before .before .before .before .before .before .before .loop .curves) (c .before .before .before .before .before .before .before .before .before .before .before .before .before .before .loop .firsts) (c .before .before .before .before .before .before .before .before .before .before .before .before .before .before .loop .params) (c .before .before .before .before .before .before .before .before .before .before .before .before .before .before .loop .inv) (c .before .before .before .before .before .before .before .before .before .before .before .before .before .loop-test .taken) (c .before .before .before .before .before .before .before .before .before .fit-block .result) (c .before .before .before .before .before .before .before .before .before .fit-block .last .1 .1 .1 .1 .1 .1 .0) (c .before .before .before .before .before .before .before .before .before .fit-block .last .1 .1 .1 .1 .1 .1 .1 .0) (c .before .before .before .before .before .before .before .before .before .fit-block .last .1 .1 .1 .1 .1 .1 .1 .1 .0) (c .before .before .before .before .before .before .before .before .before .fit-block .ensures) (c .before .out .given .0 .0) (c .before .out .given .1) (c .before .before .before .before .before .before .before .before .before .fit-block .kept .1 .1 .1 .1 .1 .1 .0) (c .before .before .before .before .before .before .before .before .before .fit-block .kept .1 .1 .1 .1 .1 .1 .1 .0) (c .before .before .before .before .before .before .before .before .before .fit-block .kept .1 .1 .1 .1 .1 .1 .1 .1 .0)
+loop-again c = so-more (opened (c .before .before .before)) (more (c .before .before .before)) (ran (c .before .before .before)) (c .before .out .given .0 .0) (c .before .out .given .1)
 
 sub-if1 : tie.Need-sub-if1 Inv-loop μ-loop
-sub-if1 c = omega (arith, numbers (call (c .before .before .before .before .before .before .before .args .cutting) (c .before .before .before .before .before .before .before .args .marks .now) (c .before .before .before .before .before .before .before .args .size) (c .before .before .before .before .before .before .before .args .tolerance) (c .before .before .before .before .before .before .before .args .curves .now) (c .before .before .before .before .before .before .before .args .firsts .now) (c .before .before .before .before .before .before .before .args .params .now) (c .before .before .before .before .before .before .before .args .size + c .before .before .shared .result)) (asked (c .before .before .before .before .before .before .before .args .cutting) (c .before .before .before .before .before .before .before .args .marks .now) (c .before .before .before .before .before .before .before .args .size) (c .before .before .before .before .before .before .before .args .tolerance) (c .before .before .before .before .before .before .before .args .curves .now) (c .before .before .before .before .before .before .before .args .firsts .now) (c .before .before .before .before .before .before .before .args .params .now) (c .before .before .shared .result) (c .before .before .before .before .before .before .before .pre) (c .before .before .shared .ensures)) (c .before .loop .from) (c .before .loop .made) (c .before .loop .curves) (c .before .loop .firsts) (c .before .loop .params) (c .before .loop .inv))
+sub-if1 c = omega (arith, numbers (head (c .before)))
 
 mul-params : tie.Need-mul-params Inv-loop μ-loop
-mul-params c = omega (arith, numbers (call (c .before .before .before .before .before .before .before .before .args .cutting) (c .before .before .before .before .before .before .before .before .args .marks .now) (c .before .before .before .before .before .before .before .before .args .size) (c .before .before .before .before .before .before .before .before .args .tolerance) (c .before .before .before .before .before .before .before .before .args .curves .now) (c .before .before .before .before .before .before .before .before .args .firsts .now) (c .before .before .before .before .before .before .before .before .args .params .now) (c .before .before .before .before .before .before .before .before .args .size + c .before .before .before .shared .result)) (asked (c .before .before .before .before .before .before .before .before .args .cutting) (c .before .before .before .before .before .before .before .before .args .marks .now) (c .before .before .before .before .before .before .before .before .args .size) (c .before .before .before .before .before .before .before .before .args .tolerance) (c .before .before .before .before .before .before .before .before .args .curves .now) (c .before .before .before .before .before .before .before .before .args .firsts .now) (c .before .before .before .before .before .before .before .before .args .params .now) (c .before .before .before .shared .result) (c .before .before .before .before .before .before .before .before .pre) (c .before .before .before .shared .ensures)) (c .before .before .loop .from) (c .before .before .loop .made) (c .before .before .loop .curves) (c .before .before .loop .firsts) (c .before .before .loop .params) (c .before .before .loop .inv))
+mul-params c = omega (arith, numbers (head (c .before .before)))
 
 slice-write-params : tie.Need-slice-write-params Inv-loop μ-loop
-slice-write-params c = omega (arith, numbers (call (c .before .before .before .before .before .before .before .before .args .cutting) (c .before .before .before .before .before .before .before .before .args .marks .now) (c .before .before .before .before .before .before .before .before .args .size) (c .before .before .before .before .before .before .before .before .args .tolerance) (c .before .before .before .before .before .before .before .before .args .curves .now) (c .before .before .before .before .before .before .before .before .args .firsts .now) (c .before .before .before .before .before .before .before .before .args .params .now) (c .before .before .before .before .before .before .before .before .args .size + c .before .before .before .shared .result)) (asked (c .before .before .before .before .before .before .before .before .args .cutting) (c .before .before .before .before .before .before .before .before .args .marks .now) (c .before .before .before .before .before .before .before .before .args .size) (c .before .before .before .before .before .before .before .before .args .tolerance) (c .before .before .before .before .before .before .before .before .args .curves .now) (c .before .before .before .before .before .before .before .before .args .firsts .now) (c .before .before .before .before .before .before .before .before .args .params .now) (c .before .before .before .shared .result) (c .before .before .before .before .before .before .before .before .pre) (c .before .before .before .shared .ensures)) (c .before .before .loop .from) (c .before .before .loop .made) (c .before .before .loop .curves) (c .before .before .loop .firsts) (c .before .before .loop .params) (c .before .before .loop .inv))
+slice-write-params c = omega (arith, numbers (head (c .before .before)))
 
 same-length-4 : tie.Need-same-length-4 Inv-loop μ-loop
 same-length-4 c = c .before .before .loop .inv .lc
@@ -122,49 +172,49 @@ same-length-6 : tie.Need-same-length-6 Inv-loop μ-loop
 same-length-6 c = simp length-set (c .before .before .loop .inv .lp)
 
 returns-2 : tie.Need-returns-2 Inv-loop μ-loop
-returns-2 c = last-one (call (c .before .before .before .before .before .before .before .before .args .cutting) (c .before .before .before .before .before .before .before .before .args .marks .now) (c .before .before .before .before .before .before .before .before .args .size) (c .before .before .before .before .before .before .before .before .args .tolerance) (c .before .before .before .before .before .before .before .before .args .curves .now) (c .before .before .before .before .before .before .before .before .args .firsts .now) (c .before .before .before .before .before .before .before .before .args .params .now) (c .before .before .before .before .before .before .before .before .args .size + c .before .before .before .shared .result)) (asked (c .before .before .before .before .before .before .before .before .args .cutting) (c .before .before .before .before .before .before .before .before .args .marks .now) (c .before .before .before .before .before .before .before .before .args .size) (c .before .before .before .before .before .before .before .before .args .tolerance) (c .before .before .before .before .before .before .before .before .args .curves .now) (c .before .before .before .before .before .before .before .before .args .firsts .now) (c .before .before .before .before .before .before .before .before .args .params .now) (c .before .before .before .shared .result) (c .before .before .before .before .before .before .before .before .pre) (c .before .before .before .shared .ensures)) (c .before .before .loop .from) (c .before .before .loop .made) (c .before .before .loop .curves) (c .before .before .loop .firsts) (c .before .before .loop .params) (c .before .before .loop .inv) (c .before .loop-test .left) (c .if1 .taken)
+returns-2 c = last-one (head (c .before .before)) (c .before .loop-test .left) (c .if1 .taken)
 
 mul-behind-2 : tie.Need-mul-behind-2 Inv-loop μ-loop
-mul-behind-2 c = omega (arith, numbers (call (c .before .before .before .before .before .before .before .before .args .cutting) (c .before .before .before .before .before .before .before .before .args .marks .now) (c .before .before .before .before .before .before .before .before .args .size) (c .before .before .before .before .before .before .before .before .args .tolerance) (c .before .before .before .before .before .before .before .before .args .curves .now) (c .before .before .before .before .before .before .before .before .args .firsts .now) (c .before .before .before .before .before .before .before .before .args .params .now) (c .before .before .before .before .before .before .before .before .args .size + c .before .before .before .shared .result)) (asked (c .before .before .before .before .before .before .before .before .args .cutting) (c .before .before .before .before .before .before .before .before .args .marks .now) (c .before .before .before .before .before .before .before .before .args .size) (c .before .before .before .before .before .before .before .before .args .tolerance) (c .before .before .before .before .before .before .before .before .args .curves .now) (c .before .before .before .before .before .before .before .before .args .firsts .now) (c .before .before .before .before .before .before .before .before .args .params .now) (c .before .before .before .shared .result) (c .before .before .before .before .before .before .before .before .pre) (c .before .before .before .shared .ensures)) (c .before .before .loop .from) (c .before .before .loop .made) (c .before .before .loop .curves) (c .before .before .loop .firsts) (c .before .before .loop .params) (c .before .before .loop .inv))
+mul-behind-2 c = omega (arith, numbers (head (c .before .before)))
 
 mul-fit-block-4 : tie.Need-mul-fit-block-4 Inv-loop μ-loop
-mul-fit-block-4 c = omega (arith, numbers (call (c .before .before .before .before .before .before .before .before .args .cutting) (c .before .before .before .before .before .before .before .before .args .marks .now) (c .before .before .before .before .before .before .before .before .args .size) (c .before .before .before .before .before .before .before .before .args .tolerance) (c .before .before .before .before .before .before .before .before .args .curves .now) (c .before .before .before .before .before .before .before .before .args .firsts .now) (c .before .before .before .before .before .before .before .before .args .params .now) (c .before .before .before .before .before .before .before .before .args .size + c .before .before .before .shared .result)) (asked (c .before .before .before .before .before .before .before .before .args .cutting) (c .before .before .before .before .before .before .before .before .args .marks .now) (c .before .before .before .before .before .before .before .before .args .size) (c .before .before .before .before .before .before .before .before .args .tolerance) (c .before .before .before .before .before .before .before .before .args .curves .now) (c .before .before .before .before .before .before .before .before .args .firsts .now) (c .before .before .before .before .before .before .before .before .args .params .now) (c .before .before .before .shared .result) (c .before .before .before .before .before .before .before .before .pre) (c .before .before .before .shared .ensures)) (c .before .before .loop .from) (c .before .before .loop .made) (c .before .before .loop .curves) (c .before .before .loop .firsts) (c .before .before .loop .params) (c .before .before .loop .inv))
+mul-fit-block-4 c = omega (arith, numbers (head (c .before .before)))
 
 sub-fit-block-4 : tie.Need-sub-fit-block-4 Inv-loop μ-loop
-sub-fit-block-4 c = omega (arith, numbers (call (c .before .before .before .before .before .before .before .before .args .cutting) (c .before .before .before .before .before .before .before .before .args .marks .now) (c .before .before .before .before .before .before .before .before .args .size) (c .before .before .before .before .before .before .before .before .args .tolerance) (c .before .before .before .before .before .before .before .before .args .curves .now) (c .before .before .before .before .before .before .before .before .args .firsts .now) (c .before .before .before .before .before .before .before .before .args .params .now) (c .before .before .before .before .before .before .before .before .args .size + c .before .before .before .shared .result)) (asked (c .before .before .before .before .before .before .before .before .args .cutting) (c .before .before .before .before .before .before .before .before .args .marks .now) (c .before .before .before .before .before .before .before .before .args .size) (c .before .before .before .before .before .before .before .before .args .tolerance) (c .before .before .before .before .before .before .before .before .args .curves .now) (c .before .before .before .before .before .before .before .before .args .firsts .now) (c .before .before .before .before .before .before .before .before .args .params .now) (c .before .before .before .shared .result) (c .before .before .before .before .before .before .before .before .pre) (c .before .before .before .shared .ensures)) (c .before .before .loop .from) (c .before .before .loop .made) (c .before .before .loop .curves) (c .before .before .loop .firsts) (c .before .before .loop .params) (c .before .before .loop .inv))
+sub-fit-block-4 c = omega (arith, numbers (head (c .before .before)))
 
 part-fit-block-start-4 : tie.Need-part-fit-block-start-4 Inv-loop μ-loop
-part-fit-block-start-4 c = omega (arith, numbers (call (c .before .before .before .before .before .before .before .before .args .cutting) (c .before .before .before .before .before .before .before .before .args .marks .now) (c .before .before .before .before .before .before .before .before .args .size) (c .before .before .before .before .before .before .before .before .args .tolerance) (c .before .before .before .before .before .before .before .before .args .curves .now) (c .before .before .before .before .before .before .before .before .args .firsts .now) (c .before .before .before .before .before .before .before .before .args .params .now) (c .before .before .before .before .before .before .before .before .args .size + c .before .before .before .shared .result)) (asked (c .before .before .before .before .before .before .before .before .args .cutting) (c .before .before .before .before .before .before .before .before .args .marks .now) (c .before .before .before .before .before .before .before .before .args .size) (c .before .before .before .before .before .before .before .before .args .tolerance) (c .before .before .before .before .before .before .before .before .args .curves .now) (c .before .before .before .before .before .before .before .before .args .firsts .now) (c .before .before .before .before .before .before .before .before .args .params .now) (c .before .before .before .shared .result) (c .before .before .before .before .before .before .before .before .pre) (c .before .before .before .shared .ensures)) (c .before .before .loop .from) (c .before .before .loop .made) (c .before .before .loop .curves) (c .before .before .loop .firsts) (c .before .before .loop .params) (c .before .before .loop .inv))
+part-fit-block-start-4 c = omega (arith, numbers (head (c .before .before)))
 
 part-fit-block-end-4 : tie.Need-part-fit-block-end-4 Inv-loop μ-loop
-part-fit-block-end-4 c = omega (arith, numbers (call (c .before .before .before .before .before .before .before .before .args .cutting) (c .before .before .before .before .before .before .before .before .args .marks .now) (c .before .before .before .before .before .before .before .before .args .size) (c .before .before .before .before .before .before .before .before .args .tolerance) (c .before .before .before .before .before .before .before .before .args .curves .now) (c .before .before .before .before .before .before .before .before .args .firsts .now) (c .before .before .before .before .before .before .before .before .args .params .now) (c .before .before .before .before .before .before .before .before .args .size + c .before .before .before .shared .result)) (asked (c .before .before .before .before .before .before .before .before .args .cutting) (c .before .before .before .before .before .before .before .before .args .marks .now) (c .before .before .before .before .before .before .before .before .args .size) (c .before .before .before .before .before .before .before .before .args .tolerance) (c .before .before .before .before .before .before .before .before .args .curves .now) (c .before .before .before .before .before .before .before .before .args .firsts .now) (c .before .before .before .before .before .before .before .before .args .params .now) (c .before .before .before .shared .result) (c .before .before .before .before .before .before .before .before .pre) (c .before .before .before .shared .ensures)) (c .before .before .loop .from) (c .before .before .loop .made) (c .before .before .loop .curves) (c .before .before .loop .firsts) (c .before .before .loop .params) (c .before .before .loop .inv))
+part-fit-block-end-4 c = omega (arith, numbers (head (c .before .before)))
 
 mul-fit-block-5 : tie.Need-mul-fit-block-5 Inv-loop μ-loop
-mul-fit-block-5 c = omega (arith, numbers (call (c .before .before .before .before .before .before .before .before .before .args .cutting) (c .before .before .before .before .before .before .before .before .before .args .marks .now) (c .before .before .before .before .before .before .before .before .before .args .size) (c .before .before .before .before .before .before .before .before .before .args .tolerance) (c .before .before .before .before .before .before .before .before .before .args .curves .now) (c .before .before .before .before .before .before .before .before .before .args .firsts .now) (c .before .before .before .before .before .before .before .before .before .args .params .now) (c .before .before .before .before .before .before .before .before .before .args .size + c .before .before .before .before .shared .result)) (asked (c .before .before .before .before .before .before .before .before .before .args .cutting) (c .before .before .before .before .before .before .before .before .before .args .marks .now) (c .before .before .before .before .before .before .before .before .before .args .size) (c .before .before .before .before .before .before .before .before .before .args .tolerance) (c .before .before .before .before .before .before .before .before .before .args .curves .now) (c .before .before .before .before .before .before .before .before .before .args .firsts .now) (c .before .before .before .before .before .before .before .before .before .args .params .now) (c .before .before .before .before .shared .result) (c .before .before .before .before .before .before .before .before .before .pre) (c .before .before .before .before .shared .ensures)) (c .before .before .before .loop .from) (c .before .before .before .loop .made) (c .before .before .before .loop .curves) (c .before .before .before .loop .firsts) (c .before .before .before .loop .params) (c .before .before .before .loop .inv))
+mul-fit-block-5 c = omega (arith, numbers (head (c .before .before .before)))
 
 sub-fit-block-5 : tie.Need-sub-fit-block-5 Inv-loop μ-loop
-sub-fit-block-5 c = omega (arith, numbers (call (c .before .before .before .before .before .before .before .before .before .args .cutting) (c .before .before .before .before .before .before .before .before .before .args .marks .now) (c .before .before .before .before .before .before .before .before .before .args .size) (c .before .before .before .before .before .before .before .before .before .args .tolerance) (c .before .before .before .before .before .before .before .before .before .args .curves .now) (c .before .before .before .before .before .before .before .before .before .args .firsts .now) (c .before .before .before .before .before .before .before .before .before .args .params .now) (c .before .before .before .before .before .before .before .before .before .args .size + c .before .before .before .before .shared .result)) (asked (c .before .before .before .before .before .before .before .before .before .args .cutting) (c .before .before .before .before .before .before .before .before .before .args .marks .now) (c .before .before .before .before .before .before .before .before .before .args .size) (c .before .before .before .before .before .before .before .before .before .args .tolerance) (c .before .before .before .before .before .before .before .before .before .args .curves .now) (c .before .before .before .before .before .before .before .before .before .args .firsts .now) (c .before .before .before .before .before .before .before .before .before .args .params .now) (c .before .before .before .before .shared .result) (c .before .before .before .before .before .before .before .before .before .pre) (c .before .before .before .before .shared .ensures)) (c .before .before .before .loop .from) (c .before .before .before .loop .made) (c .before .before .before .loop .curves) (c .before .before .before .loop .firsts) (c .before .before .before .loop .params) (c .before .before .before .loop .inv))
+sub-fit-block-5 c = omega (arith, numbers (head (c .before .before .before)))
 
 part-fit-block-start-5 : tie.Need-part-fit-block-start-5 Inv-loop μ-loop
-part-fit-block-start-5 c = omega (arith, numbers (call (c .before .before .before .before .before .before .before .before .before .args .cutting) (c .before .before .before .before .before .before .before .before .before .args .marks .now) (c .before .before .before .before .before .before .before .before .before .args .size) (c .before .before .before .before .before .before .before .before .before .args .tolerance) (c .before .before .before .before .before .before .before .before .before .args .curves .now) (c .before .before .before .before .before .before .before .before .before .args .firsts .now) (c .before .before .before .before .before .before .before .before .before .args .params .now) (c .before .before .before .before .before .before .before .before .before .args .size + c .before .before .before .before .shared .result)) (asked (c .before .before .before .before .before .before .before .before .before .args .cutting) (c .before .before .before .before .before .before .before .before .before .args .marks .now) (c .before .before .before .before .before .before .before .before .before .args .size) (c .before .before .before .before .before .before .before .before .before .args .tolerance) (c .before .before .before .before .before .before .before .before .before .args .curves .now) (c .before .before .before .before .before .before .before .before .before .args .firsts .now) (c .before .before .before .before .before .before .before .before .before .args .params .now) (c .before .before .before .before .shared .result) (c .before .before .before .before .before .before .before .before .before .pre) (c .before .before .before .before .shared .ensures)) (c .before .before .before .loop .from) (c .before .before .before .loop .made) (c .before .before .before .loop .curves) (c .before .before .before .loop .firsts) (c .before .before .before .loop .params) (c .before .before .before .loop .inv))
+part-fit-block-start-5 c = omega (arith, numbers (head (c .before .before .before)))
 
 part-fit-block-end-5 : tie.Need-part-fit-block-end-5 Inv-loop μ-loop
-part-fit-block-end-5 c = omega (arith, numbers (call (c .before .before .before .before .before .before .before .before .before .args .cutting) (c .before .before .before .before .before .before .before .before .before .args .marks .now) (c .before .before .before .before .before .before .before .before .before .args .size) (c .before .before .before .before .before .before .before .before .before .args .tolerance) (c .before .before .before .before .before .before .before .before .before .args .curves .now) (c .before .before .before .before .before .before .before .before .before .args .firsts .now) (c .before .before .before .before .before .before .before .before .before .args .params .now) (c .before .before .before .before .before .before .before .before .before .args .size + c .before .before .before .before .shared .result)) (asked (c .before .before .before .before .before .before .before .before .before .args .cutting) (c .before .before .before .before .before .before .before .before .before .args .marks .now) (c .before .before .before .before .before .before .before .before .before .args .size) (c .before .before .before .before .before .before .before .before .before .args .tolerance) (c .before .before .before .before .before .before .before .before .before .args .curves .now) (c .before .before .before .before .before .before .before .before .before .args .firsts .now) (c .before .before .before .before .before .before .before .before .before .args .params .now) (c .before .before .before .before .shared .result) (c .before .before .before .before .before .before .before .before .before .pre) (c .before .before .before .before .shared .ensures)) (c .before .before .before .loop .from) (c .before .before .before .loop .made) (c .before .before .before .loop .curves) (c .before .before .before .loop .firsts) (c .before .before .before .loop .params) (c .before .before .before .loop .inv))
+part-fit-block-end-5 c = omega (arith, numbers (head (c .before .before .before)))
 
 mul-fit-block-6 : tie.Need-mul-fit-block-6 Inv-loop μ-loop
-mul-fit-block-6 c = omega (arith, numbers (call (c .before .before .before .before .before .before .before .before .before .before .args .cutting) (c .before .before .before .before .before .before .before .before .before .before .args .marks .now) (c .before .before .before .before .before .before .before .before .before .before .args .size) (c .before .before .before .before .before .before .before .before .before .before .args .tolerance) (c .before .before .before .before .before .before .before .before .before .before .args .curves .now) (c .before .before .before .before .before .before .before .before .before .before .args .firsts .now) (c .before .before .before .before .before .before .before .before .before .before .args .params .now) (c .before .before .before .before .before .before .before .before .before .before .args .size + c .before .before .before .before .before .shared .result)) (asked (c .before .before .before .before .before .before .before .before .before .before .args .cutting) (c .before .before .before .before .before .before .before .before .before .before .args .marks .now) (c .before .before .before .before .before .before .before .before .before .before .args .size) (c .before .before .before .before .before .before .before .before .before .before .args .tolerance) (c .before .before .before .before .before .before .before .before .before .before .args .curves .now) (c .before .before .before .before .before .before .before .before .before .before .args .firsts .now) (c .before .before .before .before .before .before .before .before .before .before .args .params .now) (c .before .before .before .before .before .shared .result) (c .before .before .before .before .before .before .before .before .before .before .pre) (c .before .before .before .before .before .shared .ensures)) (c .before .before .before .before .loop .from) (c .before .before .before .before .loop .made) (c .before .before .before .before .loop .curves) (c .before .before .before .before .loop .firsts) (c .before .before .before .before .loop .params) (c .before .before .before .before .loop .inv))
+mul-fit-block-6 c = omega (arith, numbers (head (c .before .before .before .before)))
 
 sub-fit-block-6 : tie.Need-sub-fit-block-6 Inv-loop μ-loop
-sub-fit-block-6 c = omega (arith, numbers (call (c .before .before .before .before .before .before .before .before .before .before .args .cutting) (c .before .before .before .before .before .before .before .before .before .before .args .marks .now) (c .before .before .before .before .before .before .before .before .before .before .args .size) (c .before .before .before .before .before .before .before .before .before .before .args .tolerance) (c .before .before .before .before .before .before .before .before .before .before .args .curves .now) (c .before .before .before .before .before .before .before .before .before .before .args .firsts .now) (c .before .before .before .before .before .before .before .before .before .before .args .params .now) (c .before .before .before .before .before .before .before .before .before .before .args .size + c .before .before .before .before .before .shared .result)) (asked (c .before .before .before .before .before .before .before .before .before .before .args .cutting) (c .before .before .before .before .before .before .before .before .before .before .args .marks .now) (c .before .before .before .before .before .before .before .before .before .before .args .size) (c .before .before .before .before .before .before .before .before .before .before .args .tolerance) (c .before .before .before .before .before .before .before .before .before .before .args .curves .now) (c .before .before .before .before .before .before .before .before .before .before .args .firsts .now) (c .before .before .before .before .before .before .before .before .before .before .args .params .now) (c .before .before .before .before .before .shared .result) (c .before .before .before .before .before .before .before .before .before .before .pre) (c .before .before .before .before .before .shared .ensures)) (c .before .before .before .before .loop .from) (c .before .before .before .before .loop .made) (c .before .before .before .before .loop .curves) (c .before .before .before .before .loop .firsts) (c .before .before .before .before .loop .params) (c .before .before .before .before .loop .inv))
+sub-fit-block-6 c = omega (arith, numbers (head (c .before .before .before .before)))
 
 part-fit-block-start-6 : tie.Need-part-fit-block-start-6 Inv-loop μ-loop
-part-fit-block-start-6 c = omega (arith, numbers (call (c .before .before .before .before .before .before .before .before .before .before .args .cutting) (c .before .before .before .before .before .before .before .before .before .before .args .marks .now) (c .before .before .before .before .before .before .before .before .before .before .args .size) (c .before .before .before .before .before .before .before .before .before .before .args .tolerance) (c .before .before .before .before .before .before .before .before .before .before .args .curves .now) (c .before .before .before .before .before .before .before .before .before .before .args .firsts .now) (c .before .before .before .before .before .before .before .before .before .before .args .params .now) (c .before .before .before .before .before .before .before .before .before .before .args .size + c .before .before .before .before .before .shared .result)) (asked (c .before .before .before .before .before .before .before .before .before .before .args .cutting) (c .before .before .before .before .before .before .before .before .before .before .args .marks .now) (c .before .before .before .before .before .before .before .before .before .before .args .size) (c .before .before .before .before .before .before .before .before .before .before .args .tolerance) (c .before .before .before .before .before .before .before .before .before .before .args .curves .now) (c .before .before .before .before .before .before .before .before .before .before .args .firsts .now) (c .before .before .before .before .before .before .before .before .before .before .args .params .now) (c .before .before .before .before .before .shared .result) (c .before .before .before .before .before .before .before .before .before .before .pre) (c .before .before .before .before .before .shared .ensures)) (c .before .before .before .before .loop .from) (c .before .before .before .before .loop .made) (c .before .before .before .before .loop .curves) (c .before .before .before .before .loop .firsts) (c .before .before .before .before .loop .params) (c .before .before .before .before .loop .inv))
+part-fit-block-start-6 c = omega (arith, numbers (head (c .before .before .before .before)))
 
 part-fit-block-end-6 : tie.Need-part-fit-block-end-6 Inv-loop μ-loop
-part-fit-block-end-6 c = omega (arith, numbers (call (c .before .before .before .before .before .before .before .before .before .before .args .cutting) (c .before .before .before .before .before .before .before .before .before .before .args .marks .now) (c .before .before .before .before .before .before .before .before .before .before .args .size) (c .before .before .before .before .before .before .before .before .before .before .args .tolerance) (c .before .before .before .before .before .before .before .before .before .before .args .curves .now) (c .before .before .before .before .before .before .before .before .before .before .args .firsts .now) (c .before .before .before .before .before .before .before .before .before .before .args .params .now) (c .before .before .before .before .before .before .before .before .before .before .args .size + c .before .before .before .before .before .shared .result)) (asked (c .before .before .before .before .before .before .before .before .before .before .args .cutting) (c .before .before .before .before .before .before .before .before .before .before .args .marks .now) (c .before .before .before .before .before .before .before .before .before .before .args .size) (c .before .before .before .before .before .before .before .before .before .before .args .tolerance) (c .before .before .before .before .before .before .before .before .before .before .args .curves .now) (c .before .before .before .before .before .before .before .before .before .before .args .firsts .now) (c .before .before .before .before .before .before .before .before .before .before .args .params .now) (c .before .before .before .before .before .shared .result) (c .before .before .before .before .before .before .before .before .before .before .pre) (c .before .before .before .before .before .shared .ensures)) (c .before .before .before .before .loop .from) (c .before .before .before .before .loop .made) (c .before .before .before .before .loop .curves) (c .before .before .before .before .loop .firsts) (c .before .before .before .before .loop .params) (c .before .before .before .before .loop .inv))
+part-fit-block-end-6 c = omega (arith, numbers (head (c .before .before .before .before)))
 
 fit-block-requires-2 : tie.Need-fit-block-requires-2 Inv-loop μ-loop
-fit-block-requires-2 c κs = last-asks (call (c .before .before .before .before .before .before .before .before .before .before .before .args .cutting) (c .before .before .before .before .before .before .before .before .before .before .before .args .marks .now) (c .before .before .before .before .before .before .before .before .before .before .before .args .size) (c .before .before .before .before .before .before .before .before .before .before .before .args .tolerance) (c .before .before .before .before .before .before .before .before .before .before .before .args .curves .now) (c .before .before .before .before .before .before .before .before .before .before .before .args .firsts .now) (c .before .before .before .before .before .before .before .before .before .before .before .args .params .now) (c .before .before .before .before .before .before .before .before .before .before .before .args .size + c .before .before .before .before .before .before .shared .result)) (asked (c .before .before .before .before .before .before .before .before .before .before .before .args .cutting) (c .before .before .before .before .before .before .before .before .before .before .before .args .marks .now) (c .before .before .before .before .before .before .before .before .before .before .before .args .size) (c .before .before .before .before .before .before .before .before .before .before .before .args .tolerance) (c .before .before .before .before .before .before .before .before .before .before .before .args .curves .now) (c .before .before .before .before .before .before .before .before .before .before .before .args .firsts .now) (c .before .before .before .before .before .before .before .before .before .before .before .args .params .now) (c .before .before .before .before .before .before .shared .result) (c .before .before .before .before .before .before .before .before .before .before .before .pre) (c .before .before .before .before .before .before .shared .ensures)) (c .before .before .before .before .before .loop .from) (c .before .before .before .before .before .loop .made) (c .before .before .before .before .before .loop .curves) (c .before .before .before .before .before .loop .firsts) (c .before .before .before .before .before .loop .params) (c .before .before .before .before .before .loop .inv) (c .before .before .before .before .loop-test .left) (c .before .before .before .if1 .left)
+fit-block-requires-2 c κs = last-asks (head (c .before .before .before .before .before)) (c .before .before .before .before .loop-test .left) (c .before .before .before .if1 .left)
 
 enum-known-out-2 : tie.Need-enum-known-out-2 Inv-loop μ-loop
 enum-known-out-2 c = search needs
@@ -173,31 +223,31 @@ enum-told-2 : tie.Need-enum-told-2 Inv-loop μ-loop
 enum-told-2 c = search needs
 
 same-length-7 : tie.Need-same-length-7 Inv-loop μ-loop
-same-length-7 c = part-length (8 * c .before .before .before .before .before .before .before .before .before .before .before .before .before .before .loop .made) _ (c .before .before .before .before .before .before .before .before .before .before .before .before .before .before .loop .curves) (c .before .before .before .before .before .before .before .before .fit-block2 .last .1 .1 .1 .1 .1 .1 .0) (omega (arith, numbers (call (c .before .before .before .before .before .before .before .before .before .before .before .before .before .before .before .before .before .before .before .before .args .cutting) (c .before .before .before .before .before .before .before .before .before .before .before .before .before .before .before .before .before .before .before .before .args .marks .now) (c .before .before .before .before .before .before .before .before .before .before .before .before .before .before .before .before .before .before .before .before .args .size) (c .before .before .before .before .before .before .before .before .before .before .before .before .before .before .before .before .before .before .before .before .args .tolerance) (c .before .before .before .before .before .before .before .before .before .before .before .before .before .before .before .before .before .before .before .before .args .curves .now) (c .before .before .before .before .before .before .before .before .before .before .before .before .before .before .before .before .before .before .before .before .args .firsts .now) (c .before .before .before .before .before .before .before .before .before .before .before .before .before .before .before .before .before .before .before .before .args .params .now) (c .before .before .before .before .before .before .before .before .before .before .before .before .before .before .before .before .before .before .before .before .args .size + c .before .before .before .before .before .before .before .before .before .before .before .before .before .before .before .shared .result)) (asked (c .before .before .before .before .before .before .before .before .before .before .before .before .before .before .before .before .before .before .before .before .args .cutting) (c .before .before .before .before .before .before .before .before .before .before .before .before .before .before .before .before .before .before .before .before .args .marks .now) (c .before .before .before .before .before .before .before .before .before .before .before .before .before .before .before .before .before .before .before .before .args .size) (c .before .before .before .before .before .before .before .before .before .before .before .before .before .before .before .before .before .before .before .before .args .tolerance) (c .before .before .before .before .before .before .before .before .before .before .before .before .before .before .before .before .before .before .before .before .args .curves .now) (c .before .before .before .before .before .before .before .before .before .before .before .before .before .before .before .before .before .before .before .before .args .firsts .now) (c .before .before .before .before .before .before .before .before .before .before .before .before .before .before .before .before .before .before .before .before .args .params .now) (c .before .before .before .before .before .before .before .before .before .before .before .before .before .before .before .shared .result) (c .before .before .before .before .before .before .before .before .before .before .before .before .before .before .before .before .before .before .before .before .pre) (c .before .before .before .before .before .before .before .before .before .before .before .before .before .before .before .shared .ensures)) (c .before .before .before .before .before .before .before .before .before .before .before .before .before .before .loop .from) (c .before .before .before .before .before .before .before .before .before .before .before .before .before .before .loop .made) (c .before .before .before .before .before .before .before .before .before .before .before .before .before .before .loop .curves) (c .before .before .before .before .before .before .before .before .before .before .before .before .before .before .loop .firsts) (c .before .before .before .before .before .before .before .before .before .before .before .before .before .before .loop .params) (c .before .before .before .before .before .before .before .before .before .before .before .before .before .before .loop .inv))) refl (c .before .before .before .before .before .before .before .before .fit-block2 .kept .1 .1 .1 .1 .1 .1 .0) ∙ c .before .before .before .before .before .before .before .before .before .before .before .before .before .before .loop .inv .lc
+same-length-7 c = as-long-curves (closed (c .before .before)) (last (c .before .before))
 
 same-length-8 : tie.Need-same-length-8 Inv-loop μ-loop
-same-length-8 c = part-length (c .before .before .before .before .before .before .before .before .before .before .before .before .before .before .loop .made) _ (c .before .before .before .before .before .before .before .before .before .before .before .before .before .before .loop .firsts) (c .before .before .before .before .before .before .before .before .fit-block2 .last .1 .1 .1 .1 .1 .1 .1 .0) (omega (arith, numbers (call (c .before .before .before .before .before .before .before .before .before .before .before .before .before .before .before .before .before .before .before .before .args .cutting) (c .before .before .before .before .before .before .before .before .before .before .before .before .before .before .before .before .before .before .before .before .args .marks .now) (c .before .before .before .before .before .before .before .before .before .before .before .before .before .before .before .before .before .before .before .before .args .size) (c .before .before .before .before .before .before .before .before .before .before .before .before .before .before .before .before .before .before .before .before .args .tolerance) (c .before .before .before .before .before .before .before .before .before .before .before .before .before .before .before .before .before .before .before .before .args .curves .now) (c .before .before .before .before .before .before .before .before .before .before .before .before .before .before .before .before .before .before .before .before .args .firsts .now) (c .before .before .before .before .before .before .before .before .before .before .before .before .before .before .before .before .before .before .before .before .args .params .now) (c .before .before .before .before .before .before .before .before .before .before .before .before .before .before .before .before .before .before .before .before .args .size + c .before .before .before .before .before .before .before .before .before .before .before .before .before .before .before .shared .result)) (asked (c .before .before .before .before .before .before .before .before .before .before .before .before .before .before .before .before .before .before .before .before .args .cutting) (c .before .before .before .before .before .before .before .before .before .before .before .before .before .before .before .before .before .before .before .before .args .marks .now) (c .before .before .before .before .before .before .before .before .before .before .before .before .before .before .before .before .before .before .before .before .args .size) (c .before .before .before .before .before .before .before .before .before .before .before .before .before .before .before .before .before .before .before .before .args .tolerance) (c .before .before .before .before .before .before .before .before .before .before .before .before .before .before .before .before .before .before .before .before .args .curves .now) (c .before .before .before .before .before .before .before .before .before .before .before .before .before .before .before .before .before .before .before .before .args .firsts .now) (c .before .before .before .before .before .before .before .before .before .before .before .before .before .before .before .before .before .before .before .before .args .params .now) (c .before .before .before .before .before .before .before .before .before .before .before .before .before .before .before .shared .result) (c .before .before .before .before .before .before .before .before .before .before .before .before .before .before .before .before .before .before .before .before .pre) (c .before .before .before .before .before .before .before .before .before .before .before .before .before .before .before .shared .ensures)) (c .before .before .before .before .before .before .before .before .before .before .before .before .before .before .loop .from) (c .before .before .before .before .before .before .before .before .before .before .before .before .before .before .loop .made) (c .before .before .before .before .before .before .before .before .before .before .before .before .before .before .loop .curves) (c .before .before .before .before .before .before .before .before .before .before .before .before .before .before .loop .firsts) (c .before .before .before .before .before .before .before .before .before .before .before .before .before .before .loop .params) (c .before .before .before .before .before .before .before .before .before .before .before .before .before .before .loop .inv))) refl (c .before .before .before .before .before .before .before .before .fit-block2 .kept .1 .1 .1 .1 .1 .1 .1 .0) ∙ c .before .before .before .before .before .before .before .before .before .before .before .before .before .before .loop .inv .lf
+same-length-8 c = as-long-firsts (closed (c .before .before)) (last (c .before .before))
 
 same-length-9 : tie.Need-same-length-9 Inv-loop μ-loop
-same-length-9 c = part-length (c .before .before .before .before .before .before .before .before .before .before .before .before .before .before .loop .from) _ (c .before .before .before .before .before .before .before .before .before .before .before .before .before .before .loop .params) (c .before .before .before .before .before .before .before .before .fit-block2 .last .1 .1 .1 .1 .1 .1 .1 .1 .0) (omega (arith, numbers (call (c .before .before .before .before .before .before .before .before .before .before .before .before .before .before .before .before .before .before .before .before .args .cutting) (c .before .before .before .before .before .before .before .before .before .before .before .before .before .before .before .before .before .before .before .before .args .marks .now) (c .before .before .before .before .before .before .before .before .before .before .before .before .before .before .before .before .before .before .before .before .args .size) (c .before .before .before .before .before .before .before .before .before .before .before .before .before .before .before .before .before .before .before .before .args .tolerance) (c .before .before .before .before .before .before .before .before .before .before .before .before .before .before .before .before .before .before .before .before .args .curves .now) (c .before .before .before .before .before .before .before .before .before .before .before .before .before .before .before .before .before .before .before .before .args .firsts .now) (c .before .before .before .before .before .before .before .before .before .before .before .before .before .before .before .before .before .before .before .before .args .params .now) (c .before .before .before .before .before .before .before .before .before .before .before .before .before .before .before .before .before .before .before .before .args .size + c .before .before .before .before .before .before .before .before .before .before .before .before .before .before .before .shared .result)) (asked (c .before .before .before .before .before .before .before .before .before .before .before .before .before .before .before .before .before .before .before .before .args .cutting) (c .before .before .before .before .before .before .before .before .before .before .before .before .before .before .before .before .before .before .before .before .args .marks .now) (c .before .before .before .before .before .before .before .before .before .before .before .before .before .before .before .before .before .before .before .before .args .size) (c .before .before .before .before .before .before .before .before .before .before .before .before .before .before .before .before .before .before .before .before .args .tolerance) (c .before .before .before .before .before .before .before .before .before .before .before .before .before .before .before .before .before .before .before .before .args .curves .now) (c .before .before .before .before .before .before .before .before .before .before .before .before .before .before .before .before .before .before .before .before .args .firsts .now) (c .before .before .before .before .before .before .before .before .before .before .before .before .before .before .before .before .before .before .before .before .args .params .now) (c .before .before .before .before .before .before .before .before .before .before .before .before .before .before .before .shared .result) (c .before .before .before .before .before .before .before .before .before .before .before .before .before .before .before .before .before .before .before .before .pre) (c .before .before .before .before .before .before .before .before .before .before .before .before .before .before .before .shared .ensures)) (c .before .before .before .before .before .before .before .before .before .before .before .before .before .before .loop .from) (c .before .before .before .before .before .before .before .before .before .before .before .before .before .before .loop .made) (c .before .before .before .before .before .before .before .before .before .before .before .before .before .before .loop .curves) (c .before .before .before .before .before .before .before .before .before .before .before .before .before .before .loop .firsts) (c .before .before .before .before .before .before .before .before .before .before .before .before .before .before .loop .params) (c .before .before .before .before .before .before .before .before .before .before .before .before .before .before .loop .inv))) refl (c .before .before .before .before .before .before .before .before .fit-block2 .kept .1 .1 .1 .1 .1 .1 .1 .1 .0) ∙ c .before .before .before .before .before .before .before .before .before .before .before .before .before .before .loop .inv .lp
+same-length-9 c = as-long-params (closed (c .before .before)) (last (c .before .before)) (omega (arith, numbers (closed (c .before .before))))
 
 returns-3 : tie.Need-returns-3 Inv-loop μ-loop
-returns-3 c = last-stops (call (c .before .before .before .before .before .before .before .before .before .before .before .before .before .before .before .before .before .before .before .before .args .cutting) (c .before .before .before .before .before .before .before .before .before .before .before .before .before .before .before .before .before .before .before .before .args .marks .now) (c .before .before .before .before .before .before .before .before .before .before .before .before .before .before .before .before .before .before .before .before .args .size) (c .before .before .before .before .before .before .before .before .before .before .before .before .before .before .before .before .before .before .before .before .args .tolerance) (c .before .before .before .before .before .before .before .before .before .before .before .before .before .before .before .before .before .before .before .before .args .curves .now) (c .before .before .before .before .before .before .before .before .before .before .before .before .before .before .before .before .before .before .before .before .args .firsts .now) (c .before .before .before .before .before .before .before .before .before .before .before .before .before .before .before .before .before .before .before .before .args .params .now) (c .before .before .before .before .before .before .before .before .before .before .before .before .before .before .before .before .before .before .before .before .args .size + c .before .before .before .before .before .before .before .before .before .before .before .before .before .before .before .shared .result)) (asked (c .before .before .before .before .before .before .before .before .before .before .before .before .before .before .before .before .before .before .before .before .args .cutting) (c .before .before .before .before .before .before .before .before .before .before .before .before .before .before .before .before .before .before .before .before .args .marks .now) (c .before .before .before .before .before .before .before .before .before .before .before .before .before .before .before .before .before .before .before .before .args .size) (c .before .before .before .before .before .before .before .before .before .before .before .before .before .before .before .before .before .before .before .before .args .tolerance) (c .before .before .before .before .before .before .before .before .before .before .before .before .before .before .before .before .before .before .before .before .args .curves .now) (c .before .before .before .before .before .before .before .before .before .before .before .before .before .before .before .before .before .before .before .before .args .firsts .now) (c .before .before .before .before .before .before .before .before .before .before .before .before .before .before .before .before .before .before .before .before .args .params .now) (c .before .before .before .before .before .before .before .before .before .before .before .before .before .before .before .shared .result) (c .before .before .before .before .before .before .before .before .before .before .before .before .before .before .before .before .before .before .before .before .pre) (c .before .before .before .before .before .before .before .before .before .before .before .before .before .before .before .shared .ensures)) (c .before .before .before .before .before .before .before .before .before .before .before .before .before .before .loop .from) (c .before .before .before .before .before .before .before .before .before .before .before .before .before .before .loop .made) (c .before .before .before .before .before .before .before .before .before .before .before .before .before .before .loop .curves) (c .before .before .before .before .before .before .before .before .before .before .before .before .before .before .loop .firsts) (c .before .before .before .before .before .before .before .before .before .before .before .before .before .before .loop .params) (c .before .before .before .before .before .before .before .before .before .before .before .before .before .before .loop .inv) (c .before .before .before .before .before .before .before .before .before .before .before .before .before .loop-test .left) (c .before .before .before .before .before .before .before .before .before .before .before .before .if1 .left) (c .before .before .before .before .before .before .before .before .fit-block2 .result) (c .before .before .before .before .before .before .before .before .fit-block2 .last .1 .1 .1 .1 .1 .1 .0) (c .before .before .before .before .before .before .before .before .fit-block2 .last .1 .1 .1 .1 .1 .1 .1 .0) (c .before .before .before .before .before .before .before .before .fit-block2 .last .1 .1 .1 .1 .1 .1 .1 .1 .0) (c .before .before .before .before .before .before .before .before .fit-block2 .ensures) (c .enum-told2 .given .0 .0) (c .enum-told2 .given .1) _ _ _
+returns-3 c = last-stops (closed (c .before .before)) (stop (c .before .before)) (some (c .before .before)) (last (c .before .before)) (c .enum-told2 .given .0 .0) (c .enum-told2 .given .1) _ _ _
 
 add-t19 : tie.Need-add-t19 Inv-loop μ-loop
-add-t19 c = omega (arith, numbers (call (c .before .before .before .before .before .before .before .before .before .before .before .before .before .before .before .before .before .before .before .before .before .args .cutting) (c .before .before .before .before .before .before .before .before .before .before .before .before .before .before .before .before .before .before .before .before .before .args .marks .now) (c .before .before .before .before .before .before .before .before .before .before .before .before .before .before .before .before .before .before .before .before .before .args .size) (c .before .before .before .before .before .before .before .before .before .before .before .before .before .before .before .before .before .before .before .before .before .args .tolerance) (c .before .before .before .before .before .before .before .before .before .before .before .before .before .before .before .before .before .before .before .before .before .args .curves .now) (c .before .before .before .before .before .before .before .before .before .before .before .before .before .before .before .before .before .before .before .before .before .args .firsts .now) (c .before .before .before .before .before .before .before .before .before .before .before .before .before .before .before .before .before .before .before .before .before .args .params .now) (c .before .before .before .before .before .before .before .before .before .before .before .before .before .before .before .before .before .before .before .before .before .args .size + c .before .before .before .before .before .before .before .before .before .before .before .before .before .before .before .before .shared .result)) (asked (c .before .before .before .before .before .before .before .before .before .before .before .before .before .before .before .before .before .before .before .before .before .args .cutting) (c .before .before .before .before .before .before .before .before .before .before .before .before .before .before .before .before .before .before .before .before .before .args .marks .now) (c .before .before .before .before .before .before .before .before .before .before .before .before .before .before .before .before .before .before .before .before .before .args .size) (c .before .before .before .before .before .before .before .before .before .before .before .before .before .before .before .before .before .before .before .before .before .args .tolerance) (c .before .before .before .before .before .before .before .before .before .before .before .before .before .before .before .before .before .before .before .before .before .args .curves .now) (c .before .before .before .before .before .before .before .before .before .before .before .before .before .before .before .before .before .before .before .before .before .args .firsts .now) (c .before .before .before .before .before .before .before .before .before .before .before .before .before .before .before .before .before .before .before .before .before .args .params .now) (c .before .before .before .before .before .before .before .before .before .before .before .before .before .before .before .before .shared .result) (c .before .before .before .before .before .before .before .before .before .before .before .before .before .before .before .before .before .before .before .before .before .pre) (c .before .before .before .before .before .before .before .before .before .before .before .before .before .before .before .before .shared .ensures)) (c .before .before .before .before .before .before .before .before .before .before .before .before .before .before .before .loop .from) (c .before .before .before .before .before .before .before .before .before .before .before .before .before .before .before .loop .made) (c .before .before .before .before .before .before .before .before .before .before .before .before .before .before .before .loop .curves) (c .before .before .before .before .before .before .before .before .before .before .before .before .before .before .before .loop .firsts) (c .before .before .before .before .before .before .before .before .before .before .before .before .before .before .before .loop .params) (c .before .before .before .before .before .before .before .before .before .before .before .before .before .before .before .loop .inv), last-few (call (c .before .before .before .before .before .before .before .before .before .before .before .before .before .before .before .before .before .before .before .before .before .args .cutting) (c .before .before .before .before .before .before .before .before .before .before .before .before .before .before .before .before .before .before .before .before .before .args .marks .now) (c .before .before .before .before .before .before .before .before .before .before .before .before .before .before .before .before .before .before .before .before .before .args .size) (c .before .before .before .before .before .before .before .before .before .before .before .before .before .before .before .before .before .before .before .before .before .args .tolerance) (c .before .before .before .before .before .before .before .before .before .before .before .before .before .before .before .before .before .before .before .before .before .args .curves .now) (c .before .before .before .before .before .before .before .before .before .before .before .before .before .before .before .before .before .before .before .before .before .args .firsts .now) (c .before .before .before .before .before .before .before .before .before .before .before .before .before .before .before .before .before .before .before .before .before .args .params .now) (c .before .before .before .before .before .before .before .before .before .before .before .before .before .before .before .before .before .before .before .before .before .args .size + c .before .before .before .before .before .before .before .before .before .before .before .before .before .before .before .before .shared .result)) (asked (c .before .before .before .before .before .before .before .before .before .before .before .before .before .before .before .before .before .before .before .before .before .args .cutting) (c .before .before .before .before .before .before .before .before .before .before .before .before .before .before .before .before .before .before .before .before .before .args .marks .now) (c .before .before .before .before .before .before .before .before .before .before .before .before .before .before .before .before .before .before .before .before .before .args .size) (c .before .before .before .before .before .before .before .before .before .before .before .before .before .before .before .before .before .before .before .before .before .args .tolerance) (c .before .before .before .before .before .before .before .before .before .before .before .before .before .before .before .before .before .before .before .before .before .args .curves .now) (c .before .before .before .before .before .before .before .before .before .before .before .before .before .before .before .before .before .before .before .before .before .args .firsts .now) (c .before .before .before .before .before .before .before .before .before .before .before .before .before .before .before .before .before .before .before .before .before .args .params .now) (c .before .before .before .before .before .before .before .before .before .before .before .before .before .before .before .before .shared .result) (c .before .before .before .before .before .before .before .before .before .before .before .before .before .before .before .before .before .before .before .before .before .pre) (c .before .before .before .before .before .before .before .before .before .before .before .before .before .before .before .before .shared .ensures)) (c .before .before .before .before .before .before .before .before .before .before .before .before .before .before .before .loop .from) (c .before .before .before .before .before .before .before .before .before .before .before .before .before .before .before .loop .made) (c .before .before .before .before .before .before .before .before .before .before .before .before .before .before .before .loop .curves) (c .before .before .before .before .before .before .before .before .before .before .before .before .before .before .before .loop .firsts) (c .before .before .before .before .before .before .before .before .before .before .before .before .before .before .before .loop .params) (c .before .before .before .before .before .before .before .before .before .before .before .before .before .before .before .loop .inv) (c .before .before .before .before .before .before .before .before .before .before .before .before .before .before .loop-test .left) (c .before .before .before .before .before .before .before .before .before .before .before .before .before .if1 .left) (c .before .before .before .before .before .before .before .before .before .fit-block2 .result) (c .before .before .before .before .before .before .before .before .before .fit-block2 .last .1 .1 .1 .1 .1 .1 .0) (c .before .before .before .before .before .before .before .before .before .fit-block2 .last .1 .1 .1 .1 .1 .1 .1 .0) (c .before .before .before .before .before .before .before .before .before .fit-block2 .last .1 .1 .1 .1 .1 .1 .1 .1 .0) (c .before .before .before .before .before .before .before .before .before .fit-block2 .ensures) (c .before .out2 .given .0 .0) (c .before .out2 .given .1))
+add-t19 c = omega (arith, numbers (closed (c .before .before .before)), last-few (closed (c .before .before .before)) (stop (c .before .before .before)) (some (c .before .before .before)) (last (c .before .before .before)) (c .before .out2 .given .0 .0) (c .before .out2 .given .1))
 
 same-length-10 : tie.Need-same-length-10 Inv-loop μ-loop
-same-length-10 c = part-length (8 * c .before .before .before .before .before .before .before .before .before .before .before .before .before .before .before .loop .made) _ (c .before .before .before .before .before .before .before .before .before .before .before .before .before .before .before .loop .curves) (c .before .before .before .before .before .before .before .before .before .fit-block2 .last .1 .1 .1 .1 .1 .1 .0) (omega (arith, numbers (call (c .before .before .before .before .before .before .before .before .before .before .before .before .before .before .before .before .before .before .before .before .before .args .cutting) (c .before .before .before .before .before .before .before .before .before .before .before .before .before .before .before .before .before .before .before .before .before .args .marks .now) (c .before .before .before .before .before .before .before .before .before .before .before .before .before .before .before .before .before .before .before .before .before .args .size) (c .before .before .before .before .before .before .before .before .before .before .before .before .before .before .before .before .before .before .before .before .before .args .tolerance) (c .before .before .before .before .before .before .before .before .before .before .before .before .before .before .before .before .before .before .before .before .before .args .curves .now) (c .before .before .before .before .before .before .before .before .before .before .before .before .before .before .before .before .before .before .before .before .before .args .firsts .now) (c .before .before .before .before .before .before .before .before .before .before .before .before .before .before .before .before .before .before .before .before .before .args .params .now) (c .before .before .before .before .before .before .before .before .before .before .before .before .before .before .before .before .before .before .before .before .before .args .size + c .before .before .before .before .before .before .before .before .before .before .before .before .before .before .before .before .shared .result)) (asked (c .before .before .before .before .before .before .before .before .before .before .before .before .before .before .before .before .before .before .before .before .before .args .cutting) (c .before .before .before .before .before .before .before .before .before .before .before .before .before .before .before .before .before .before .before .before .before .args .marks .now) (c .before .before .before .before .before .before .before .before .before .before .before .before .before .before .before .before .before .before .before .before .before .args .size) (c .before .before .before .before .before .before .before .before .before .before .before .before .before .before .before .before .before .before .before .before .before .args .tolerance) (c .before .before .before .before .before .before .before .before .before .before .before .before .before .before .before .before .before .before .before .before .before .args .curves .now) (c .before .before .before .before .before .before .before .before .before .before .before .before .before .before .before .before .before .before .before .before .before .args .firsts .now) (c .before .before .before .before .before .before .before .before .before .before .before .before .before .before .before .before .before .before .before .before .before .args .params .now) (c .before .before .before .before .before .before .before .before .before .before .before .before .before .before .before .before .shared .result) (c .before .before .before .before .before .before .before .before .before .before .before .before .before .before .before .before .before .before .before .before .before .pre) (c .before .before .before .before .before .before .before .before .before .before .before .before .before .before .before .before .shared .ensures)) (c .before .before .before .before .before .before .before .before .before .before .before .before .before .before .before .loop .from) (c .before .before .before .before .before .before .before .before .before .before .before .before .before .before .before .loop .made) (c .before .before .before .before .before .before .before .before .before .before .before .before .before .before .before .loop .curves) (c .before .before .before .before .before .before .before .before .before .before .before .before .before .before .before .loop .firsts) (c .before .before .before .before .before .before .before .before .before .before .before .before .before .before .before .loop .params) (c .before .before .before .before .before .before .before .before .before .before .before .before .before .before .before .loop .inv))) refl (c .before .before .before .before .before .before .before .before .before .fit-block2 .kept .1 .1 .1 .1 .1 .1 .0) ∙ c .before .before .before .before .before .before .before .before .before .before .before .before .before .before .before .loop .inv .lc
+same-length-10 c = as-long-curves (closed (c .before .before .before)) (last (c .before .before .before))
 
 same-length-11 : tie.Need-same-length-11 Inv-loop μ-loop
-same-length-11 c = part-length (c .before .before .before .before .before .before .before .before .before .before .before .before .before .before .before .loop .made) _ (c .before .before .before .before .before .before .before .before .before .before .before .before .before .before .before .loop .firsts) (c .before .before .before .before .before .before .before .before .before .fit-block2 .last .1 .1 .1 .1 .1 .1 .1 .0) (omega (arith, numbers (call (c .before .before .before .before .before .before .before .before .before .before .before .before .before .before .before .before .before .before .before .before .before .args .cutting) (c .before .before .before .before .before .before .before .before .before .before .before .before .before .before .before .before .before .before .before .before .before .args .marks .now) (c .before .before .before .before .before .before .before .before .before .before .before .before .before .before .before .before .before .before .before .before .before .args .size) (c .before .before .before .before .before .before .before .before .before .before .before .before .before .before .before .before .before .before .before .before .before .args .tolerance) (c .before .before .before .before .before .before .before .before .before .before .before .before .before .before .before .before .before .before .before .before .before .args .curves .now) (c .before .before .before .before .before .before .before .before .before .before .before .before .before .before .before .before .before .before .before .before .before .args .firsts .now) (c .before .before .before .before .before .before .before .before .before .before .before .before .before .before .before .before .before .before .before .before .before .args .params .now) (c .before .before .before .before .before .before .before .before .before .before .before .before .before .before .before .before .before .before .before .before .before .args .size + c .before .before .before .before .before .before .before .before .before .before .before .before .before .before .before .before .shared .result)) (asked (c .before .before .before .before .before .before .before .before .before .before .before .before .before .before .before .before .before .before .before .before .before .args .cutting) (c .before .before .before .before .before .before .before .before .before .before .before .before .before .before .before .before .before .before .before .before .before .args .marks .now) (c .before .before .before .before .before .before .before .before .before .before .before .before .before .before .before .before .before .before .before .before .before .args .size) (c .before .before .before .before .before .before .before .before .before .before .before .before .before .before .before .before .before .before .before .before .before .args .tolerance) (c .before .before .before .before .before .before .before .before .before .before .before .before .before .before .before .before .before .before .before .before .before .args .curves .now) (c .before .before .before .before .before .before .before .before .before .before .before .before .before .before .before .before .before .before .before .before .before .args .firsts .now) (c .before .before .before .before .before .before .before .before .before .before .before .before .before .before .before .before .before .before .before .before .before .args .params .now) (c .before .before .before .before .before .before .before .before .before .before .before .before .before .before .before .before .shared .result) (c .before .before .before .before .before .before .before .before .before .before .before .before .before .before .before .before .before .before .before .before .before .pre) (c .before .before .before .before .before .before .before .before .before .before .before .before .before .before .before .before .shared .ensures)) (c .before .before .before .before .before .before .before .before .before .before .before .before .before .before .before .loop .from) (c .before .before .before .before .before .before .before .before .before .before .before .before .before .before .before .loop .made) (c .before .before .before .before .before .before .before .before .before .before .before .before .before .before .before .loop .curves) (c .before .before .before .before .before .before .before .before .before .before .before .before .before .before .before .loop .firsts) (c .before .before .before .before .before .before .before .before .before .before .before .before .before .before .before .loop .params) (c .before .before .before .before .before .before .before .before .before .before .before .before .before .before .before .loop .inv))) refl (c .before .before .before .before .before .before .before .before .before .fit-block2 .kept .1 .1 .1 .1 .1 .1 .1 .0) ∙ c .before .before .before .before .before .before .before .before .before .before .before .before .before .before .before .loop .inv .lf
+same-length-11 c = as-long-firsts (closed (c .before .before .before)) (last (c .before .before .before))
 
 same-length-12 : tie.Need-same-length-12 Inv-loop μ-loop
-same-length-12 c = part-length (c .before .before .before .before .before .before .before .before .before .before .before .before .before .before .before .loop .from) _ (c .before .before .before .before .before .before .before .before .before .before .before .before .before .before .before .loop .params) (c .before .before .before .before .before .before .before .before .before .fit-block2 .last .1 .1 .1 .1 .1 .1 .1 .1 .0) (omega (arith, numbers (call (c .before .before .before .before .before .before .before .before .before .before .before .before .before .before .before .before .before .before .before .before .before .args .cutting) (c .before .before .before .before .before .before .before .before .before .before .before .before .before .before .before .before .before .before .before .before .before .args .marks .now) (c .before .before .before .before .before .before .before .before .before .before .before .before .before .before .before .before .before .before .before .before .before .args .size) (c .before .before .before .before .before .before .before .before .before .before .before .before .before .before .before .before .before .before .before .before .before .args .tolerance) (c .before .before .before .before .before .before .before .before .before .before .before .before .before .before .before .before .before .before .before .before .before .args .curves .now) (c .before .before .before .before .before .before .before .before .before .before .before .before .before .before .before .before .before .before .before .before .before .args .firsts .now) (c .before .before .before .before .before .before .before .before .before .before .before .before .before .before .before .before .before .before .before .before .before .args .params .now) (c .before .before .before .before .before .before .before .before .before .before .before .before .before .before .before .before .before .before .before .before .before .args .size + c .before .before .before .before .before .before .before .before .before .before .before .before .before .before .before .before .shared .result)) (asked (c .before .before .before .before .before .before .before .before .before .before .before .before .before .before .before .before .before .before .before .before .before .args .cutting) (c .before .before .before .before .before .before .before .before .before .before .before .before .before .before .before .before .before .before .before .before .before .args .marks .now) (c .before .before .before .before .before .before .before .before .before .before .before .before .before .before .before .before .before .before .before .before .before .args .size) (c .before .before .before .before .before .before .before .before .before .before .before .before .before .before .before .before .before .before .before .before .before .args .tolerance) (c .before .before .before .before .before .before .before .before .before .before .before .before .before .before .before .before .before .before .before .before .before .args .curves .now) (c .before .before .before .before .before .before .before .before .before .before .before .before .before .before .before .before .before .before .before .before .before .args .firsts .now) (c .before .before .before .before .before .before .before .before .before .before .before .before .before .before .before .before .before .before .before .before .before .args .params .now) (c .before .before .before .before .before .before .before .before .before .before .before .before .before .before .before .before .shared .result) (c .before .before .before .before .before .before .before .before .before .before .before .before .before .before .before .before .before .before .before .before .before .pre) (c .before .before .before .before .before .before .before .before .before .before .before .before .before .before .before .before .shared .ensures)) (c .before .before .before .before .before .before .before .before .before .before .before .before .before .before .before .loop .from) (c .before .before .before .before .before .before .before .before .before .before .before .before .before .before .before .loop .made) (c .before .before .before .before .before .before .before .before .before .before .before .before .before .before .before .loop .curves) (c .before .before .before .before .before .before .before .before .before .before .before .before .before .before .before .loop .firsts) (c .before .before .before .before .before .before .before .before .before .before .before .before .before .before .before .loop .params) (c .before .before .before .before .before .before .before .before .before .before .before .before .before .before .before .loop .inv))) refl (c .before .before .before .before .before .before .before .before .before .fit-block2 .kept .1 .1 .1 .1 .1 .1 .1 .1 .0) ∙ c .before .before .before .before .before .before .before .before .before .before .before .before .before .before .before .loop .inv .lp
+same-length-12 c = as-long-params (closed (c .before .before .before)) (last (c .before .before .before)) (omega (arith, numbers (closed (c .before .before .before))))
 
 returns-4 : tie.Need-returns-4 Inv-loop μ-loop
-returns-4 c = last-done (call (c .before .before .before .before .before .before .before .before .before .before .before .before .before .before .before .before .before .before .before .before .before .args .cutting) (c .before .before .before .before .before .before .before .before .before .before .before .before .before .before .before .before .before .before .before .before .before .args .marks .now) (c .before .before .before .before .before .before .before .before .before .before .before .before .before .before .before .before .before .before .before .before .before .args .size) (c .before .before .before .before .before .before .before .before .before .before .before .before .before .before .before .before .before .before .before .before .before .args .tolerance) (c .before .before .before .before .before .before .before .before .before .before .before .before .before .before .before .before .before .before .before .before .before .args .curves .now) (c .before .before .before .before .before .before .before .before .before .before .before .before .before .before .before .before .before .before .before .before .before .args .firsts .now) (c .before .before .before .before .before .before .before .before .before .before .before .before .before .before .before .before .before .before .before .before .before .args .params .now) (c .before .before .before .before .before .before .before .before .before .before .before .before .before .before .before .before .before .before .before .before .before .args .size + c .before .before .before .before .before .before .before .before .before .before .before .before .before .before .before .before .shared .result)) (asked (c .before .before .before .before .before .before .before .before .before .before .before .before .before .before .before .before .before .before .before .before .before .args .cutting) (c .before .before .before .before .before .before .before .before .before .before .before .before .before .before .before .before .before .before .before .before .before .args .marks .now) (c .before .before .before .before .before .before .before .before .before .before .before .before .before .before .before .before .before .before .before .before .before .args .size) (c .before .before .before .before .before .before .before .before .before .before .before .before .before .before .before .before .before .before .before .before .before .args .tolerance) (c .before .before .before .before .before .before .before .before .before .before .before .before .before .before .before .before .before .before .before .before .before .args .curves .now) (c .before .before .before .before .before .before .before .before .before .before .before .before .before .before .before .before .before .before .before .before .before .args .firsts .now) (c .before .before .before .before .before .before .before .before .before .before .before .before .before .before .before .before .before .before .before .before .before .args .params .now) (c .before .before .before .before .before .before .before .before .before .before .before .before .before .before .before .before .shared .result) (c .before .before .before .before .before .before .before .before .before .before .before .before .before .before .before .before .before .before .before .before .before .pre) (c .before .before .before .before .before .before .before .before .before .before .before .before .before .before .before .before .shared .ensures)) (c .before .before .before .before .before .before .before .before .before .before .before .before .before .before .before .loop .from) (c .before .before .before .before .before .before .before .before .before .before .before .before .before .before .before .loop .made) (c .before .before .before .before .before .before .before .before .before .before .before .before .before .before .before .loop .curves) (c .before .before .before .before .before .before .before .before .before .before .before .before .before .before .before .loop .firsts) (c .before .before .before .before .before .before .before .before .before .before .before .before .before .before .before .loop .params) (c .before .before .before .before .before .before .before .before .before .before .before .before .before .before .before .loop .inv) (c .before .before .before .before .before .before .before .before .before .before .before .before .before .before .loop-test .left) (c .before .before .before .before .before .before .before .before .before .before .before .before .before .if1 .left) (c .before .before .before .before .before .before .before .before .before .fit-block2 .result) (c .before .before .before .before .before .before .before .before .before .fit-block2 .last .1 .1 .1 .1 .1 .1 .0) (c .before .before .before .before .before .before .before .before .before .fit-block2 .last .1 .1 .1 .1 .1 .1 .1 .0) (c .before .before .before .before .before .before .before .before .before .fit-block2 .last .1 .1 .1 .1 .1 .1 .1 .1 .0) (c .before .before .before .before .before .before .before .before .before .fit-block2 .ensures) (c .before .out2 .given .0 .0) (c .before .out2 .given .1)
+returns-4 c = last-done (closed (c .before .before .before)) (stop (c .before .before .before)) (some (c .before .before .before)) (last (c .before .before .before)) (c .before .out2 .given .0 .0) (c .before .out2 .given .1)
 
 pub fit-blocks-spec : {M : Type 1} → statement M
 fit-blocks-spec =
