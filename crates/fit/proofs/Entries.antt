@@ -21,6 +21,8 @@ use Rattle.cut.specs.Lent.{Left, Room}
 use Rattle.cut.specs.declared.Fitted.{Fitted}
 use Rattle.cut.specs.declared.Fitted.the-variants.{Curves, Refused}
 use Rattle.cut.proofs.Cut.{Done, is-done, is-refused, front-length}
+use Rattle.blocks.specs.declared.Cutting.{Cutting}
+use Rattle.blocks.specs.Blocks.{blocksOf}
 use Rattle.fit.specs.Fit.{fittedAnswer, Ending, ending, ended, entered, component, areTangents, cubicGate}
 
 -- ---- block sizes
@@ -42,6 +44,10 @@ size-within n s e = subst (λ (i : ℕ). (2 ≤ i) × (i ≤ 200)) (sym e) (go (
     go true = (omega arith, omega arith)
     go false = let s = size-from 150 n in (omega arith, omega arith)
 
+-- a run by blocks of s marks is one of t, where s is t
+pub of-size : (k : Cutting) (ms : List Float) (tol : Float) (s t : ℕ) (r : Fitted) (C C₁ : List Float) (F F₁ : List ℕ) (p : List Float) → s ≡ t → Left (blocksOf k ms s tol) r C C₁ F F₁ p → Left (blocksOf k ms t tol) r C C₁ F F₁ p
+of-size k ms tol s t r C C₁ F F₁ p e h = subst (λ (i : ℕ). Left (blocksOf k ms i tol) r C C₁ F F₁ p) e h
+
 -- ---- a passed gate
 
 pub passed-room : (top : ℕ) (ms : List Float) (tol : Float) (C : List Float) (F : List ℕ) (P : List Float) → top ≤ 65536 → Passed top ms tol (length C) (length F) (length P) → Room ms 0 C F (take (count ms) P)
@@ -59,28 +65,58 @@ cubic-passed ms s e tol c f p q h z = passed 512 ms tol c f p (go (eqb (gateOf 5
 
 -- ---- the ends of a fit, of any run
 
-module _ (R : Run) (C : List Float) (F : List ℕ) (P : List Float) (g : ℕ) (q : ℕ) (e : q ≡ g) where
-  pub end-gate : (q ≡ 0 → ⊥) → ending (no q) C F P ≡ entered g R C F P
-  end-gate n = rw (← e, ne-eqb q 0 n)
+-- a fit of n marks: its run, the lent slices, what its gate says, and what the tests answered
+pub record Fit : Type 0 where
+  pub n : ℕ
+  pub R : Run
+  pub C : List Float
+  pub F : List ℕ
+  pub P : List Float
+  pub g : ℕ
+  pub q : ℕ
+  pub tested : q ≡ g
 
-  module _ (z : q ≡ 0) (out : Fitted) (C₁ : List Float) (F₁ : List ℕ) (p : List Float) (left : Left R out C C₁ F F₁ p) where
-    ran : entered g R C F P ≡ ended R C F P
-    ran = rw (← e, eq-eqb q 0 z)
+pub end-gate : (K : Fit) → (K .q ≡ 0 → ⊥) → ending (no (K .q)) (K .C) (K .F) (K .P) ≡ entered (K .g) (K .R) (K .C) (K .F) (K .P)
+end-gate K h = rw (← K .tested, ne-eqb (K .q) 0 h)
 
-    pub end-refused : (k : ℕ) (C₂ : List Float) (F₂ : List ℕ) (P₂ : List Float) → out ≡ Refused k → C₂ ≡ replicate (length C) f0 → F₂ ≡ replicate (length F) 0 → P₂ ≡ replicate (length P) f0
-        → ending (fittedAnswer out) C₂ F₂ P₂ ≡ entered g R C F P
-    unfolding fittedAnswer
-    end-refused k C₂ F₂ P₂ o ec ef ep = go R (is-refused R out k C C₁ F F₁ p left o) ∙ sym ran
-      where
-        go : (S : Run) → S ≡ refused k → ending (fittedAnswer out) C₂ F₂ P₂ ≡ ended S C F P
-        go S is = rw (is, o, ec, ef, ep)
+-- the run of one that its gate let through
+pub record Ran (K : Fit) : Type 0 where
+  pub passed : K .q ≡ 0
+  pub room : K .n ≤ length (K .P)
+  pub out : Fitted
+  pub C₁ : List Float
+  pub F₁ : List ℕ
+  pub p : List Float
+  pub left : Left (K .R) out (K .C) C₁ (K .F) F₁ p
+  pub lc : length C₁ ≡ length (K .C)
+  pub lf : length F₁ ≡ length (K .F)
+  pub lp : length p ≡ length (take (K .n) (K .P))
 
-    pub end-done : (k n : ℕ) → out ≡ Curves k → length p ≡ n → ending (ok k) C₁ F₁ (p ++ drop n P) ≡ entered g R C F P
-    end-done k n o l = go R (is-done R out k C C₁ F F₁ p left o) ∙ sym ran
-      where
-        go : (S : Run) → Done S k C C₁ F F₁ p → ending (ok k) C₁ F₁ (p ++ drop n P) ≡ ended S C F P
-        go S D = rw (D .is, D .curves, D .firsts, D .long, l)
+module _ (K : Fit) (D : Ran K) where
+  -- the parameters when their part is back
+  abbrev pub P₁ : List Float
+  P₁ = D .p ++ drop (K .n) (K .P)
 
--- what zero_all leaves, by the lengths before the run
-pub zeroed : {A : Type 0} (v : A) (X D S : List A) → X ≡ replicate (length D) v → length D ≡ length S → X ≡ replicate (length S) v
-zeroed v X D S e l = e ∙ ap (λ (n : ℕ). replicate n v) l
+  pub as-long : length P₁ ≡ length (K .P)
+  as-long = front-length (K .n) (K .P) (D .p) (D .room) (D .lp)
+
+  ran : entered (K .g) (K .R) (K .C) (K .F) (K .P) ≡ ended (K .R) (K .C) (K .F) (K .P)
+  ran = rw (← K .tested, eq-eqb (K .q) 0 (D .passed))
+
+  -- refused: what zero_all leaves is as long as before
+  pub end-refused : (k : ℕ) (C₂ : List Float) (F₂ : List ℕ) (P₂ : List Float) → D .out ≡ Refused k → C₂ ≡ replicate (length (D .C₁)) f0 → F₂ ≡ replicate (length (D .F₁)) 0 → P₂ ≡ replicate (length P₁) f0
+      → ending (fittedAnswer (D .out)) C₂ F₂ P₂ ≡ entered (K .g) (K .R) (K .C) (K .F) (K .P)
+  unfolding fittedAnswer
+  end-refused k C₂ F₂ P₂ o ec ef ep = go (K .R) (is-refused (K .R) (D .out) k (K .C) (D .C₁) (K .F) (D .F₁) (D .p) (D .left) o) ∙ sym ran
+    where
+      go : (S : Run) → S ≡ refused k → ending (fittedAnswer (D .out)) C₂ F₂ P₂ ≡ ended S (K .C) (K .F) (K .P)
+      go S is = rw (is, o, ec, ef, ep, D .lc, D .lf, as-long)
+
+  pub end-done : (k : ℕ) → D .out ≡ Curves k → ending (ok k) (D .C₁) (D .F₁) P₁ ≡ entered (K .g) (K .R) (K .C) (K .F) (K .P)
+  end-done k o = go (K .R) (is-done (K .R) (D .out) k (K .C) (D .C₁) (K .F) (D .F₁) (D .p) (D .left) o) ∙ sym ran
+    where
+      long : length (D .p) ≡ K .n
+      long = let r = D .room in D .lp ∙ simp length-take (omega arith)
+
+      go : (S : Run) → Done S k (K .C) (D .C₁) (K .F) (D .F₁) (D .p) → ending (ok k) (D .C₁) (D .F₁) P₁ ≡ ended S (K .C) (K .F) (K .P)
+      go S E = rw (E .is, E .curves, E .firsts, E .long, long)

@@ -1,34 +1,61 @@
 -- `fit::fit_curve_cubic`: the gate, then the run, then zeros if it is refused. Assumes nothing.
 use borrow.Author.Needs.{needs}
 use native.Mathlib.Omega.{arith}
-use Prim.Native.Nat.{ℕ, _≤_, _<_, _-_, _+_, _*_, _/_}
-use mathlib.Core.Path.{_≡_, refl, sym, ap, _∙_}
-use mathlib.Core.List.{_++_}
-use lib.ListN.{length, drop, length-take}
-use Rattle.float.specs.Number.{f0}
+use mathlib.Core.Path.{sym, _∙_}
+use lib.ListN.{length, length-take}
 use Rattle.marks.specs.Marks.{count}
-use Rattle.cut.proofs.Cut.{front-length}
 use Rattle.cut.specs.Run.{runOf}
+use Rattle.gate.proofs.Tests.{Passed}
 use Rattle.fit.specs.Fit.{fittedAnswer, cubicGate, cubicOf}
-use Rattle.fit.proofs.Entries.{cubic-passed, passed-room, end-gate, end-refused, end-done, zeroed}
+use Rattle.fit.proofs.Entries.{cubic-passed, passed-room, Fit, end-gate, Ran, as-long, end-refused, end-done}
 use Rattle.fit.proofs.fit_curve_cubic.Statement.{statement}
 use Rattle.fit.proofs.fit_curve_cubic.Tie as tie
+
+-- ---- what is known at each place
+
+abbrev first : tie.After-gate-cubic → tie.Start
+first c = c .before .before .before .before .before
+
+abbrev entry : tie.After-gate-cubic → Fit
+entry c = record { n = count (first c .args .marks .now); R = runOf (first c .args .marks .now) 0 (first c .args .start) (first c .args .end) (first c .args .tolerance); C = first c .args .curves .now; F = first c .args .firsts .now; P = first c .args .params .now; g = cubicGate (first c .args .marks .now) (first c .args .start) (first c .args .end) (first c .args .tolerance) (length (first c .args .curves .now)) (length (first c .args .firsts .now)) (length (first c .args .params .now)); q = c .gate-cubic .result; tested = c .gate-cubic .ensures }
+
+abbrev through : (c : tie.Else1) → Passed 512 (first (c .before) .args .marks .now) (first (c .before) .args .tolerance) (length (entry (c .before) .C)) (length (entry (c .before) .F)) (length (entry (c .before) .P))
+through c = cubic-passed (first (c .before) .args .marks .now) (first (c .before) .args .start) (first (c .before) .args .end) (first (c .before) .args .tolerance) (length (entry (c .before) .C)) (length (entry (c .before) .F)) (length (entry (c .before) .P)) (c .before .gate-cubic .result) (c .before .gate-cubic .ensures) (c .if1 .left)
+
+-- the run's answer, when the part that it was lent is back
+abbrev answer : tie.After-slice-known6 → tie.After-fit-part
+answer c = c .before .before .before .before .before .before
+
+abbrev begun : tie.After-slice-known6 → tie.Else1
+begun c = answer c .before .before .before .before
+
+abbrev ran : (c : tie.After-slice-known6) → Ran (entry (begun c .before))
+ran c = record { passed = begun c .if1 .left; room = through (begun c) .params; out = answer c .fit-part .result; C₁ = answer c .fit-part .last .1 .1 .1 .1 .1 .0; F₁ = answer c .fit-part .last .1 .1 .1 .1 .1 .1 .0; p = answer c .fit-part .last .1 .1 .1 .1 .1 .1 .1 .0; left = answer c .fit-part .ensures; lc = answer c .fit-part .kept .1 .1 .1 .1 .1 .0; lf = answer c .fit-part .kept .1 .1 .1 .1 .1 .1 .0; lp = answer c .fit-part .kept .1 .1 .1 .1 .1 .1 .1 .0 }
+
+-- what was zeroed
+abbrev back : tie.After-slice-known9 → tie.After-slice-known6
+back c = c .before .before .before .before .before .before .before .before .before .before .before .before
+
+abbrev zeros : tie.After-slice-known9 → tie.After-zero-all
+zeros c = c .before .before .before .before .before .before
+
+-- ---- the needs
 
 gate-cubic-requires : tie.Need-gate-cubic-requires
 gate-cubic-requires c κs = search needs
 
 returns : tie.Need-returns
 unfolding fittedAnswer cubicOf
-returns c = end-gate (runOf (c .before .before .before .before .before .before .args .marks .now) 0 (c .before .before .before .before .before .before .args .start) (c .before .before .before .before .before .before .args .end) (c .before .before .before .before .before .before .args .tolerance)) (c .before .before .before .before .before .before .args .curves .now) (c .before .before .before .before .before .before .args .firsts .now) (c .before .before .before .before .before .before .args .params .now) (cubicGate (c .before .before .before .before .before .before .args .marks .now) (c .before .before .before .before .before .before .args .start) (c .before .before .before .before .before .before .args .end) (c .before .before .before .before .before .before .args .tolerance) (length (c .before .before .before .before .before .before .args .curves .now)) (length (c .before .before .before .before .before .before .args .firsts .now)) (length (c .before .before .before .before .before .before .args .params .now))) (c .before .gate-cubic .result) (c .before .gate-cubic .ensures) (c .if1 .taken)
+returns c = end-gate (entry (c .before)) (c .if1 .taken)
 
 slice-relend-prefix-fit-part : tie.Need-slice-relend-prefix-fit-part
-slice-relend-prefix-fit-part c = (cubic-passed (c .before .before .before .before .before .before .before .before .args .marks .now) (c .before .before .before .before .before .before .before .before .args .start) (c .before .before .before .before .before .before .before .before .args .end) (c .before .before .before .before .before .before .before .before .args .tolerance) (length (c .before .before .before .before .before .before .before .before .args .curves .now)) (length (c .before .before .before .before .before .before .before .before .args .firsts .now)) (length (c .before .before .before .before .before .before .before .before .args .params .now)) (c .before .before .before .gate-cubic .result) (c .before .before .before .gate-cubic .ensures) (c .before .before .if1 .left)) .params
+slice-relend-prefix-fit-part c = through (c .before .before) .params
 
 slice-aggregate-fit-part : tie.Need-slice-aggregate-fit-part
-slice-aggregate-fit-part c = let q = (cubic-passed (c .before .before .before .before .before .before .before .before .before .args .marks .now) (c .before .before .before .before .before .before .before .before .before .args .start) (c .before .before .before .before .before .before .before .before .before .args .end) (c .before .before .before .before .before .before .before .before .before .args .tolerance) (length (c .before .before .before .before .before .before .before .before .before .args .curves .now)) (length (c .before .before .before .before .before .before .before .before .before .args .firsts .now)) (length (c .before .before .before .before .before .before .before .before .before .args .params .now)) (c .before .before .before .before .gate-cubic .result) (c .before .before .before .before .gate-cubic .ensures) (c .before .before .before .if1 .left)) .params in simp length-take (omega arith)
+slice-aggregate-fit-part c = let q = through (c .before .before .before) .params in simp length-take (omega arith)
 
 fit-part-requires : tie.Need-fit-part-requires
-fit-part-requires c κs = passed-room 512 (c .before .before .before .before .before .before .before .before .before .args .marks .now) (c .before .before .before .before .before .before .before .before .before .args .tolerance) (c .before .before .before .before .before .before .before .before .before .args .curves .now) (c .before .before .before .before .before .before .before .before .before .args .firsts .now) (c .before .before .before .before .before .before .before .before .before .args .params .now) (omega arith) (cubic-passed (c .before .before .before .before .before .before .before .before .before .args .marks .now) (c .before .before .before .before .before .before .before .before .before .args .start) (c .before .before .before .before .before .before .before .before .before .args .end) (c .before .before .before .before .before .before .before .before .before .args .tolerance) (length (c .before .before .before .before .before .before .before .before .before .args .curves .now)) (length (c .before .before .before .before .before .before .before .before .before .args .firsts .now)) (length (c .before .before .before .before .before .before .before .before .before .args .params .now)) (c .before .before .before .before .gate-cubic .result) (c .before .before .before .before .gate-cubic .ensures) (c .before .before .before .if1 .left))
+fit-part-requires c κs = passed-room 512 (first (c .before .before .before .before) .args .marks .now) (first (c .before .before .before .before) .args .tolerance) _ _ _ (omega arith) (through (c .before .before .before))
 
 enum-known-out : tie.Need-enum-known-out
 enum-known-out c = search needs
@@ -40,33 +67,33 @@ zero-all-requires : tie.Need-zero-all-requires
 zero-all-requires c κs = search needs
 
 same-length : tie.Need-same-length
-same-length c = c .before .before .before .before .before .before .zero-all .kept .0 ∙ c .before .before .before .before .before .before .before .before .before .before .before .before .before .before .before .before .before .before .fit-part .kept .1 .1 .1 .1 .1 .0
+same-length c = zeros c .zero-all .kept .0 ∙ ran (back c) .lc
 
 same-length-2 : tie.Need-same-length-2
-same-length-2 c = c .before .before .before .before .before .before .zero-all .kept .1 .0 ∙ c .before .before .before .before .before .before .before .before .before .before .before .before .before .before .before .before .before .before .fit-part .kept .1 .1 .1 .1 .1 .1 .0
+same-length-2 c = zeros c .zero-all .kept .1 .0 ∙ ran (back c) .lf
 
 same-length-3 : tie.Need-same-length-3
-same-length-3 c = c .before .before .before .before .before .before .zero-all .kept .1 .1 .0 ∙ front-length (count (c .before .before .before .before .before .before .before .before .before .before .before .before .before .before .before .before .before .before .before .before .before .before .before .before .before .before .before .before .args .marks .now)) (c .before .before .before .before .before .before .before .before .before .before .before .before .before .before .before .before .before .before .before .before .before .before .before .before .before .before .before .before .args .params .now) (c .before .before .before .before .before .before .before .before .before .before .before .before .before .before .before .before .before .before .fit-part .last .1 .1 .1 .1 .1 .1 .1 .0) ((cubic-passed (c .before .before .before .before .before .before .before .before .before .before .before .before .before .before .before .before .before .before .before .before .before .before .before .before .before .before .before .before .args .marks .now) (c .before .before .before .before .before .before .before .before .before .before .before .before .before .before .before .before .before .before .before .before .before .before .before .before .before .before .before .before .args .start) (c .before .before .before .before .before .before .before .before .before .before .before .before .before .before .before .before .before .before .before .before .before .before .before .before .before .before .before .before .args .end) (c .before .before .before .before .before .before .before .before .before .before .before .before .before .before .before .before .before .before .before .before .before .before .before .before .before .before .before .before .args .tolerance) (length (c .before .before .before .before .before .before .before .before .before .before .before .before .before .before .before .before .before .before .before .before .before .before .before .before .before .before .before .before .args .curves .now)) (length (c .before .before .before .before .before .before .before .before .before .before .before .before .before .before .before .before .before .before .before .before .before .before .before .before .before .before .before .before .args .firsts .now)) (length (c .before .before .before .before .before .before .before .before .before .before .before .before .before .before .before .before .before .before .before .before .before .before .before .before .before .before .before .before .args .params .now)) (c .before .before .before .before .before .before .before .before .before .before .before .before .before .before .before .before .before .before .before .before .before .before .before .gate-cubic .result) (c .before .before .before .before .before .before .before .before .before .before .before .before .before .before .before .before .before .before .before .before .before .before .before .gate-cubic .ensures) (c .before .before .before .before .before .before .before .before .before .before .before .before .before .before .before .before .before .before .before .before .before .before .if1 .left)) .params) (c .before .before .before .before .before .before .before .before .before .before .before .before .before .before .before .before .before .before .fit-part .kept .1 .1 .1 .1 .1 .1 .1 .0)
+same-length-3 c = zeros c .zero-all .kept .1 .1 .0 ∙ as-long (entry (begun (back c) .before)) (ran (back c))
 
 returns-2 : tie.Need-returns-2
 unfolding cubicOf
-returns-2 c = end-refused (runOf (c .before .before .before .before .before .before .before .before .before .before .before .before .before .before .before .before .before .before .before .before .before .before .before .before .before .before .before .before .args .marks .now) 0 (c .before .before .before .before .before .before .before .before .before .before .before .before .before .before .before .before .before .before .before .before .before .before .before .before .before .before .before .before .args .start) (c .before .before .before .before .before .before .before .before .before .before .before .before .before .before .before .before .before .before .before .before .before .before .before .before .before .before .before .before .args .end) (c .before .before .before .before .before .before .before .before .before .before .before .before .before .before .before .before .before .before .before .before .before .before .before .before .before .before .before .before .args .tolerance)) (c .before .before .before .before .before .before .before .before .before .before .before .before .before .before .before .before .before .before .before .before .before .before .before .before .before .before .before .before .args .curves .now) (c .before .before .before .before .before .before .before .before .before .before .before .before .before .before .before .before .before .before .before .before .before .before .before .before .before .before .before .before .args .firsts .now) (c .before .before .before .before .before .before .before .before .before .before .before .before .before .before .before .before .before .before .before .before .before .before .before .before .before .before .before .before .args .params .now) (cubicGate (c .before .before .before .before .before .before .before .before .before .before .before .before .before .before .before .before .before .before .before .before .before .before .before .before .before .before .before .before .args .marks .now) (c .before .before .before .before .before .before .before .before .before .before .before .before .before .before .before .before .before .before .before .before .before .before .before .before .before .before .before .before .args .start) (c .before .before .before .before .before .before .before .before .before .before .before .before .before .before .before .before .before .before .before .before .before .before .before .before .before .before .before .before .args .end) (c .before .before .before .before .before .before .before .before .before .before .before .before .before .before .before .before .before .before .before .before .before .before .before .before .before .before .before .before .args .tolerance) (length (c .before .before .before .before .before .before .before .before .before .before .before .before .before .before .before .before .before .before .before .before .before .before .before .before .before .before .before .before .args .curves .now)) (length (c .before .before .before .before .before .before .before .before .before .before .before .before .before .before .before .before .before .before .before .before .before .before .before .before .before .before .before .before .args .firsts .now)) (length (c .before .before .before .before .before .before .before .before .before .before .before .before .before .before .before .before .before .before .before .before .before .before .before .before .before .before .before .before .args .params .now))) (c .before .before .before .before .before .before .before .before .before .before .before .before .before .before .before .before .before .before .before .before .before .before .before .gate-cubic .result) (c .before .before .before .before .before .before .before .before .before .before .before .before .before .before .before .before .before .before .before .before .before .before .before .gate-cubic .ensures) (c .before .before .before .before .before .before .before .before .before .before .before .before .before .before .before .before .before .before .before .before .before .before .if1 .left) (c .before .before .before .before .before .before .before .before .before .before .before .before .before .before .before .before .before .before .fit-part .result) (c .before .before .before .before .before .before .before .before .before .before .before .before .before .before .before .before .before .before .fit-part .last .1 .1 .1 .1 .1 .0) (c .before .before .before .before .before .before .before .before .before .before .before .before .before .before .before .before .before .before .fit-part .last .1 .1 .1 .1 .1 .1 .0) (c .before .before .before .before .before .before .before .before .before .before .before .before .before .before .before .before .before .before .fit-part .last .1 .1 .1 .1 .1 .1 .1 .0) (c .before .before .before .before .before .before .before .before .before .before .before .before .before .before .before .before .before .before .fit-part .ensures) (c .before .before .before .before .before .before .before .before .before .before .enum-told .given .0 .0) _ _ _ (c .before .before .before .before .before .before .before .before .before .before .enum-told .given .1)
-    (zeroed f0 _ (c .before .before .before .before .before .before .before .before .before .before .before .before .before .before .before .before .before .before .fit-part .last .1 .1 .1 .1 .1 .0) (c .before .before .before .before .before .before .before .before .before .before .before .before .before .before .before .before .before .before .before .before .before .before .before .before .before .before .before .before .args .curves .now) (c .before .before .before .before .before .before .zero-all .ensures .0) (c .before .before .before .before .before .before .before .before .before .before .before .before .before .before .before .before .before .before .fit-part .kept .1 .1 .1 .1 .1 .0))
-    (zeroed 0 _ (c .before .before .before .before .before .before .before .before .before .before .before .before .before .before .before .before .before .before .fit-part .last .1 .1 .1 .1 .1 .1 .0) (c .before .before .before .before .before .before .before .before .before .before .before .before .before .before .before .before .before .before .before .before .before .before .before .before .before .before .before .before .args .firsts .now) (c .before .before .before .before .before .before .zero-all .ensures .1) (c .before .before .before .before .before .before .before .before .before .before .before .before .before .before .before .before .before .before .fit-part .kept .1 .1 .1 .1 .1 .1 .0))
-    (zeroed f0 _ (c .before .before .before .before .before .before .before .before .before .before .before .before .before .before .before .before .before .before .fit-part .last .1 .1 .1 .1 .1 .1 .1 .0 ++ drop (count (c .before .before .before .before .before .before .before .before .before .before .before .before .before .before .before .before .before .before .before .before .before .before .before .before .before .before .before .before .args .marks .now)) (c .before .before .before .before .before .before .before .before .before .before .before .before .before .before .before .before .before .before .before .before .before .before .before .before .before .before .before .before .args .params .now)) (c .before .before .before .before .before .before .before .before .before .before .before .before .before .before .before .before .before .before .before .before .before .before .before .before .before .before .before .before .args .params .now) (c .before .before .before .before .before .before .zero-all .ensures .2) (front-length (count (c .before .before .before .before .before .before .before .before .before .before .before .before .before .before .before .before .before .before .before .before .before .before .before .before .before .before .before .before .args .marks .now)) (c .before .before .before .before .before .before .before .before .before .before .before .before .before .before .before .before .before .before .before .before .before .before .before .before .before .before .before .before .args .params .now) (c .before .before .before .before .before .before .before .before .before .before .before .before .before .before .before .before .before .before .fit-part .last .1 .1 .1 .1 .1 .1 .1 .0) ((cubic-passed (c .before .before .before .before .before .before .before .before .before .before .before .before .before .before .before .before .before .before .before .before .before .before .before .before .before .before .before .before .args .marks .now) (c .before .before .before .before .before .before .before .before .before .before .before .before .before .before .before .before .before .before .before .before .before .before .before .before .before .before .before .before .args .start) (c .before .before .before .before .before .before .before .before .before .before .before .before .before .before .before .before .before .before .before .before .before .before .before .before .before .before .before .before .args .end) (c .before .before .before .before .before .before .before .before .before .before .before .before .before .before .before .before .before .before .before .before .before .before .before .before .before .before .before .before .args .tolerance) (length (c .before .before .before .before .before .before .before .before .before .before .before .before .before .before .before .before .before .before .before .before .before .before .before .before .before .before .before .before .args .curves .now)) (length (c .before .before .before .before .before .before .before .before .before .before .before .before .before .before .before .before .before .before .before .before .before .before .before .before .before .before .before .before .args .firsts .now)) (length (c .before .before .before .before .before .before .before .before .before .before .before .before .before .before .before .before .before .before .before .before .before .before .before .before .before .before .before .before .args .params .now)) (c .before .before .before .before .before .before .before .before .before .before .before .before .before .before .before .before .before .before .before .before .before .before .before .gate-cubic .result) (c .before .before .before .before .before .before .before .before .before .before .before .before .before .before .before .before .before .before .before .before .before .before .before .gate-cubic .ensures) (c .before .before .before .before .before .before .before .before .before .before .before .before .before .before .before .before .before .before .before .before .before .before .if1 .left)) .params) (c .before .before .before .before .before .before .before .before .before .before .before .before .before .before .before .before .before .before .fit-part .kept .1 .1 .1 .1 .1 .1 .1 .0)))
+returns-2 c =
+    let t = c .before .before .before .before .before .before .before .before .before .before in
+    let z = zeros c .zero-all .ensures in
+    end-refused (entry (begun (back c) .before)) (ran (back c)) (t .enum-told .given .0 .0) _ _ _ (t .enum-told .given .1) (z .0) (z .1) (z .2)
 
 same-length-4 : tie.Need-same-length-4
-same-length-4 c = c .before .before .before .before .before .before .before .before .before .fit-part .kept .1 .1 .1 .1 .1 .0
+same-length-4 c = ran (c .before .before .before) .lc
 
 same-length-5 : tie.Need-same-length-5
-same-length-5 c = c .before .before .before .before .before .before .before .before .before .fit-part .kept .1 .1 .1 .1 .1 .1 .0
+same-length-5 c = ran (c .before .before .before) .lf
 
 same-length-6 : tie.Need-same-length-6
-same-length-6 c = front-length (count (c .before .before .before .before .before .before .before .before .before .before .before .before .before .before .before .before .before .before .before .args .marks .now)) (c .before .before .before .before .before .before .before .before .before .before .before .before .before .before .before .before .before .before .before .args .params .now) (c .before .before .before .before .before .before .before .before .before .fit-part .last .1 .1 .1 .1 .1 .1 .1 .0) ((cubic-passed (c .before .before .before .before .before .before .before .before .before .before .before .before .before .before .before .before .before .before .before .args .marks .now) (c .before .before .before .before .before .before .before .before .before .before .before .before .before .before .before .before .before .before .before .args .start) (c .before .before .before .before .before .before .before .before .before .before .before .before .before .before .before .before .before .before .before .args .end) (c .before .before .before .before .before .before .before .before .before .before .before .before .before .before .before .before .before .before .before .args .tolerance) (length (c .before .before .before .before .before .before .before .before .before .before .before .before .before .before .before .before .before .before .before .args .curves .now)) (length (c .before .before .before .before .before .before .before .before .before .before .before .before .before .before .before .before .before .before .before .args .firsts .now)) (length (c .before .before .before .before .before .before .before .before .before .before .before .before .before .before .before .before .before .before .before .args .params .now)) (c .before .before .before .before .before .before .before .before .before .before .before .before .before .before .gate-cubic .result) (c .before .before .before .before .before .before .before .before .before .before .before .before .before .before .gate-cubic .ensures) (c .before .before .before .before .before .before .before .before .before .before .before .before .before .if1 .left)) .params) (c .before .before .before .before .before .before .before .before .before .fit-part .kept .1 .1 .1 .1 .1 .1 .1 .0)
+same-length-6 c = as-long (entry (begun (c .before .before .before) .before)) (ran (c .before .before .before))
 
 returns-3 : tie.Need-returns-3
 unfolding fittedAnswer cubicOf
-returns-3 c = let q = (cubic-passed (c .before .before .before .before .before .before .before .before .before .before .before .before .before .before .before .before .before .before .before .args .marks .now) (c .before .before .before .before .before .before .before .before .before .before .before .before .before .before .before .before .before .before .before .args .start) (c .before .before .before .before .before .before .before .before .before .before .before .before .before .before .before .before .before .before .before .args .end) (c .before .before .before .before .before .before .before .before .before .before .before .before .before .before .before .before .before .before .before .args .tolerance) (length (c .before .before .before .before .before .before .before .before .before .before .before .before .before .before .before .before .before .before .before .args .curves .now)) (length (c .before .before .before .before .before .before .before .before .before .before .before .before .before .before .before .before .before .before .before .args .firsts .now)) (length (c .before .before .before .before .before .before .before .before .before .before .before .before .before .before .before .before .before .before .before .args .params .now)) (c .before .before .before .before .before .before .before .before .before .before .before .before .before .before .gate-cubic .result) (c .before .before .before .before .before .before .before .before .before .before .before .before .before .before .gate-cubic .ensures) (c .before .before .before .before .before .before .before .before .before .before .before .before .before .if1 .left)) .params in end-done (runOf (c .before .before .before .before .before .before .before .before .before .before .before .before .before .before .before .before .before .before .before .args .marks .now) 0 (c .before .before .before .before .before .before .before .before .before .before .before .before .before .before .before .before .before .before .before .args .start) (c .before .before .before .before .before .before .before .before .before .before .before .before .before .before .before .before .before .before .before .args .end) (c .before .before .before .before .before .before .before .before .before .before .before .before .before .before .before .before .before .before .before .args .tolerance)) (c .before .before .before .before .before .before .before .before .before .before .before .before .before .before .before .before .before .before .before .args .curves .now) (c .before .before .before .before .before .before .before .before .before .before .before .before .before .before .before .before .before .before .before .args .firsts .now) (c .before .before .before .before .before .before .before .before .before .before .before .before .before .before .before .before .before .before .before .args .params .now) (cubicGate (c .before .before .before .before .before .before .before .before .before .before .before .before .before .before .before .before .before .before .before .args .marks .now) (c .before .before .before .before .before .before .before .before .before .before .before .before .before .before .before .before .before .before .before .args .start) (c .before .before .before .before .before .before .before .before .before .before .before .before .before .before .before .before .before .before .before .args .end) (c .before .before .before .before .before .before .before .before .before .before .before .before .before .before .before .before .before .before .before .args .tolerance) (length (c .before .before .before .before .before .before .before .before .before .before .before .before .before .before .before .before .before .before .before .args .curves .now)) (length (c .before .before .before .before .before .before .before .before .before .before .before .before .before .before .before .before .before .before .before .args .firsts .now)) (length (c .before .before .before .before .before .before .before .before .before .before .before .before .before .before .before .before .before .before .before .args .params .now))) (c .before .before .before .before .before .before .before .before .before .before .before .before .before .before .gate-cubic .result) (c .before .before .before .before .before .before .before .before .before .before .before .before .before .before .gate-cubic .ensures) (c .before .before .before .before .before .before .before .before .before .before .before .before .before .if1 .left) (c .before .before .before .before .before .before .before .before .before .fit-part .result) (c .before .before .before .before .before .before .before .before .before .fit-part .last .1 .1 .1 .1 .1 .0) (c .before .before .before .before .before .before .before .before .before .fit-part .last .1 .1 .1 .1 .1 .1 .0) (c .before .before .before .before .before .before .before .before .before .fit-part .last .1 .1 .1 .1 .1 .1 .1 .0) (c .before .before .before .before .before .before .before .before .before .fit-part .ensures) (c .before .out .given .0 .0) (count (c .before .before .before .before .before .before .before .before .before .before .before .before .before .before .before .before .before .before .before .args .marks .now)) (c .before .out .given .1) (c .before .before .before .before .before .before .before .before .before .fit-part .kept .1 .1 .1 .1 .1 .1 .1 .0 ∙ simp length-take (omega arith))
+returns-3 c = end-done (entry (begun (c .before .before .before) .before)) (ran (c .before .before .before)) (c .before .out .given .0 .0) (c .before .out .given .1)
 
 pub fit-curve-cubic-spec : {M : Type 1} → statement M
 fit-curve-cubic-spec =

@@ -1,40 +1,66 @@
 -- `fit::fit_cut`: the gate, then the run, then zeros if it is refused. Assumes nothing.
 use borrow.Author.Needs.{needs}
 use native.Mathlib.Omega.{arith}
-use Prim.Native.Nat.{ℕ, _≤_, _<_, _-_, _+_, _*_, _/_}
-use mathlib.Core.Path.{_≡_, refl, sym, ap, _∙_}
-use mathlib.Core.List.{_++_}
-use lib.ListN.{length, drop, length-take}
-use Rattle.float.specs.Number.{f0}
+use mathlib.Core.Path.{sym, _∙_}
+use lib.ListN.{length, length-take}
 use Rattle.marks.specs.Marks.{count}
-use Rattle.cut.proofs.Cut.{front-length}
 use Rattle.marks.specs.Block.{blockSize}
 use Rattle.gate.specs.Gate.{gateOf}
-use Rattle.gate.proofs.Tests.{passed}
+use Rattle.gate.proofs.Tests.{Passed, passed}
 use Rattle.blocks.specs.Blocks.{blocksOf}
 use Rattle.fit.specs.Fit.{fittedAnswer, fitOf}
-use Rattle.fit.proofs.Entries.{size-within, passed-room, end-gate, end-refused, end-done, zeroed}
+use Rattle.fit.proofs.Entries.{size-within, of-size, passed-room, Fit, end-gate, Ran, as-long, end-refused, end-done}
 use Rattle.fit.proofs.fit_cut.Statement.{statement}
 use Rattle.fit.proofs.fit_cut.Tie as tie
+
+-- ---- what is known at each place
+
+abbrev first : tie.After-gate → tie.Start
+first c = c .before .before .before .before .before
+
+abbrev entry : tie.After-gate → Fit
+entry c = record { n = count (first c .args .marks .now); R = blocksOf (first c .args .cutting) (first c .args .marks .now) (blockSize (count (first c .args .marks .now))) (first c .args .tolerance); C = first c .args .curves .now; F = first c .args .firsts .now; P = first c .args .params .now; g = gateOf 4096 (first c .args .marks .now) (first c .args .tolerance) (length (first c .args .curves .now)) (length (first c .args .firsts .now)) (length (first c .args .params .now)); q = c .gate .result; tested = c .gate .ensures }
+
+abbrev through : (c : tie.Else1) → Passed 4096 (first (c .before) .args .marks .now) (first (c .before) .args .tolerance) (length (entry (c .before) .C)) (length (entry (c .before) .F)) (length (entry (c .before) .P))
+through c = passed 4096 (first (c .before) .args .marks .now) (first (c .before) .args .tolerance) (length (entry (c .before) .C)) (length (entry (c .before) .F)) (length (entry (c .before) .P)) (sym (c .before .gate .ensures) ∙ c .if1 .left)
+
+-- the run's answer, when the part that it was lent is back
+abbrev answer : tie.After-slice-known6 → tie.After-fit-blocks
+answer c = c .before .before .before .before .before .before
+
+abbrev begun : tie.After-slice-known6 → tie.Else1
+begun c = answer c .before .before .before .before .before
+
+abbrev ran : (c : tie.After-slice-known6) → Ran (entry (begun c .before))
+ran c = record { passed = begun c .if1 .left; room = through (begun c) .params; out = answer c .fit-blocks .result; C₁ = answer c .fit-blocks .last .1 .1 .1 .1 .0; F₁ = answer c .fit-blocks .last .1 .1 .1 .1 .1 .0; p = answer c .fit-blocks .last .1 .1 .1 .1 .1 .1 .0; left = of-size (first (begun c .before) .args .cutting) (first (begun c .before) .args .marks .now) (first (begun c .before) .args .tolerance) (answer c .before .before .before .before .max-points-to-fit .result) (blockSize (count (first (begun c .before) .args .marks .now))) (answer c .fit-blocks .result) (entry (begun c .before) .C) (answer c .fit-blocks .last .1 .1 .1 .1 .0) (entry (begun c .before) .F) (answer c .fit-blocks .last .1 .1 .1 .1 .1 .0) (answer c .fit-blocks .last .1 .1 .1 .1 .1 .1 .0) (answer c .before .before .before .before .max-points-to-fit .ensures) (answer c .fit-blocks .ensures); lc = answer c .fit-blocks .kept .1 .1 .1 .1 .0; lf = answer c .fit-blocks .kept .1 .1 .1 .1 .1 .0; lp = answer c .fit-blocks .kept .1 .1 .1 .1 .1 .1 .0 }
+
+-- what was zeroed
+abbrev back : tie.After-slice-known9 → tie.After-slice-known6
+back c = c .before .before .before .before .before .before .before .before .before .before .before .before
+
+abbrev zeros : tie.After-slice-known9 → tie.After-zero-all
+zeros c = c .before .before .before .before .before .before
+
+-- ---- the needs
 
 gate-requires : tie.Need-gate-requires
 gate-requires c κs = search needs
 
 returns : tie.Need-returns
 unfolding fittedAnswer fitOf
-returns c = end-gate (blocksOf (c .before .before .before .before .before .before .args .cutting) (c .before .before .before .before .before .before .args .marks .now) (blockSize (count (c .before .before .before .before .before .before .args .marks .now))) (c .before .before .before .before .before .before .args .tolerance)) (c .before .before .before .before .before .before .args .curves .now) (c .before .before .before .before .before .before .args .firsts .now) (c .before .before .before .before .before .before .args .params .now) (gateOf 4096 (c .before .before .before .before .before .before .args .marks .now) (c .before .before .before .before .before .before .args .tolerance) (length (c .before .before .before .before .before .before .args .curves .now)) (length (c .before .before .before .before .before .before .args .firsts .now)) (length (c .before .before .before .before .before .before .args .params .now))) (c .before .gate .result) (c .before .gate .ensures) (c .if1 .taken)
+returns c = end-gate (entry (c .before)) (c .if1 .taken)
 
 max-points-to-fit-requires : tie.Need-max-points-to-fit-requires
 max-points-to-fit-requires c κs = search needs
 
 slice-relend-prefix-fit-blocks : tie.Need-slice-relend-prefix-fit-blocks
-slice-relend-prefix-fit-blocks c = (passed 4096 (c .before .before .before .before .before .before .before .before .before .args .marks .now) (c .before .before .before .before .before .before .before .before .before .args .tolerance) (length (c .before .before .before .before .before .before .before .before .before .args .curves .now)) (length (c .before .before .before .before .before .before .before .before .before .args .firsts .now)) (length (c .before .before .before .before .before .before .before .before .before .args .params .now)) (sym (c .before .before .before .before .gate .ensures) ∙ c .before .before .before .if1 .left)) .params
+slice-relend-prefix-fit-blocks c = through (c .before .before .before) .params
 
 slice-aggregate-fit-blocks : tie.Need-slice-aggregate-fit-blocks
-slice-aggregate-fit-blocks c = let q = (passed 4096 (c .before .before .before .before .before .before .before .before .before .before .args .marks .now) (c .before .before .before .before .before .before .before .before .before .before .args .tolerance) (length (c .before .before .before .before .before .before .before .before .before .before .args .curves .now)) (length (c .before .before .before .before .before .before .before .before .before .before .args .firsts .now)) (length (c .before .before .before .before .before .before .before .before .before .before .args .params .now)) (sym (c .before .before .before .before .before .gate .ensures) ∙ c .before .before .before .before .if1 .left)) .params in simp length-take (omega arith)
+slice-aggregate-fit-blocks c = let q = through (c .before .before .before .before) .params in simp length-take (omega arith)
 
 fit-blocks-requires : tie.Need-fit-blocks-requires
-fit-blocks-requires c κs = (passed-room 4096 (c .before .before .before .before .before .before .before .before .before .before .args .marks .now) (c .before .before .before .before .before .before .before .before .before .before .args .tolerance) (c .before .before .before .before .before .before .before .before .before .before .args .curves .now) (c .before .before .before .before .before .before .before .before .before .before .args .firsts .now) (c .before .before .before .before .before .before .before .before .before .before .args .params .now) (omega arith) (passed 4096 (c .before .before .before .before .before .before .before .before .before .before .args .marks .now) (c .before .before .before .before .before .before .before .before .before .before .args .tolerance) (length (c .before .before .before .before .before .before .before .before .before .before .args .curves .now)) (length (c .before .before .before .before .before .before .before .before .before .before .args .firsts .now)) (length (c .before .before .before .before .before .before .before .before .before .before .args .params .now)) (sym (c .before .before .before .before .before .gate .ensures) ∙ c .before .before .before .before .if1 .left)), size-within (count (c .before .before .before .before .before .before .before .before .before .before .args .marks .now)) (c .before .before .before .max-points-to-fit .result) (c .before .before .before .max-points-to-fit .ensures))
+fit-blocks-requires c κs = (passed-room 4096 (first (c .before .before .before .before .before) .args .marks .now) (first (c .before .before .before .before .before) .args .tolerance) _ _ _ (omega arith) (through (c .before .before .before .before)), size-within _ (c .before .before .before .max-points-to-fit .result) (c .before .before .before .max-points-to-fit .ensures))
 
 enum-known-out : tie.Need-enum-known-out
 enum-known-out c = search needs
@@ -46,33 +72,33 @@ zero-all-requires : tie.Need-zero-all-requires
 zero-all-requires c κs = search needs
 
 same-length : tie.Need-same-length
-same-length c = c .before .before .before .before .before .before .zero-all .kept .0 ∙ c .before .before .before .before .before .before .before .before .before .before .before .before .before .before .before .before .before .before .fit-blocks .kept .1 .1 .1 .1 .0
+same-length c = zeros c .zero-all .kept .0 ∙ ran (back c) .lc
 
 same-length-2 : tie.Need-same-length-2
-same-length-2 c = c .before .before .before .before .before .before .zero-all .kept .1 .0 ∙ c .before .before .before .before .before .before .before .before .before .before .before .before .before .before .before .before .before .before .fit-blocks .kept .1 .1 .1 .1 .1 .0
+same-length-2 c = zeros c .zero-all .kept .1 .0 ∙ ran (back c) .lf
 
 same-length-3 : tie.Need-same-length-3
-same-length-3 c = c .before .before .before .before .before .before .zero-all .kept .1 .1 .0 ∙ front-length (count (c .before .before .before .before .before .before .before .before .before .before .before .before .before .before .before .before .before .before .before .before .before .before .before .before .before .before .before .before .before .args .marks .now)) (c .before .before .before .before .before .before .before .before .before .before .before .before .before .before .before .before .before .before .before .before .before .before .before .before .before .before .before .before .before .args .params .now) (c .before .before .before .before .before .before .before .before .before .before .before .before .before .before .before .before .before .before .fit-blocks .last .1 .1 .1 .1 .1 .1 .0) ((passed 4096 (c .before .before .before .before .before .before .before .before .before .before .before .before .before .before .before .before .before .before .before .before .before .before .before .before .before .before .before .before .before .args .marks .now) (c .before .before .before .before .before .before .before .before .before .before .before .before .before .before .before .before .before .before .before .before .before .before .before .before .before .before .before .before .before .args .tolerance) (length (c .before .before .before .before .before .before .before .before .before .before .before .before .before .before .before .before .before .before .before .before .before .before .before .before .before .before .before .before .before .args .curves .now)) (length (c .before .before .before .before .before .before .before .before .before .before .before .before .before .before .before .before .before .before .before .before .before .before .before .before .before .before .before .before .before .args .firsts .now)) (length (c .before .before .before .before .before .before .before .before .before .before .before .before .before .before .before .before .before .before .before .before .before .before .before .before .before .before .before .before .before .args .params .now)) (sym (c .before .before .before .before .before .before .before .before .before .before .before .before .before .before .before .before .before .before .before .before .before .before .before .before .gate .ensures) ∙ c .before .before .before .before .before .before .before .before .before .before .before .before .before .before .before .before .before .before .before .before .before .before .before .if1 .left)) .params) (c .before .before .before .before .before .before .before .before .before .before .before .before .before .before .before .before .before .before .fit-blocks .kept .1 .1 .1 .1 .1 .1 .0)
+same-length-3 c = zeros c .zero-all .kept .1 .1 .0 ∙ as-long (entry (begun (back c) .before)) (ran (back c))
 
 returns-2 : tie.Need-returns-2
 unfolding fitOf
-returns-2 c = end-refused (blocksOf (c .before .before .before .before .before .before .before .before .before .before .before .before .before .before .before .before .before .before .before .before .before .before .before .before .before .before .before .before .before .args .cutting) (c .before .before .before .before .before .before .before .before .before .before .before .before .before .before .before .before .before .before .before .before .before .before .before .before .before .before .before .before .before .args .marks .now) (blockSize (count (c .before .before .before .before .before .before .before .before .before .before .before .before .before .before .before .before .before .before .before .before .before .before .before .before .before .before .before .before .before .args .marks .now))) (c .before .before .before .before .before .before .before .before .before .before .before .before .before .before .before .before .before .before .before .before .before .before .before .before .before .before .before .before .before .args .tolerance)) (c .before .before .before .before .before .before .before .before .before .before .before .before .before .before .before .before .before .before .before .before .before .before .before .before .before .before .before .before .before .args .curves .now) (c .before .before .before .before .before .before .before .before .before .before .before .before .before .before .before .before .before .before .before .before .before .before .before .before .before .before .before .before .before .args .firsts .now) (c .before .before .before .before .before .before .before .before .before .before .before .before .before .before .before .before .before .before .before .before .before .before .before .before .before .before .before .before .before .args .params .now) (gateOf 4096 (c .before .before .before .before .before .before .before .before .before .before .before .before .before .before .before .before .before .before .before .before .before .before .before .before .before .before .before .before .before .args .marks .now) (c .before .before .before .before .before .before .before .before .before .before .before .before .before .before .before .before .before .before .before .before .before .before .before .before .before .before .before .before .before .args .tolerance) (length (c .before .before .before .before .before .before .before .before .before .before .before .before .before .before .before .before .before .before .before .before .before .before .before .before .before .before .before .before .before .args .curves .now)) (length (c .before .before .before .before .before .before .before .before .before .before .before .before .before .before .before .before .before .before .before .before .before .before .before .before .before .before .before .before .before .args .firsts .now)) (length (c .before .before .before .before .before .before .before .before .before .before .before .before .before .before .before .before .before .before .before .before .before .before .before .before .before .before .before .before .before .args .params .now))) (c .before .before .before .before .before .before .before .before .before .before .before .before .before .before .before .before .before .before .before .before .before .before .before .before .gate .result) (c .before .before .before .before .before .before .before .before .before .before .before .before .before .before .before .before .before .before .before .before .before .before .before .before .gate .ensures) (c .before .before .before .before .before .before .before .before .before .before .before .before .before .before .before .before .before .before .before .before .before .before .before .if1 .left) (c .before .before .before .before .before .before .before .before .before .before .before .before .before .before .before .before .before .before .fit-blocks .result) (c .before .before .before .before .before .before .before .before .before .before .before .before .before .before .before .before .before .before .fit-blocks .last .1 .1 .1 .1 .0) (c .before .before .before .before .before .before .before .before .before .before .before .before .before .before .before .before .before .before .fit-blocks .last .1 .1 .1 .1 .1 .0) (c .before .before .before .before .before .before .before .before .before .before .before .before .before .before .before .before .before .before .fit-blocks .last .1 .1 .1 .1 .1 .1 .0) (rw (c .before .before .before .before .before .before .before .before .before .before .before .before .before .before .before .before .before .before .before .before .before .before .max-points-to-fit .ensures) at (c .before .before .before .before .before .before .before .before .before .before .before .before .before .before .before .before .before .before .fit-blocks .ensures)) (c .before .before .before .before .before .before .before .before .before .before .enum-told .given .0 .0) _ _ _ (c .before .before .before .before .before .before .before .before .before .before .enum-told .given .1)
-    (zeroed f0 _ (c .before .before .before .before .before .before .before .before .before .before .before .before .before .before .before .before .before .before .fit-blocks .last .1 .1 .1 .1 .0) (c .before .before .before .before .before .before .before .before .before .before .before .before .before .before .before .before .before .before .before .before .before .before .before .before .before .before .before .before .before .args .curves .now) (c .before .before .before .before .before .before .zero-all .ensures .0) (c .before .before .before .before .before .before .before .before .before .before .before .before .before .before .before .before .before .before .fit-blocks .kept .1 .1 .1 .1 .0))
-    (zeroed 0 _ (c .before .before .before .before .before .before .before .before .before .before .before .before .before .before .before .before .before .before .fit-blocks .last .1 .1 .1 .1 .1 .0) (c .before .before .before .before .before .before .before .before .before .before .before .before .before .before .before .before .before .before .before .before .before .before .before .before .before .before .before .before .before .args .firsts .now) (c .before .before .before .before .before .before .zero-all .ensures .1) (c .before .before .before .before .before .before .before .before .before .before .before .before .before .before .before .before .before .before .fit-blocks .kept .1 .1 .1 .1 .1 .0))
-    (zeroed f0 _ (c .before .before .before .before .before .before .before .before .before .before .before .before .before .before .before .before .before .before .fit-blocks .last .1 .1 .1 .1 .1 .1 .0 ++ drop (count (c .before .before .before .before .before .before .before .before .before .before .before .before .before .before .before .before .before .before .before .before .before .before .before .before .before .before .before .before .before .args .marks .now)) (c .before .before .before .before .before .before .before .before .before .before .before .before .before .before .before .before .before .before .before .before .before .before .before .before .before .before .before .before .before .args .params .now)) (c .before .before .before .before .before .before .before .before .before .before .before .before .before .before .before .before .before .before .before .before .before .before .before .before .before .before .before .before .before .args .params .now) (c .before .before .before .before .before .before .zero-all .ensures .2) (front-length (count (c .before .before .before .before .before .before .before .before .before .before .before .before .before .before .before .before .before .before .before .before .before .before .before .before .before .before .before .before .before .args .marks .now)) (c .before .before .before .before .before .before .before .before .before .before .before .before .before .before .before .before .before .before .before .before .before .before .before .before .before .before .before .before .before .args .params .now) (c .before .before .before .before .before .before .before .before .before .before .before .before .before .before .before .before .before .before .fit-blocks .last .1 .1 .1 .1 .1 .1 .0) ((passed 4096 (c .before .before .before .before .before .before .before .before .before .before .before .before .before .before .before .before .before .before .before .before .before .before .before .before .before .before .before .before .before .args .marks .now) (c .before .before .before .before .before .before .before .before .before .before .before .before .before .before .before .before .before .before .before .before .before .before .before .before .before .before .before .before .before .args .tolerance) (length (c .before .before .before .before .before .before .before .before .before .before .before .before .before .before .before .before .before .before .before .before .before .before .before .before .before .before .before .before .before .args .curves .now)) (length (c .before .before .before .before .before .before .before .before .before .before .before .before .before .before .before .before .before .before .before .before .before .before .before .before .before .before .before .before .before .args .firsts .now)) (length (c .before .before .before .before .before .before .before .before .before .before .before .before .before .before .before .before .before .before .before .before .before .before .before .before .before .before .before .before .before .args .params .now)) (sym (c .before .before .before .before .before .before .before .before .before .before .before .before .before .before .before .before .before .before .before .before .before .before .before .before .gate .ensures) ∙ c .before .before .before .before .before .before .before .before .before .before .before .before .before .before .before .before .before .before .before .before .before .before .before .if1 .left)) .params) (c .before .before .before .before .before .before .before .before .before .before .before .before .before .before .before .before .before .before .fit-blocks .kept .1 .1 .1 .1 .1 .1 .0)))
+returns-2 c =
+    let t = c .before .before .before .before .before .before .before .before .before .before in
+    let z = zeros c .zero-all .ensures in
+    end-refused (entry (begun (back c) .before)) (ran (back c)) (t .enum-told .given .0 .0) _ _ _ (t .enum-told .given .1) (z .0) (z .1) (z .2)
 
 same-length-4 : tie.Need-same-length-4
-same-length-4 c = c .before .before .before .before .before .before .before .before .before .fit-blocks .kept .1 .1 .1 .1 .0
+same-length-4 c = ran (c .before .before .before) .lc
 
 same-length-5 : tie.Need-same-length-5
-same-length-5 c = c .before .before .before .before .before .before .before .before .before .fit-blocks .kept .1 .1 .1 .1 .1 .0
+same-length-5 c = ran (c .before .before .before) .lf
 
 same-length-6 : tie.Need-same-length-6
-same-length-6 c = front-length (count (c .before .before .before .before .before .before .before .before .before .before .before .before .before .before .before .before .before .before .before .before .args .marks .now)) (c .before .before .before .before .before .before .before .before .before .before .before .before .before .before .before .before .before .before .before .before .args .params .now) (c .before .before .before .before .before .before .before .before .before .fit-blocks .last .1 .1 .1 .1 .1 .1 .0) ((passed 4096 (c .before .before .before .before .before .before .before .before .before .before .before .before .before .before .before .before .before .before .before .before .args .marks .now) (c .before .before .before .before .before .before .before .before .before .before .before .before .before .before .before .before .before .before .before .before .args .tolerance) (length (c .before .before .before .before .before .before .before .before .before .before .before .before .before .before .before .before .before .before .before .before .args .curves .now)) (length (c .before .before .before .before .before .before .before .before .before .before .before .before .before .before .before .before .before .before .before .before .args .firsts .now)) (length (c .before .before .before .before .before .before .before .before .before .before .before .before .before .before .before .before .before .before .before .before .args .params .now)) (sym (c .before .before .before .before .before .before .before .before .before .before .before .before .before .before .before .gate .ensures) ∙ c .before .before .before .before .before .before .before .before .before .before .before .before .before .before .if1 .left)) .params) (c .before .before .before .before .before .before .before .before .before .fit-blocks .kept .1 .1 .1 .1 .1 .1 .0)
+same-length-6 c = as-long (entry (begun (c .before .before .before) .before)) (ran (c .before .before .before))
 
 returns-3 : tie.Need-returns-3
 unfolding fittedAnswer fitOf
-returns-3 c = let q = (passed 4096 (c .before .before .before .before .before .before .before .before .before .before .before .before .before .before .before .before .before .before .before .before .args .marks .now) (c .before .before .before .before .before .before .before .before .before .before .before .before .before .before .before .before .before .before .before .before .args .tolerance) (length (c .before .before .before .before .before .before .before .before .before .before .before .before .before .before .before .before .before .before .before .before .args .curves .now)) (length (c .before .before .before .before .before .before .before .before .before .before .before .before .before .before .before .before .before .before .before .before .args .firsts .now)) (length (c .before .before .before .before .before .before .before .before .before .before .before .before .before .before .before .before .before .before .before .before .args .params .now)) (sym (c .before .before .before .before .before .before .before .before .before .before .before .before .before .before .before .gate .ensures) ∙ c .before .before .before .before .before .before .before .before .before .before .before .before .before .before .if1 .left)) .params in end-done (blocksOf (c .before .before .before .before .before .before .before .before .before .before .before .before .before .before .before .before .before .before .before .before .args .cutting) (c .before .before .before .before .before .before .before .before .before .before .before .before .before .before .before .before .before .before .before .before .args .marks .now) (blockSize (count (c .before .before .before .before .before .before .before .before .before .before .before .before .before .before .before .before .before .before .before .before .args .marks .now))) (c .before .before .before .before .before .before .before .before .before .before .before .before .before .before .before .before .before .before .before .before .args .tolerance)) (c .before .before .before .before .before .before .before .before .before .before .before .before .before .before .before .before .before .before .before .before .args .curves .now) (c .before .before .before .before .before .before .before .before .before .before .before .before .before .before .before .before .before .before .before .before .args .firsts .now) (c .before .before .before .before .before .before .before .before .before .before .before .before .before .before .before .before .before .before .before .before .args .params .now) (gateOf 4096 (c .before .before .before .before .before .before .before .before .before .before .before .before .before .before .before .before .before .before .before .before .args .marks .now) (c .before .before .before .before .before .before .before .before .before .before .before .before .before .before .before .before .before .before .before .before .args .tolerance) (length (c .before .before .before .before .before .before .before .before .before .before .before .before .before .before .before .before .before .before .before .before .args .curves .now)) (length (c .before .before .before .before .before .before .before .before .before .before .before .before .before .before .before .before .before .before .before .before .args .firsts .now)) (length (c .before .before .before .before .before .before .before .before .before .before .before .before .before .before .before .before .before .before .before .before .args .params .now))) (c .before .before .before .before .before .before .before .before .before .before .before .before .before .before .before .gate .result) (c .before .before .before .before .before .before .before .before .before .before .before .before .before .before .before .gate .ensures) (c .before .before .before .before .before .before .before .before .before .before .before .before .before .before .if1 .left) (c .before .before .before .before .before .before .before .before .before .fit-blocks .result) (c .before .before .before .before .before .before .before .before .before .fit-blocks .last .1 .1 .1 .1 .0) (c .before .before .before .before .before .before .before .before .before .fit-blocks .last .1 .1 .1 .1 .1 .0) (c .before .before .before .before .before .before .before .before .before .fit-blocks .last .1 .1 .1 .1 .1 .1 .0) (rw (c .before .before .before .before .before .before .before .before .before .before .before .before .before .max-points-to-fit .ensures) at (c .before .before .before .before .before .before .before .before .before .fit-blocks .ensures)) (c .before .out .given .0 .0) (count (c .before .before .before .before .before .before .before .before .before .before .before .before .before .before .before .before .before .before .before .before .args .marks .now)) (c .before .out .given .1) (c .before .before .before .before .before .before .before .before .before .fit-blocks .kept .1 .1 .1 .1 .1 .1 .0 ∙ simp length-take (omega arith))
+returns-3 c = end-done (entry (begun (c .before .before .before) .before)) (ran (c .before .before .before)) (c .before .out .given .0 .0) (c .before .out .given .1)
 
 pub fit-cut-spec : {M : Type 1} → statement M
 fit-cut-spec =
