@@ -266,31 +266,62 @@ module _ (K : Call) (H : Half K) where
   pub less-right : length (take (length (K .ms) - 2 * K .at) (drop (2 * K .at) (K .ms))) + 1 < length (K .ms)
   less-right = let n = numbers in simp (length-take, length-drop) (omega (arith, n))
 
-  module _ (r : Fitted) (D₁ : List Float) (E₁ : List ℕ) (p′ : List Float)
-      (h : Left (runOf (take (length (K .ms) - 2 * K .at) (drop (2 * K .at) (K .ms))) (K .first + K .at) (H .T .start) (K .e) (K .tol)) r (take (length (H .C₁) - 8 * H .j) (drop (8 * H .j) (H .C₁))) D₁ (take (length (H .F₁) - H .j) (drop (H .j) (H .F₁))) E₁ p′) where
+  -- what the right side answered, and what it left of the parts that it was lent
+  pub record Right : Type 0 where
+    pub r : Fitted
+    pub D₁ : List Float
+    pub E₁ : List ℕ
+    pub p′ : List Float
+    pub left : Left (runOf (take (length (K .ms) - 2 * K .at) (drop (2 * K .at) (K .ms))) (K .first + K .at) (H .T .start) (K .e) (K .tol)) r (take (length (H .C₁) - 8 * H .j) (drop (8 * H .j) (H .C₁))) D₁ (take (length (H .F₁) - H .j) (drop (H .j) (H .F₁))) E₁ p′
+    pub ld : length D₁ ≡ length (take (length (H .C₁) - 8 * H .j) (drop (8 * H .j) (H .C₁)))
+    pub le : length E₁ ≡ length (take (length (H .F₁) - H .j) (drop (H .j) (H .F₁)))
+    pub lp : length p′ ≡ length (take (length P₁ - K .at) (drop (K .at) P₁))
+
+  module _ (R : Right) where
+    -- the three lent slices when their parts are back
+    abbrev pub C₂ : List Float
+    C₂ = take (8 * H .j) (H .C₁) ++ (R .D₁ ++ drop (length (H .C₁) - 8 * H .j) (drop (8 * H .j) (H .C₁)))
+
+    abbrev pub F₂ : List ℕ
+    F₂ = take (H .j) (H .F₁) ++ (R .E₁ ++ drop (length (H .F₁) - H .j) (drop (H .j) (H .F₁)))
+
+    abbrev pub P₂ : List Float
+    P₂ = take (K .at) P₁ ++ (R .p′ ++ drop (length P₁ - K .at) (drop (K .at) P₁))
+
+    pub as-long-curves : length C₂ ≡ length (K .C)
+    as-long-curves = let n = numbers in part-length (8 * H .j) (length (H .C₁) - 8 * H .j) (H .C₁) (R .D₁) (omega (arith, n)) refl (R .ld) ∙ H .lc
+
+    pub as-long-firsts : length F₂ ≡ length (K .F)
+    as-long-firsts = let n = numbers in part-length (H .j) (length (H .F₁) - H .j) (H .F₁) (R .E₁) (omega (arith, n)) refl (R .le) ∙ H .lf
+
+    pub as-long-params : length P₂ ≡ length (K .P)
+    as-long-params = let n = numbers in part-length (K .at) (length P₁ - K .at) P₁ (R .p′) (omega (arith, n)) refl (R .lp) ∙ n .lp
+
     -- the right side's run, of the marks as the definition has them
-    ran : Left (rightRun K (H .T)) r (take (length (H .C₁) - 8 * H .j) (drop (8 * H .j) (H .C₁))) D₁ (take (length (H .F₁) - H .j) (drop (H .j) (H .F₁))) E₁ p′
-    ran = rw (take-all (length (K .ms) - 2 * K .at) (drop (2 * K .at) (K .ms)) (simp length-drop (omega arith))) at h
+    ran : Left (rightRun K (H .T)) (R .r) (take (length (H .C₁) - 8 * H .j) (drop (8 * H .j) (H .C₁))) (R .D₁) (take (length (H .F₁) - H .j) (drop (H .j) (H .F₁))) (R .E₁) (R .p′)
+    ran = rw (take-all (length (K .ms) - 2 * K .at) (drop (2 * K .at) (K .ms)) (simp length-drop (omega arith))) at (R .left)
 
-    pub cut-stops-right : (q : ℕ) (C₂ : List Float) (F₂ : List ℕ) (p₂ : List Float) → r ≡ Refused q → Left (cutOf (K .ms) (K .at) (K .first) (K .s) (K .e) (K .tol)) r (K .C) C₂ (K .F) F₂ p₂
+    abbrev did : (k : ℕ) → R .r ≡ Curves k → Done (rightRun K (H .T)) k (take (length (H .C₁) - 8 * H .j) (drop (8 * H .j) (H .C₁))) (R .D₁) (take (length (H .F₁) - H .j) (drop (H .j) (H .F₁))) (R .E₁) (R .p′)
+    did k q = is-done (rightRun K (H .T)) (R .r) k _ (R .D₁) _ (R .E₁) (R .p′) ran q
+
+    pub cut-stops-right : (q : ℕ) (C₂ : List Float) (F₂ : List ℕ) (p₂ : List Float) → R .r ≡ Refused q → Left (cutOf (K .ms) (K .at) (K .first) (K .s) (K .e) (K .tol)) (R .r) (K .C) C₂ (K .F) F₂ p₂
     cut-stops-right q C₂ F₂ p₂ n =
-        rw (H .is, H .side .is, is-refused (rightRun K (H .T)) r q _ D₁ _ E₁ p′ ran n) n
+        rw (H .is, H .side .is, is-refused (rightRun K (H .T)) (R .r) q _ (R .D₁) _ (R .E₁) (R .p′) ran n) n
 
-    -- all is done: what the three lent slices hold when their parts are back
-    pub cut-done : (k : ℕ) → r ≡ Curves k
-        → Left (cutOf (K .ms) (K .at) (K .first) (K .s) (K .e) (K .tol)) (Curves (H .j + k)) (K .C) (take (8 * H .j) (H .C₁) ++ (D₁ ++ drop (length (H .C₁) - 8 * H .j) (drop (8 * H .j) (H .C₁)))) (K .F) (take (H .j) (H .F₁) ++ (E₁ ++ drop (length (H .F₁) - H .j) (drop (H .j) (H .F₁)))) (take (K .at) P₁ ++ (p′ ++ drop (length P₁ - K .at) (drop (K .at) P₁)))
+    -- all is done
+    pub cut-done : (k : ℕ) → R .r ≡ Curves k → Left (cutOf (K .ms) (K .at) (K .first) (K .s) (K .e) (K .tol)) (Curves (H .j + k)) (K .C) C₂ (K .F) F₂ P₂
     cut-done k q =
-        let right = is-done (rightRun K (H .T)) r k _ D₁ _ E₁ p′ ran q in
+        let right = did k q in
         let n = numbers in
-        rw (H .is) (both-done (K .at) (leftRun K (H .T)) (rightRun K (H .T)) (H .side .cs) (right .cs) (H .side .fs) (right .fs) (H .p) p′ (H .j) k (K .C) _ (K .F) _ _ (H .side .is) (right .is) (H .side .long) (right .long)
-        (written-behind (H .side .cs) (right .cs) (K .C) (H .C₁) D₁ (8 * H .j) (length (H .C₁) - 8 * H .j) (H .side .curves) (n .eight) refl (right .curves))
-        (written-behind (H .side .fs) (right .fs) (K .F) (H .F₁) E₁ (H .j) (length (H .F₁) - H .j) (H .side .firsts) (H .side .long) refl (right .firsts))
-        (params-join (K .at) (length P₁ - K .at) (H .p) p′ (K .P) P₁ refl (omega (arith, n)) refl))
+        rw (H .is) (both-done (K .at) (leftRun K (H .T)) (rightRun K (H .T)) (H .side .cs) (right .cs) (H .side .fs) (right .fs) (H .p) (R .p′) (H .j) k (K .C) _ (K .F) _ _ (H .side .is) (right .is) (H .side .long) (right .long)
+        (written-behind (H .side .cs) (right .cs) (K .C) (H .C₁) (R .D₁) (8 * H .j) (length (H .C₁) - 8 * H .j) (H .side .curves) (n .eight) refl (right .curves))
+        (written-behind (H .side .fs) (right .fs) (K .F) (H .F₁) (R .E₁) (H .j) (length (H .F₁) - H .j) (H .side .firsts) (H .side .long) refl (right .firsts))
+        (params-join (K .at) (length P₁ - K .at) (H .p) (R .p′) (K .P) P₁ refl (omega (arith, n)) refl))
 
-    pub right-few : (k : ℕ) → r ≡ Curves k → k + K .at < length (K .P)
+    pub right-few : (k : ℕ) → R .r ≡ Curves k → k + K .at < length (K .P)
     right-few k q =
-        let right = is-done (rightRun K (H .T)) r k _ D₁ _ E₁ p′ ran q in
+        let right = did k q in
         let n = numbers in
         let m : count (rightOf (K .at) (K .ms)) ≡ count (K .ms) - K .at = right-count (K .at) (K .ms) (omega (arith, n)) in
-        let z = sizes (rightOf (K .at) (K .ms)) (K .first + K .at) (H .T .start) (K .e) (K .tol) (right .cs) (right .fs) p′ (omega (arith, n)) (right .is) in
+        let z = sizes (rightOf (K .at) (K .ms)) (K .first + K .at) (H .T .start) (K .e) (K .tol) (right .cs) (right .fs) (R .p′) (omega (arith, n)) (right .is) in
         omega (arith, n, z .1, right .long)

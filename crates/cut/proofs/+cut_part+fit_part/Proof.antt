@@ -7,7 +7,7 @@ use lib.ListN.{length, length-take}
 use borrow.Author.Needs.{needs}
 use Rattle.cut.proofs.Cut as laws
 use Rattle.cut.proofs.Cut.{Call, Half}
-use borrow.Fn.Kinds.{In}
+use borrow.Fn.Kinds.{In, Out}
 use borrow.Fn.PlainCycle.{Measures, is, falls, and}
 use Rattle.cut.proofs.cut_part.Reads as cut-part
 use Rattle.cut.proofs.cut_part.Kinds as cut-part-kinds
@@ -41,8 +41,15 @@ abbrev fit-part-below : ℕ → In 4 fit-part-kinds.ps
 fit-part-below t =
     and 4 fit-part-kinds.ps (falls 4 fit-part-kinds.ps _<_ μ-fit-part t) fit-part.Pre
 
+-- a place or a need of cut_part, and of fit_part, at the measure t
+abbrev of-cut : ℕ → (cut-part-lts.Claims → In 4 cut-part-kinds.ps → Out 4 cut-part-kinds.ps cut-part-kinds.r → Type 0) → Type 0
+of-cut t N = N (ways-at-reads.Asked, ways-at-reads.Learnt, fit-part-below t, fit-part.Post) (cut-part-at t) cut-part.Post
+
+abbrev of-fit : ℕ → (fit-part-lts.Claims → In 4 fit-part-kinds.ps → Out 4 fit-part-kinds.ps fit-part-kinds.r → Type 0) → Type 0
+of-fit t N = N (try-part-reads.Asked, try-part-reads.Learnt, put-curve-reads.Asked, put-curve-reads.Learnt, cut-part-below t, cut-part.Post) (fit-part-at t) fit-part.Post
+
 -- cut_part's entry
-abbrev call : (t : ℕ) → cut-part-lts.Start (ways-at-reads.Asked, ways-at-reads.Learnt, fit-part-below t, fit-part.Post) (cut-part-at t) cut-part.Post → Call
+abbrev call : (t : ℕ) → of-cut t cut-part-lts.Start → Call
 call t c = record {
   ms = c .args .marks .now;
   at = c .args .at;
@@ -59,7 +66,7 @@ call t c = record {
 }
 
 -- cut_part, once the left side has given its curves
-abbrev half : (t : ℕ) (c : cut-part-lts.After-left (ways-at-reads.Asked, ways-at-reads.Learnt, fit-part-below t, fit-part.Post) (cut-part-at t) cut-part.Post) → Half (call t (c .before .before .before .before .before .before .before .before .before .before .before .before .before .before .before .before .before .before .before .before .before .before))
+abbrev half : (t : ℕ) (c : of-cut t cut-part-lts.After-left) → Half (call t (c .before .before .before .before .before .before .before .before .before .before .before .before .before .before .before .before .before .before .before .before .before .before))
 half t c =
     let l = c .before .before .before .before .before .before .before .before in
     let w = c .before .before .before .before .before .before .before .before .before .before .before .before .before .before .before in
@@ -77,192 +84,205 @@ half t c =
       each = l .fit-part .kept .1 .1 .1 .1 .1 .1 .1 .0;
     }
 
-cut-part-ways-at-requires : (t : ℕ) → cut-part-lts.Need-ways-at-requires (ways-at-reads.Asked, ways-at-reads.Learnt, fit-part-below t, fit-part.Post) (cut-part-at t) cut-part.Post
+abbrev known : (t : ℕ) (c : of-cut t cut-part-lts.After-left) → laws.Numbers (call t (c .before .before .before .before .before .before .before .before .before .before .before .before .before .before .before .before .before .before .before .before .before .before)) (half t c)
+known t c = laws.numbers (call t (c .before .before .before .before .before .before .before .before .before .before .before .before .before .before .before .before .before .before .before .before .before .before)) (half t c)
+
+-- and once the right side's parts of the lent slices are back
+abbrev left : (t : ℕ) → of-cut t cut-part-lts.After-slice-known9 → of-cut t cut-part-lts.After-left
+left t c = c .before .before .before .before .before .before .before .before .before .before .before .before .before
+
+abbrev entry : (t : ℕ) → of-cut t cut-part-lts.After-slice-known9 → Call
+entry t c = call t (left t c .before .before .before .before .before .before .before .before .before .before .before .before .before .before .before .before .before .before .before .before .before .before)
+
+abbrev other : (t : ℕ) (c : of-cut t cut-part-lts.After-slice-known9) → laws.Right (entry t c) (half t (left t c))
+other t c = let f = (c .before .before .before .before .before .before) .fit-part2 in record { r = f .result; D₁ = f .last .1 .1 .1 .1 .1 .0; E₁ = f .last .1 .1 .1 .1 .1 .1 .0; p′ = f .last .1 .1 .1 .1 .1 .1 .1 .0; left = f .ensures; ld = f .kept .1 .1 .1 .1 .1 .0; le = f .kept .1 .1 .1 .1 .1 .1 .0; lp = f .kept .1 .1 .1 .1 .1 .1 .1 .0 }
+
+cut-part-ways-at-requires : (t : ℕ) → of-cut t cut-part-lts.Need-ways-at-requires
 cut-part-ways-at-requires t c κs = omega arith
 
-cut-part-enum-known-ways : (t : ℕ) → cut-part-lts.Need-enum-known-ways (ways-at-reads.Asked, ways-at-reads.Learnt, fit-part-below t, fit-part.Post) (cut-part-at t) cut-part.Post
+cut-part-enum-known-ways : (t : ℕ) → of-cut t cut-part-lts.Need-enum-known-ways
 cut-part-enum-known-ways t c = search needs
 
-cut-part-enum-told : (t : ℕ) → cut-part-lts.Need-enum-told (ways-at-reads.Asked, ways-at-reads.Learnt, fit-part-below t, fit-part.Post) (cut-part-at t) cut-part.Post
+cut-part-enum-told : (t : ℕ) → of-cut t cut-part-lts.Need-enum-told
 cut-part-enum-told t c = search needs
 
-cut-part-returns : (t : ℕ) → cut-part-lts.Need-returns (ways-at-reads.Asked, ways-at-reads.Learnt, fit-part-below t, fit-part.Post) (cut-part-at t) cut-part.Post
+cut-part-returns : (t : ℕ) → of-cut t cut-part-lts.Need-returns
 cut-part-returns t c = laws.cut-refused (call t (c .before .before .before .before .before .before .before)) 6 _ _ _ (laws.ways-lost _ _ (c .before .before .ways-at .ensures) (c .enum-told .given .1))
 
-cut-part-mul-front : (t : ℕ) → cut-part-lts.Need-mul-front (ways-at-reads.Asked, ways-at-reads.Learnt, fit-part-below t, fit-part.Post) (cut-part-at t) cut-part.Post
+cut-part-mul-front : (t : ℕ) → of-cut t cut-part-lts.Need-mul-front
 cut-part-mul-front t c = omega arith
 
-cut-part-add-front : (t : ℕ) → cut-part-lts.Need-add-front (ways-at-reads.Asked, ways-at-reads.Learnt, fit-part-below t, fit-part.Post) (cut-part-at t) cut-part.Post
+cut-part-add-front : (t : ℕ) → of-cut t cut-part-lts.Need-add-front
 cut-part-add-front t c = omega arith
 
-cut-part-add-shared : (t : ℕ) → cut-part-lts.Need-add-shared (ways-at-reads.Asked, ways-at-reads.Learnt, fit-part-below t, fit-part.Post) (cut-part-at t) cut-part.Post
+cut-part-add-shared : (t : ℕ) → of-cut t cut-part-lts.Need-add-shared
 cut-part-add-shared t c = omega arith
 
-cut-part-slice-aggregate-fit-part : (t : ℕ) → cut-part-lts.Need-slice-aggregate-fit-part (ways-at-reads.Asked, ways-at-reads.Learnt, fit-part-below t, fit-part.Post) (cut-part-at t) cut-part.Post
+cut-part-slice-aggregate-fit-part : (t : ℕ) → of-cut t cut-part-lts.Need-slice-aggregate-fit-part
 cut-part-slice-aggregate-fit-part t c = simp length-take (omega arith)
 
-cut-part-slice-relend-prefix-fit-part : (t : ℕ) → cut-part-lts.Need-slice-relend-prefix-fit-part (ways-at-reads.Asked, ways-at-reads.Learnt, fit-part-below t, fit-part.Post) (cut-part-at t) cut-part.Post
+cut-part-slice-relend-prefix-fit-part : (t : ℕ) → of-cut t cut-part-lts.Need-slice-relend-prefix-fit-part
 cut-part-slice-relend-prefix-fit-part t c = omega arith
 
-cut-part-slice-aggregate-fit-part-2 : (t : ℕ) → cut-part-lts.Need-slice-aggregate-fit-part-2 (ways-at-reads.Asked, ways-at-reads.Learnt, fit-part-below t, fit-part.Post) (cut-part-at t) cut-part.Post
+cut-part-slice-aggregate-fit-part-2 : (t : ℕ) → of-cut t cut-part-lts.Need-slice-aggregate-fit-part-2
 cut-part-slice-aggregate-fit-part-2 t c = simp length-take (omega arith)
 
-cut-part-fit-part-requires : (t : ℕ) → cut-part-lts.Need-fit-part-requires (ways-at-reads.Asked, ways-at-reads.Learnt, fit-part-below t, fit-part.Post) (cut-part-at t) cut-part.Post
+cut-part-fit-part-requires : (t : ℕ) → of-cut t cut-part-lts.Need-fit-part-requires
 cut-part-fit-part-requires t c κs = (omega (arith, laws.less-left (call t (c .before .before .before .before .before .before .before .before .before .before .before .before .before)), c .before .before .before .before .before .before .before .before .before .before .before .before .before .pre .0), laws.room-left (call t (c .before .before .before .before .before .before .before .before .before .before .before .before .before)))
 
-cut-part-enum-known-left : (t : ℕ) → cut-part-lts.Need-enum-known-left (ways-at-reads.Asked, ways-at-reads.Learnt, fit-part-below t, fit-part.Post) (cut-part-at t) cut-part.Post
+cut-part-enum-known-left : (t : ℕ) → of-cut t cut-part-lts.Need-enum-known-left
 cut-part-enum-known-left t c = search needs
 
-cut-part-enum-told-2 : (t : ℕ) → cut-part-lts.Need-enum-told-2 (ways-at-reads.Asked, ways-at-reads.Learnt, fit-part-below t, fit-part.Post) (cut-part-at t) cut-part.Post
+cut-part-enum-told-2 : (t : ℕ) → of-cut t cut-part-lts.Need-enum-told-2
 cut-part-enum-told-2 t c = search needs
 
-cut-part-same-length : (t : ℕ) → cut-part-lts.Need-same-length (ways-at-reads.Asked, ways-at-reads.Learnt, fit-part-below t, fit-part.Post) (cut-part-at t) cut-part.Post
+cut-part-same-length : (t : ℕ) → of-cut t cut-part-lts.Need-same-length
 cut-part-same-length t c = c .before .before .before .before .before .before .before .before .fit-part .kept .1 .1 .1 .1 .1 .0
 
-cut-part-same-length-2 : (t : ℕ) → cut-part-lts.Need-same-length-2 (ways-at-reads.Asked, ways-at-reads.Learnt, fit-part-below t, fit-part.Post) (cut-part-at t) cut-part.Post
+cut-part-same-length-2 : (t : ℕ) → of-cut t cut-part-lts.Need-same-length-2
 cut-part-same-length-2 t c = c .before .before .before .before .before .before .before .before .fit-part .kept .1 .1 .1 .1 .1 .1 .0
 
-cut-part-same-length-3 : (t : ℕ) → cut-part-lts.Need-same-length-3 (ways-at-reads.Asked, ways-at-reads.Learnt, fit-part-below t, fit-part.Post) (cut-part-at t) cut-part.Post
+cut-part-same-length-3 : (t : ℕ) → of-cut t cut-part-lts.Need-same-length-3
 cut-part-same-length-3 t c = let k = call t (c .before .before .before .before .before .before .before .before .before .before .before .before .before .before .before .before .before .before .before .before .before .before) in laws.front-length (k .at + 1) (k .P) (c .before .before .before .before .before .before .before .before .fit-part .last .1 .1 .1 .1 .1 .1 .1 .0) (omega arith) (c .before .before .before .before .before .before .before .before .fit-part .kept .1 .1 .1 .1 .1 .1 .1 .0)
 
-cut-part-returns-2 : (t : ℕ) → cut-part-lts.Need-returns-2 (ways-at-reads.Asked, ways-at-reads.Learnt, fit-part-below t, fit-part.Post) (cut-part-at t) cut-part.Post
+cut-part-returns-2 : (t : ℕ) → of-cut t cut-part-lts.Need-returns-2
 cut-part-returns-2 t c =
     let l = c .before .before .before .before .before .before .before .before in
     let w = c .before .before .before .before .before .before .before .before .before .before .before .before .before .before .before in
     laws.cut-stops-left (call t (c .before .before .before .before .before .before .before .before .before .before .before .before .before .before .before .before .before .before .before .before .before .before)) (w .ways .given .0 .0) (l .fit-part .result) (c .enum-told2 .given .0 .0) (l .fit-part .last .1 .1 .1 .1 .1 .0) _ (l .fit-part .last .1 .1 .1 .1 .1 .1 .0) _ (l .fit-part .last .1 .1 .1 .1 .1 .1 .1 .0) _
     (laws.ways-are _ _ _ (c .before .before .before .before .before .before .before .before .before .before .before .before .before .before .before .before .before .ways-at .ensures) (w .ways .given .1)) (l .fit-part .ensures) (c .enum-told2 .given .1)
 
-cut-part-mul-back : (t : ℕ) → cut-part-lts.Need-mul-back (ways-at-reads.Asked, ways-at-reads.Learnt, fit-part-below t, fit-part.Post) (cut-part-at t) cut-part.Post
-cut-part-mul-back t c = omega (arith, laws.numbers (call t (c .before .before .before .before .before .before .before .before .before .before .before .before .before .before .before .before .before .before .before .before .before .before .before .before)) (half t (c .before .before)))
+cut-part-mul-back : (t : ℕ) → of-cut t cut-part-lts.Need-mul-back
+cut-part-mul-back t c = omega (arith, known t (c .before .before))
 
-cut-part-mul-behind : (t : ℕ) → cut-part-lts.Need-mul-behind (ways-at-reads.Asked, ways-at-reads.Learnt, fit-part-below t, fit-part.Post) (cut-part-at t) cut-part.Post
-cut-part-mul-behind t c = omega (arith, laws.numbers (call t (c .before .before .before .before .before .before .before .before .before .before .before .before .before .before .before .before .before .before .before .before .before .before .before .before)) (half t (c .before .before)))
+cut-part-mul-behind : (t : ℕ) → of-cut t cut-part-lts.Need-mul-behind
+cut-part-mul-behind t c = omega (arith, known t (c .before .before))
 
-cut-part-mul-fit-part : (t : ℕ) → cut-part-lts.Need-mul-fit-part (ways-at-reads.Asked, ways-at-reads.Learnt, fit-part-below t, fit-part.Post) (cut-part-at t) cut-part.Post
-cut-part-mul-fit-part t c = omega (arith, laws.numbers (call t (c .before .before .before .before .before .before .before .before .before .before .before .before .before .before .before .before .before .before .before .before .before .before .before .before)) (half t (c .before .before)))
+cut-part-mul-fit-part : (t : ℕ) → of-cut t cut-part-lts.Need-mul-fit-part
+cut-part-mul-fit-part t c = omega (arith, known t (c .before .before))
 
-cut-part-sub-fit-part : (t : ℕ) → cut-part-lts.Need-sub-fit-part (ways-at-reads.Asked, ways-at-reads.Learnt, fit-part-below t, fit-part.Post) (cut-part-at t) cut-part.Post
-cut-part-sub-fit-part t c = omega (arith, laws.numbers (call t (c .before .before .before .before .before .before .before .before .before .before .before .before .before .before .before .before .before .before .before .before .before .before .before .before)) (half t (c .before .before)))
+cut-part-sub-fit-part : (t : ℕ) → of-cut t cut-part-lts.Need-sub-fit-part
+cut-part-sub-fit-part t c = omega (arith, known t (c .before .before))
 
-cut-part-part-fit-part-start : (t : ℕ) → cut-part-lts.Need-part-fit-part-start (ways-at-reads.Asked, ways-at-reads.Learnt, fit-part-below t, fit-part.Post) (cut-part-at t) cut-part.Post
-cut-part-part-fit-part-start t c = omega (arith, laws.numbers (call t (c .before .before .before .before .before .before .before .before .before .before .before .before .before .before .before .before .before .before .before .before .before .before .before .before)) (half t (c .before .before)))
+cut-part-part-fit-part-start : (t : ℕ) → of-cut t cut-part-lts.Need-part-fit-part-start
+cut-part-part-fit-part-start t c = omega (arith, known t (c .before .before))
 
-cut-part-part-fit-part-end : (t : ℕ) → cut-part-lts.Need-part-fit-part-end (ways-at-reads.Asked, ways-at-reads.Learnt, fit-part-below t, fit-part.Post) (cut-part-at t) cut-part.Post
-cut-part-part-fit-part-end t c = omega (arith, laws.numbers (call t (c .before .before .before .before .before .before .before .before .before .before .before .before .before .before .before .before .before .before .before .before .before .before .before .before)) (half t (c .before .before)))
+cut-part-part-fit-part-end : (t : ℕ) → of-cut t cut-part-lts.Need-part-fit-part-end
+cut-part-part-fit-part-end t c = omega (arith, known t (c .before .before))
 
-cut-part-add-fit-part : (t : ℕ) → cut-part-lts.Need-add-fit-part (ways-at-reads.Asked, ways-at-reads.Learnt, fit-part-below t, fit-part.Post) (cut-part-at t) cut-part.Post
-cut-part-add-fit-part t c = omega (arith, laws.numbers (call t (c .before .before .before .before .before .before .before .before .before .before .before .before .before .before .before .before .before .before .before .before .before .before .before .before .before)) (half t (c .before .before .before)))
+cut-part-add-fit-part : (t : ℕ) → of-cut t cut-part-lts.Need-add-fit-part
+cut-part-add-fit-part t c = omega (arith, known t (c .before .before .before))
 
-cut-part-mul-fit-part-2 : (t : ℕ) → cut-part-lts.Need-mul-fit-part-2 (ways-at-reads.Asked, ways-at-reads.Learnt, fit-part-below t, fit-part.Post) (cut-part-at t) cut-part.Post
-cut-part-mul-fit-part-2 t c = omega (arith, laws.numbers (call t (c .before .before .before .before .before .before .before .before .before .before .before .before .before .before .before .before .before .before .before .before .before .before .before .before .before)) (half t (c .before .before .before)))
+cut-part-mul-fit-part-2 : (t : ℕ) → of-cut t cut-part-lts.Need-mul-fit-part-2
+cut-part-mul-fit-part-2 t c = omega (arith, known t (c .before .before .before))
 
-cut-part-sub-fit-part-2 : (t : ℕ) → cut-part-lts.Need-sub-fit-part-2 (ways-at-reads.Asked, ways-at-reads.Learnt, fit-part-below t, fit-part.Post) (cut-part-at t) cut-part.Post
-cut-part-sub-fit-part-2 t c = omega (arith, laws.numbers (call t (c .before .before .before .before .before .before .before .before .before .before .before .before .before .before .before .before .before .before .before .before .before .before .before .before .before)) (half t (c .before .before .before)))
+cut-part-sub-fit-part-2 : (t : ℕ) → of-cut t cut-part-lts.Need-sub-fit-part-2
+cut-part-sub-fit-part-2 t c = omega (arith, known t (c .before .before .before))
 
-cut-part-part-fit-part-start-2 : (t : ℕ) → cut-part-lts.Need-part-fit-part-start-2 (ways-at-reads.Asked, ways-at-reads.Learnt, fit-part-below t, fit-part.Post) (cut-part-at t) cut-part.Post
-cut-part-part-fit-part-start-2 t c = omega (arith, laws.numbers (call t (c .before .before .before .before .before .before .before .before .before .before .before .before .before .before .before .before .before .before .before .before .before .before .before .before .before)) (half t (c .before .before .before)))
+cut-part-part-fit-part-start-2 : (t : ℕ) → of-cut t cut-part-lts.Need-part-fit-part-start-2
+cut-part-part-fit-part-start-2 t c = omega (arith, known t (c .before .before .before))
 
-cut-part-part-fit-part-end-2 : (t : ℕ) → cut-part-lts.Need-part-fit-part-end-2 (ways-at-reads.Asked, ways-at-reads.Learnt, fit-part-below t, fit-part.Post) (cut-part-at t) cut-part.Post
-cut-part-part-fit-part-end-2 t c = omega (arith, laws.numbers (call t (c .before .before .before .before .before .before .before .before .before .before .before .before .before .before .before .before .before .before .before .before .before .before .before .before .before)) (half t (c .before .before .before)))
+cut-part-part-fit-part-end-2 : (t : ℕ) → of-cut t cut-part-lts.Need-part-fit-part-end-2
+cut-part-part-fit-part-end-2 t c = omega (arith, known t (c .before .before .before))
 
-cut-part-mul-fit-part-3 : (t : ℕ) → cut-part-lts.Need-mul-fit-part-3 (ways-at-reads.Asked, ways-at-reads.Learnt, fit-part-below t, fit-part.Post) (cut-part-at t) cut-part.Post
-cut-part-mul-fit-part-3 t c = omega (arith, laws.numbers (call t (c .before .before .before .before .before .before .before .before .before .before .before .before .before .before .before .before .before .before .before .before .before .before .before .before .before .before)) (half t (c .before .before .before .before)))
+cut-part-mul-fit-part-3 : (t : ℕ) → of-cut t cut-part-lts.Need-mul-fit-part-3
+cut-part-mul-fit-part-3 t c = omega (arith, known t (c .before .before .before .before))
 
-cut-part-sub-fit-part-3 : (t : ℕ) → cut-part-lts.Need-sub-fit-part-3 (ways-at-reads.Asked, ways-at-reads.Learnt, fit-part-below t, fit-part.Post) (cut-part-at t) cut-part.Post
-cut-part-sub-fit-part-3 t c = omega (arith, laws.numbers (call t (c .before .before .before .before .before .before .before .before .before .before .before .before .before .before .before .before .before .before .before .before .before .before .before .before .before .before)) (half t (c .before .before .before .before)))
+cut-part-sub-fit-part-3 : (t : ℕ) → of-cut t cut-part-lts.Need-sub-fit-part-3
+cut-part-sub-fit-part-3 t c = omega (arith, known t (c .before .before .before .before))
 
-cut-part-part-fit-part-start-3 : (t : ℕ) → cut-part-lts.Need-part-fit-part-start-3 (ways-at-reads.Asked, ways-at-reads.Learnt, fit-part-below t, fit-part.Post) (cut-part-at t) cut-part.Post
-cut-part-part-fit-part-start-3 t c = omega (arith, laws.numbers (call t (c .before .before .before .before .before .before .before .before .before .before .before .before .before .before .before .before .before .before .before .before .before .before .before .before .before .before)) (half t (c .before .before .before .before)))
+cut-part-part-fit-part-start-3 : (t : ℕ) → of-cut t cut-part-lts.Need-part-fit-part-start-3
+cut-part-part-fit-part-start-3 t c = omega (arith, known t (c .before .before .before .before))
 
-cut-part-part-fit-part-end-3 : (t : ℕ) → cut-part-lts.Need-part-fit-part-end-3 (ways-at-reads.Asked, ways-at-reads.Learnt, fit-part-below t, fit-part.Post) (cut-part-at t) cut-part.Post
-cut-part-part-fit-part-end-3 t c = omega (arith, laws.numbers (call t (c .before .before .before .before .before .before .before .before .before .before .before .before .before .before .before .before .before .before .before .before .before .before .before .before .before .before)) (half t (c .before .before .before .before)))
+cut-part-part-fit-part-end-3 : (t : ℕ) → of-cut t cut-part-lts.Need-part-fit-part-end-3
+cut-part-part-fit-part-end-3 t c = omega (arith, known t (c .before .before .before .before))
 
-cut-part-mul-fit-part-4 : (t : ℕ) → cut-part-lts.Need-mul-fit-part-4 (ways-at-reads.Asked, ways-at-reads.Learnt, fit-part-below t, fit-part.Post) (cut-part-at t) cut-part.Post
-cut-part-mul-fit-part-4 t c = omega (arith, laws.numbers (call t (c .before .before .before .before .before .before .before .before .before .before .before .before .before .before .before .before .before .before .before .before .before .before .before .before .before .before .before)) (half t (c .before .before .before .before .before)))
+cut-part-mul-fit-part-4 : (t : ℕ) → of-cut t cut-part-lts.Need-mul-fit-part-4
+cut-part-mul-fit-part-4 t c = omega (arith, known t (c .before .before .before .before .before))
 
-cut-part-sub-fit-part-4 : (t : ℕ) → cut-part-lts.Need-sub-fit-part-4 (ways-at-reads.Asked, ways-at-reads.Learnt, fit-part-below t, fit-part.Post) (cut-part-at t) cut-part.Post
-cut-part-sub-fit-part-4 t c = omega (arith, laws.numbers (call t (c .before .before .before .before .before .before .before .before .before .before .before .before .before .before .before .before .before .before .before .before .before .before .before .before .before .before .before)) (half t (c .before .before .before .before .before)))
+cut-part-sub-fit-part-4 : (t : ℕ) → of-cut t cut-part-lts.Need-sub-fit-part-4
+cut-part-sub-fit-part-4 t c = omega (arith, known t (c .before .before .before .before .before))
 
-cut-part-part-fit-part-start-4 : (t : ℕ) → cut-part-lts.Need-part-fit-part-start-4 (ways-at-reads.Asked, ways-at-reads.Learnt, fit-part-below t, fit-part.Post) (cut-part-at t) cut-part.Post
-cut-part-part-fit-part-start-4 t c = omega (arith, laws.numbers (call t (c .before .before .before .before .before .before .before .before .before .before .before .before .before .before .before .before .before .before .before .before .before .before .before .before .before .before .before)) (half t (c .before .before .before .before .before)))
+cut-part-part-fit-part-start-4 : (t : ℕ) → of-cut t cut-part-lts.Need-part-fit-part-start-4
+cut-part-part-fit-part-start-4 t c = omega (arith, known t (c .before .before .before .before .before))
 
-cut-part-part-fit-part-end-4 : (t : ℕ) → cut-part-lts.Need-part-fit-part-end-4 (ways-at-reads.Asked, ways-at-reads.Learnt, fit-part-below t, fit-part.Post) (cut-part-at t) cut-part.Post
-cut-part-part-fit-part-end-4 t c = omega (arith, laws.numbers (call t (c .before .before .before .before .before .before .before .before .before .before .before .before .before .before .before .before .before .before .before .before .before .before .before .before .before .before .before)) (half t (c .before .before .before .before .before)))
+cut-part-part-fit-part-end-4 : (t : ℕ) → of-cut t cut-part-lts.Need-part-fit-part-end-4
+cut-part-part-fit-part-end-4 t c = omega (arith, known t (c .before .before .before .before .before))
 
-cut-part-fit-part-requires-2 : (t : ℕ) → cut-part-lts.Need-fit-part-requires-2 (ways-at-reads.Asked, ways-at-reads.Learnt, fit-part-below t, fit-part.Post) (cut-part-at t) cut-part.Post
+cut-part-fit-part-requires-2 : (t : ℕ) → of-cut t cut-part-lts.Need-fit-part-requires-2
 cut-part-fit-part-requires-2 t c κs = (omega (arith, laws.less-right (call t (c .before .before .before .before .before .before .before .before .before .before .before .before .before .before .before .before .before .before .before .before .before .before .before .before .before .before .before .before)) (half t (c .before .before .before .before .before .before)), c .before .before .before .before .before .before .before .before .before .before .before .before .before .before .before .before .before .before .before .before .before .before .before .before .before .before .before .before .pre .0), laws.room-right (call t (c .before .before .before .before .before .before .before .before .before .before .before .before .before .before .before .before .before .before .before .before .before .before .before .before .before .before .before .before)) (half t (c .before .before .before .before .before .before)))
 
-cut-part-enum-known-right : (t : ℕ) → cut-part-lts.Need-enum-known-right (ways-at-reads.Asked, ways-at-reads.Learnt, fit-part-below t, fit-part.Post) (cut-part-at t) cut-part.Post
+cut-part-enum-known-right : (t : ℕ) → of-cut t cut-part-lts.Need-enum-known-right
 cut-part-enum-known-right t c = search needs
 
-cut-part-enum-told-3 : (t : ℕ) → cut-part-lts.Need-enum-told-3 (ways-at-reads.Asked, ways-at-reads.Learnt, fit-part-below t, fit-part.Post) (cut-part-at t) cut-part.Post
+cut-part-enum-told-3 : (t : ℕ) → of-cut t cut-part-lts.Need-enum-told-3
 cut-part-enum-told-3 t c = search needs
 
-cut-part-same-length-4 : (t : ℕ) → cut-part-lts.Need-same-length-4 (ways-at-reads.Asked, ways-at-reads.Learnt, fit-part-below t, fit-part.Post) (cut-part-at t) cut-part.Post
-cut-part-same-length-4 t c = let h = half t (c .before .before .before .before .before .before .before .before .before .before .before .before .before .before .before) in let n = laws.numbers (call t (c .before .before .before .before .before .before .before .before .before .before .before .before .before .before .before .before .before .before .before .before .before .before .before .before .before .before .before .before .before .before .before .before .before .before .before .before .before)) h in laws.part-length (8 * h .j) _ (h .C₁) (c .before .before .before .before .before .before .before .before .fit-part2 .last .1 .1 .1 .1 .1 .0) (omega (arith, n)) refl (c .before .before .before .before .before .before .before .before .fit-part2 .kept .1 .1 .1 .1 .1 .0) ∙ h .lc
+cut-part-same-length-4 : (t : ℕ) → of-cut t cut-part-lts.Need-same-length-4
+cut-part-same-length-4 t c = laws.as-long-curves (entry t (c .before .before)) (half t (left t (c .before .before))) (other t (c .before .before))
 
-cut-part-same-length-5 : (t : ℕ) → cut-part-lts.Need-same-length-5 (ways-at-reads.Asked, ways-at-reads.Learnt, fit-part-below t, fit-part.Post) (cut-part-at t) cut-part.Post
-cut-part-same-length-5 t c = let h = half t (c .before .before .before .before .before .before .before .before .before .before .before .before .before .before .before) in let n = laws.numbers (call t (c .before .before .before .before .before .before .before .before .before .before .before .before .before .before .before .before .before .before .before .before .before .before .before .before .before .before .before .before .before .before .before .before .before .before .before .before .before)) h in laws.part-length (h .j) _ (h .F₁) (c .before .before .before .before .before .before .before .before .fit-part2 .last .1 .1 .1 .1 .1 .1 .0) (omega (arith, n)) refl (c .before .before .before .before .before .before .before .before .fit-part2 .kept .1 .1 .1 .1 .1 .1 .0) ∙ h .lf
+cut-part-same-length-5 : (t : ℕ) → of-cut t cut-part-lts.Need-same-length-5
+cut-part-same-length-5 t c = laws.as-long-firsts (entry t (c .before .before)) (half t (left t (c .before .before))) (other t (c .before .before))
 
-cut-part-same-length-6 : (t : ℕ) → cut-part-lts.Need-same-length-6 (ways-at-reads.Asked, ways-at-reads.Learnt, fit-part-below t, fit-part.Post) (cut-part-at t) cut-part.Post
-cut-part-same-length-6 t c = let h = half t (c .before .before .before .before .before .before .before .before .before .before .before .before .before .before .before) in let n = laws.numbers (call t (c .before .before .before .before .before .before .before .before .before .before .before .before .before .before .before .before .before .before .before .before .before .before .before .before .before .before .before .before .before .before .before .before .before .before .before .before .before)) h in laws.part-length (c .before .before .before .before .before .before .before .before .before .before .before .before .before .before .before .before .before .before .before .before .before .before .before .before .before .before .before .before .before .before .before .before .before .before .before .before .before .args .at) _ (laws.P₁ (call t (c .before .before .before .before .before .before .before .before .before .before .before .before .before .before .before .before .before .before .before .before .before .before .before .before .before .before .before .before .before .before .before .before .before .before .before .before .before)) h) (c .before .before .before .before .before .before .before .before .fit-part2 .last .1 .1 .1 .1 .1 .1 .1 .0) (omega (arith, n)) refl (c .before .before .before .before .before .before .before .before .fit-part2 .kept .1 .1 .1 .1 .1 .1 .1 .0) ∙ n .lp
+cut-part-same-length-6 : (t : ℕ) → of-cut t cut-part-lts.Need-same-length-6
+cut-part-same-length-6 t c = laws.as-long-params (entry t (c .before .before)) (half t (left t (c .before .before))) (other t (c .before .before))
 
-cut-part-returns-3 : (t : ℕ) → cut-part-lts.Need-returns-3 (ways-at-reads.Asked, ways-at-reads.Learnt, fit-part-below t, fit-part.Post) (cut-part-at t) cut-part.Post
-cut-part-returns-3 t c = laws.cut-stops-right (call t (c .before .before .before .before .before .before .before .before .before .before .before .before .before .before .before .before .before .before .before .before .before .before .before .before .before .before .before .before .before .before .before .before .before .before .before .before .before)) (half t (c .before .before .before .before .before .before .before .before .before .before .before .before .before .before .before)) (c .before .before .before .before .before .before .before .before .fit-part2 .result) (c .before .before .before .before .before .before .before .before .fit-part2 .last .1 .1 .1 .1 .1 .0) (c .before .before .before .before .before .before .before .before .fit-part2 .last .1 .1 .1 .1 .1 .1 .0) (c .before .before .before .before .before .before .before .before .fit-part2 .last .1 .1 .1 .1 .1 .1 .1 .0) (c .before .before .before .before .before .before .before .before .fit-part2 .ensures) (c .enum-told3 .given .0 .0) _ _ _ (c .enum-told3 .given .1)
+cut-part-returns-3 : (t : ℕ) → of-cut t cut-part-lts.Need-returns-3
+cut-part-returns-3 t c = laws.cut-stops-right (entry t (c .before .before)) (half t (left t (c .before .before))) (other t (c .before .before)) (c .enum-told3 .given .0 .0) _ _ _ (c .enum-told3 .given .1)
 
-cut-part-add-t22 : (t : ℕ) → cut-part-lts.Need-add-t22 (ways-at-reads.Asked, ways-at-reads.Learnt, fit-part-below t, fit-part.Post) (cut-part-at t) cut-part.Post
-cut-part-add-t22 t c = omega (arith, laws.numbers (call t (c .before .before .before .before .before .before .before .before .before .before .before .before .before .before .before .before .before .before .before .before .before .before .before .before .before .before .before .before .before .before .before .before .before .before .before .before .before .before)) (half t (c .before .before .before .before .before .before .before .before .before .before .before .before .before .before .before .before)), laws.right-few (call t (c .before .before .before .before .before .before .before .before .before .before .before .before .before .before .before .before .before .before .before .before .before .before .before .before .before .before .before .before .before .before .before .before .before .before .before .before .before .before)) (half t (c .before .before .before .before .before .before .before .before .before .before .before .before .before .before .before .before)) (c .before .before .before .before .before .before .before .before .before .fit-part2 .result) (c .before .before .before .before .before .before .before .before .before .fit-part2 .last .1 .1 .1 .1 .1 .0) (c .before .before .before .before .before .before .before .before .before .fit-part2 .last .1 .1 .1 .1 .1 .1 .0) (c .before .before .before .before .before .before .before .before .before .fit-part2 .last .1 .1 .1 .1 .1 .1 .1 .0) (c .before .before .before .before .before .before .before .before .before .fit-part2 .ensures) (c .before .right .given .0 .0) (c .before .right .given .1))
+cut-part-add-t22 : (t : ℕ) → of-cut t cut-part-lts.Need-add-t22
+cut-part-add-t22 t c = omega (arith, known t (left t (c .before .before .before)), laws.right-few (entry t (c .before .before .before)) (half t (left t (c .before .before .before))) (other t (c .before .before .before)) (c .before .right .given .0 .0) (c .before .right .given .1))
 
-cut-part-same-length-7 : (t : ℕ) → cut-part-lts.Need-same-length-7 (ways-at-reads.Asked, ways-at-reads.Learnt, fit-part-below t, fit-part.Post) (cut-part-at t) cut-part.Post
-cut-part-same-length-7 t c = let h = half t (c .before .before .before .before .before .before .before .before .before .before .before .before .before .before .before .before) in let n = laws.numbers (call t (c .before .before .before .before .before .before .before .before .before .before .before .before .before .before .before .before .before .before .before .before .before .before .before .before .before .before .before .before .before .before .before .before .before .before .before .before .before .before)) h in laws.part-length (8 * h .j) _ (h .C₁) (c .before .before .before .before .before .before .before .before .before .fit-part2 .last .1 .1 .1 .1 .1 .0) (omega (arith, n)) refl (c .before .before .before .before .before .before .before .before .before .fit-part2 .kept .1 .1 .1 .1 .1 .0) ∙ h .lc
+cut-part-same-length-7 : (t : ℕ) → of-cut t cut-part-lts.Need-same-length-7
+cut-part-same-length-7 t c = laws.as-long-curves (entry t (c .before .before .before)) (half t (left t (c .before .before .before))) (other t (c .before .before .before))
 
-cut-part-same-length-8 : (t : ℕ) → cut-part-lts.Need-same-length-8 (ways-at-reads.Asked, ways-at-reads.Learnt, fit-part-below t, fit-part.Post) (cut-part-at t) cut-part.Post
-cut-part-same-length-8 t c = let h = half t (c .before .before .before .before .before .before .before .before .before .before .before .before .before .before .before .before) in let n = laws.numbers (call t (c .before .before .before .before .before .before .before .before .before .before .before .before .before .before .before .before .before .before .before .before .before .before .before .before .before .before .before .before .before .before .before .before .before .before .before .before .before .before)) h in laws.part-length (h .j) _ (h .F₁) (c .before .before .before .before .before .before .before .before .before .fit-part2 .last .1 .1 .1 .1 .1 .1 .0) (omega (arith, n)) refl (c .before .before .before .before .before .before .before .before .before .fit-part2 .kept .1 .1 .1 .1 .1 .1 .0) ∙ h .lf
+cut-part-same-length-8 : (t : ℕ) → of-cut t cut-part-lts.Need-same-length-8
+cut-part-same-length-8 t c = laws.as-long-firsts (entry t (c .before .before .before)) (half t (left t (c .before .before .before))) (other t (c .before .before .before))
 
-cut-part-same-length-9 : (t : ℕ) → cut-part-lts.Need-same-length-9 (ways-at-reads.Asked, ways-at-reads.Learnt, fit-part-below t, fit-part.Post) (cut-part-at t) cut-part.Post
-cut-part-same-length-9 t c = let h = half t (c .before .before .before .before .before .before .before .before .before .before .before .before .before .before .before .before) in let n = laws.numbers (call t (c .before .before .before .before .before .before .before .before .before .before .before .before .before .before .before .before .before .before .before .before .before .before .before .before .before .before .before .before .before .before .before .before .before .before .before .before .before .before)) h in laws.part-length (c .before .before .before .before .before .before .before .before .before .before .before .before .before .before .before .before .before .before .before .before .before .before .before .before .before .before .before .before .before .before .before .before .before .before .before .before .before .before .args .at) _ (laws.P₁ (call t (c .before .before .before .before .before .before .before .before .before .before .before .before .before .before .before .before .before .before .before .before .before .before .before .before .before .before .before .before .before .before .before .before .before .before .before .before .before .before)) h) (c .before .before .before .before .before .before .before .before .before .fit-part2 .last .1 .1 .1 .1 .1 .1 .1 .0) (omega (arith, n)) refl (c .before .before .before .before .before .before .before .before .before .fit-part2 .kept .1 .1 .1 .1 .1 .1 .1 .0) ∙ n .lp
+cut-part-same-length-9 : (t : ℕ) → of-cut t cut-part-lts.Need-same-length-9
+cut-part-same-length-9 t c = laws.as-long-params (entry t (c .before .before .before)) (half t (left t (c .before .before .before))) (other t (c .before .before .before))
 
-cut-part-returns-4 : (t : ℕ) → cut-part-lts.Need-returns-4 (ways-at-reads.Asked, ways-at-reads.Learnt, fit-part-below t, fit-part.Post) (cut-part-at t) cut-part.Post
-cut-part-returns-4 t c = laws.cut-done (call t (c .before .before .before .before .before .before .before .before .before .before .before .before .before .before .before .before .before .before .before .before .before .before .before .before .before .before .before .before .before .before .before .before .before .before .before .before .before .before)) (half t (c .before .before .before .before .before .before .before .before .before .before .before .before .before .before .before .before)) (c .before .before .before .before .before .before .before .before .before .fit-part2 .result) (c .before .before .before .before .before .before .before .before .before .fit-part2 .last .1 .1 .1 .1 .1 .0) (c .before .before .before .before .before .before .before .before .before .fit-part2 .last .1 .1 .1 .1 .1 .1 .0) (c .before .before .before .before .before .before .before .before .before .fit-part2 .last .1 .1 .1 .1 .1 .1 .1 .0) (c .before .before .before .before .before .before .before .before .before .fit-part2 .ensures) (c .before .right .given .0 .0) (c .before .right .given .1)
+cut-part-returns-4 : (t : ℕ) → of-cut t cut-part-lts.Need-returns-4
+cut-part-returns-4 t c = laws.cut-done (entry t (c .before .before .before)) (half t (left t (c .before .before .before))) (other t (c .before .before .before)) (c .before .right .given .0 .0) (c .before .right .given .1)
 
-fit-part-try-part-requires : (t : ℕ) → fit-part-lts.Need-try-part-requires (try-part-reads.Asked, try-part-reads.Learnt, put-curve-reads.Asked, put-curve-reads.Learnt, cut-part-below t, cut-part.Post) (fit-part-at t) fit-part.Post
+fit-part-try-part-requires : (t : ℕ) → of-fit t fit-part-lts.Need-try-part-requires
 fit-part-try-part-requires t c κs = omega arith
 
-fit-part-enum-known-tried : (t : ℕ) → fit-part-lts.Need-enum-known-tried (try-part-reads.Asked, try-part-reads.Learnt, put-curve-reads.Asked, put-curve-reads.Learnt, cut-part-below t, cut-part.Post) (fit-part-at t) fit-part.Post
+fit-part-enum-known-tried : (t : ℕ) → of-fit t fit-part-lts.Need-enum-known-tried
 fit-part-enum-known-tried t c = search needs
 
-fit-part-put-curve-requires : (t : ℕ) → fit-part-lts.Need-put-curve-requires (try-part-reads.Asked, try-part-reads.Learnt, put-curve-reads.Asked, put-curve-reads.Learnt, cut-part-below t, cut-part.Post) (fit-part-at t) fit-part.Post
+fit-part-put-curve-requires : (t : ℕ) → of-fit t fit-part-lts.Need-put-curve-requires
 fit-part-put-curve-requires t c κs = omega arith
 
-fit-part-cast-firsts : (t : ℕ) → fit-part-lts.Need-cast-firsts (try-part-reads.Asked, try-part-reads.Learnt, put-curve-reads.Asked, put-curve-reads.Learnt, cut-part-below t, cut-part.Post) (fit-part-at t) fit-part.Post
+fit-part-cast-firsts : (t : ℕ) → of-fit t fit-part-lts.Need-cast-firsts
 fit-part-cast-firsts t c = omega arith
 
-fit-part-slice-write-firsts : (t : ℕ) → fit-part-lts.Need-slice-write-firsts (try-part-reads.Asked, try-part-reads.Learnt, put-curve-reads.Asked, put-curve-reads.Learnt, cut-part-below t, cut-part.Post) (fit-part-at t) fit-part.Post
+fit-part-slice-write-firsts : (t : ℕ) → of-fit t fit-part-lts.Need-slice-write-firsts
 fit-part-slice-write-firsts t c = omega arith
 
-fit-part-enum-known-tried-2 : (t : ℕ) → fit-part-lts.Need-enum-known-tried-2 (try-part-reads.Asked, try-part-reads.Learnt, put-curve-reads.Asked, put-curve-reads.Learnt, cut-part-below t, cut-part.Post) (fit-part-at t) fit-part.Post
+fit-part-enum-known-tried-2 : (t : ℕ) → of-fit t fit-part-lts.Need-enum-known-tried-2
 fit-part-enum-known-tried-2 t c = search needs
 
-fit-part-cut-part-requires : (t : ℕ) → fit-part-lts.Need-cut-part-requires (try-part-reads.Asked, try-part-reads.Learnt, put-curve-reads.Asked, put-curve-reads.Learnt, cut-part-below t, cut-part.Post) (fit-part-at t) fit-part.Post
+fit-part-cut-part-requires : (t : ℕ) → of-fit t fit-part-lts.Need-cut-part-requires
 fit-part-cut-part-requires t c κs =
     let y = c .before .before .before .before .before .before .before .before in
     let st = c .before .before .before .before .before .before .before .before .before .before .before .before .before .before in
     let q = c .before .before .before .before in
     (omega (arith, st .pre .0), laws.cut-asks (st .args .marks .now) (st .args .first) (st .args .start) (st .args .end) (st .args .tolerance) (st .args .curves .now) (st .args .firsts .now) (st .args .params .now) (y .try-part .last .1 .1 .1 .1 .0) (y .try-part .result) (q .tried2 .given .0 .0) (st .pre .1) (y .try-part .kept .1 .1 .1 .1 .0) (y .try-part .ensures) (q .tried2 .given .1))
 
-fit-part-enum-known-tried-3 : (t : ℕ) → fit-part-lts.Need-enum-known-tried-3 (try-part-reads.Asked, try-part-reads.Learnt, put-curve-reads.Asked, put-curve-reads.Learnt, cut-part-below t, cut-part.Post) (fit-part-at t) fit-part.Post
+fit-part-enum-known-tried-3 : (t : ℕ) → of-fit t fit-part-lts.Need-enum-known-tried-3
 fit-part-enum-known-tried-3 t c = search needs
 
-fit-part-same-length : (t : ℕ) → fit-part-lts.Need-same-length (try-part-reads.Asked, try-part-reads.Learnt, put-curve-reads.Asked, put-curve-reads.Learnt, cut-part-below t, cut-part.Post) (fit-part-at t) fit-part.Post
+fit-part-same-length : (t : ℕ) → of-fit t fit-part-lts.Need-same-length
 fit-part-same-length t c = c .before .before .put-curve .kept .0
 
-fit-part-same-length-2 : (t : ℕ) → fit-part-lts.Need-same-length-2 (try-part-reads.Asked, try-part-reads.Learnt, put-curve-reads.Asked, put-curve-reads.Learnt, cut-part-below t, cut-part.Post) (fit-part-at t) fit-part.Post
+fit-part-same-length-2 : (t : ℕ) → of-fit t fit-part-lts.Need-same-length-2
 fit-part-same-length-2 t c = search needs
 
-fit-part-same-length-3 : (t : ℕ) → fit-part-lts.Need-same-length-3 (try-part-reads.Asked, try-part-reads.Learnt, put-curve-reads.Asked, put-curve-reads.Learnt, cut-part-below t, cut-part.Post) (fit-part-at t) fit-part.Post
+fit-part-same-length-3 : (t : ℕ) → of-fit t fit-part-lts.Need-same-length-3
 fit-part-same-length-3 t c = c .before .before .before .before .before .before .before .before .before .try-part .kept .1 .1 .1 .1 .0
 
-fit-part-returns : (t : ℕ) → fit-part-lts.Need-returns (try-part-reads.Asked, try-part-reads.Learnt, put-curve-reads.Asked, put-curve-reads.Learnt, cut-part-below t, cut-part.Post) (fit-part-at t) fit-part.Post
+fit-part-returns : (t : ℕ) → of-fit t fit-part-lts.Need-returns
 fit-part-returns t c =
     let y = c .before .before .before .before .before .before .before .before .before in
     let st = c .before .before .before .before .before .before .before .before .before .before .before .before .before .before .before in
@@ -270,16 +290,16 @@ fit-part-returns t c =
     let u = c .before .before in
     laws.fit-good (st .args .marks .now) (st .args .first) (st .args .start) (st .args .end) (st .args .tolerance) (omega (arith, st .pre .1)) (y .try-part .result) (y .try-part .last .1 .1 .1 .1 .0) (y .try-part .ensures) (q .tried .given .0 .0) (st .args .curves .now) (u .put-curve .last .0) (st .args .firsts .now) _ (q .tried .given .1) (u .put-curve .ensures) (laws.set-first (st .args .first) (st .args .firsts .now) (omega (arith, st .pre .1)))
 
-fit-part-same-length-4 : (t : ℕ) → fit-part-lts.Need-same-length-4 (try-part-reads.Asked, try-part-reads.Learnt, put-curve-reads.Asked, put-curve-reads.Learnt, cut-part-below t, cut-part.Post) (fit-part-at t) fit-part.Post
+fit-part-same-length-4 : (t : ℕ) → of-fit t fit-part-lts.Need-same-length-4
 fit-part-same-length-4 t c = c .before .before .before .before .before .before .cut-part .kept .1 .1 .1 .1 .1 .1 .0
 
-fit-part-same-length-5 : (t : ℕ) → fit-part-lts.Need-same-length-5 (try-part-reads.Asked, try-part-reads.Learnt, put-curve-reads.Asked, put-curve-reads.Learnt, cut-part-below t, cut-part.Post) (fit-part-at t) fit-part.Post
+fit-part-same-length-5 : (t : ℕ) → of-fit t fit-part-lts.Need-same-length-5
 fit-part-same-length-5 t c = c .before .before .before .before .before .before .cut-part .kept .1 .1 .1 .1 .1 .1 .1 .0
 
-fit-part-same-length-6 : (t : ℕ) → fit-part-lts.Need-same-length-6 (try-part-reads.Asked, try-part-reads.Learnt, put-curve-reads.Asked, put-curve-reads.Learnt, cut-part-below t, cut-part.Post) (fit-part-at t) fit-part.Post
+fit-part-same-length-6 : (t : ℕ) → of-fit t fit-part-lts.Need-same-length-6
 fit-part-same-length-6 t c = c .before .before .before .before .before .before .cut-part .kept .1 .1 .1 .1 .1 .1 .1 .1 .0 ∙ c .before .before .before .before .before .before .before .before .before .before .before .before .before .before .before .try-part .kept .1 .1 .1 .1 .0
 
-fit-part-returns-2 : (t : ℕ) → fit-part-lts.Need-returns-2 (try-part-reads.Asked, try-part-reads.Learnt, put-curve-reads.Asked, put-curve-reads.Learnt, cut-part-below t, cut-part.Post) (fit-part-at t) fit-part.Post
+fit-part-returns-2 : (t : ℕ) → of-fit t fit-part-lts.Need-returns-2
 fit-part-returns-2 t c =
     let y = c .before .before .before .before .before .before .before .before .before .before .before .before .before .before .before in
     let st = c .before .before .before .before .before .before .before .before .before .before .before .before .before .before .before .before .before .before .before .before .before in
@@ -287,10 +307,10 @@ fit-part-returns-2 t c =
     let u = c .before .before .before .before .before .before in
     laws.fit-cut (st .args .marks .now) (st .args .first) (st .args .start) (st .args .end) (st .args .tolerance) (omega (arith, st .pre .1)) (y .try-part .result) (y .try-part .last .1 .1 .1 .1 .0) (y .try-part .ensures) (q .tried2 .given .0 .0) (u .cut-part .result) (st .args .curves .now) (u .cut-part .last .1 .1 .1 .1 .1 .1 .0) (st .args .firsts .now) (u .cut-part .last .1 .1 .1 .1 .1 .1 .1 .0) (u .cut-part .last .1 .1 .1 .1 .1 .1 .1 .1 .0) (q .tried2 .given .1) (u .cut-part .ensures)
 
-fit-part-same-length-7 : (t : ℕ) → fit-part-lts.Need-same-length-7 (try-part-reads.Asked, try-part-reads.Learnt, put-curve-reads.Asked, put-curve-reads.Learnt, cut-part-below t, cut-part.Post) (fit-part-at t) fit-part.Post
+fit-part-same-length-7 : (t : ℕ) → of-fit t fit-part-lts.Need-same-length-7
 fit-part-same-length-7 t c = c .before .before .before .before .before .try-part .kept .1 .1 .1 .1 .0
 
-fit-part-returns-3 : (t : ℕ) → fit-part-lts.Need-returns-3 (try-part-reads.Asked, try-part-reads.Learnt, put-curve-reads.Asked, put-curve-reads.Learnt, cut-part-below t, cut-part.Post) (fit-part-at t) fit-part.Post
+fit-part-returns-3 : (t : ℕ) → of-fit t fit-part-lts.Need-returns-3
 fit-part-returns-3 t c =
     let y = c .before .before .before .before .before in
     let st = c .before .before .before .before .before .before .before .before .before .before .before in
