@@ -4,3 +4,5 @@ pub mod Squares
 pub mod Chords
 pub mod Rounds
 pub mod Worst
+pub mod Lines
+pub mod Accepted
