@@ -3,10 +3,10 @@ use Prim.Native.Nat.{ℕ, zero, suc, _+_, _-_, _*_, _≤_, _<_}
 use native.Mathlib.Omega.{arith}
 use mathlib.Core.Path.{_≡_, refl, sym, ap, subst, _∙_}
 use mathlib.Core.Bool.{Bool, true, false}
-use mathlib.Core.List.{List, [], _∷_, _++_}
-use lib.ListN.{length, take, drop, getD, length-take, length-drop}
+use mathlib.Core.List.{List, _++_}
+use lib.ListN.{length, take, drop, length-take, length-drop}
 use lib.Seq.{getD-take, getD-drop}
-use lib.Dec.{leb, ltb}
+use lib.Dec.{leb}
 use lib.Ieee.{Float, nan}
 use borrow.Author.Tests.{le-ltb, leb-false}
 use Rattle.float.specs.Answer.{Answer, ok, outcome}
@@ -16,9 +16,8 @@ use Rattle.cut.specs.Run.{Run, refused, done, join, turned, runOf}
 use Rattle.cut.specs.Chain.{Chain}
 use Rattle.cut.specs.declared.Ways.{Ways}
 use Rattle.cut.proofs.Chain.{Within, Joined as JoinedRun, run-joined, chain-append}
-use Rattle.blocks.specs.declared.Cutting.{Cutting}
 use Rattle.blocks.specs.declared.Cutting.the-variants.{Joined}
-use Rattle.blocks.specs.Blocks.{over, waysOf, blockOf, lastOf, blocks, blocksFrom, blocksOf}
+use Rattle.blocks.specs.Blocks.{over, waysOf, blockOf, blocks, blocksFrom}
 
 -- two runs that are both done
 record Both (k : ℕ) (R R′ : Run) (cs : List Float) (fs : List ℕ) (ps : List Float) : Type 0 where

@@ -1,7 +1,7 @@
 -- What a part's fit accepts: its curve is finite, its parameters are a fit's, and every mark is near. Assumes nothing.
 use mathlib.Core.Path.{_≡_, refl, sym, ap, _∙_, subst}
-use mathlib.Core.Bool.{Bool, true, false, _&&_, _||_, cond}
-use mathlib.Core.List.{List, [], _∷_}
+use mathlib.Core.Bool.{Bool, true, false, _||_, cond}
+use mathlib.Core.List.{List}
 use Prim.Native.Nat.{ℕ, zero, suc, _-_, _≤_, _<_}
 use native.Mathlib.Omega.{arith}
 use lib.Dec.{leb, eqb}
@@ -10,10 +10,9 @@ use lib.Ieee.{Float, nan, binary64, lt, le, div}
 use borrow.Author.Tests.{leb-true}
 use Rattle.float.specs.Number.{finite, f0}
 use Rattle.float.specs.Calc.{Calc, give}
-use Rattle.float.specs.Answer.{Answer, ok, refused, unless, outcome}
+use Rattle.float.specs.Answer.{ok, unless, outcome}
 use Rattle.float.proofs.Truth.{and-left, and-right}
 use Rattle.float.proofs.Answers.{Fine}
-use Rattle.float.proofs.Folds.{each-length}
 use Rattle.float.proofs.Ranks.{Le}
 use Rattle.plane.specs.declared.Point.{Point}
 use Rattle.plane.specs.declared.Curve.{Curve}
@@ -27,7 +26,6 @@ use Rattle.squares.proofs.Controls.{GoodCurve}
 use Rattle.squares.proofs.Least.{generate-ends, generate-good}
 use Rattle.part.specs.Trial.{Trial, attempt, enough, improve, tried}
 use Rattle.part.specs.Part.{Part, fits, cuts, fails, pick, lined, judged, partOf}
-use Rattle.numbers.proofs.Zeros.{f0-is}
 use Rattle.ends.specs.Ends.{Params, FitsP, EndsAt, Near}
 use Rattle.ends.proofs.Chords.{chords-length, chords-params}
 use Rattle.ends.proofs.Rounds.{reparam-length, reparam-keeps}

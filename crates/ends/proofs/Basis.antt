@@ -1,21 +1,21 @@
 -- `basis` at the ends: at a zero of either sign it gives the start, and at 1 the end, but for the sign of a zero. So the squared distance of a mark there is +0.
 -- Of a run it is enough to know that its value is finite: then each operation was (calc's Strict and Fine).
 use mathlib.Core.Path.{_≡_, refl, sym, ap, _∙_, subst}
-use mathlib.Core.Logic.{_⊎_, inl, inr}
-use mathlib.Core.Bool.{Bool, true, false}
+use mathlib.Core.Logic.{inl}
+use mathlib.Core.Bool.{false}
 use lib.Dec.{T}
-use lib.Ieee.{Float, fin, binary64, fits, add, sub, mul, ofBits}
-use Rattle.float.specs.Number.{finite, f0, f1, f3}
+use lib.Ieee.{Float, binary64, fits, add, sub, mul}
+use Rattle.float.specs.Number.{finite, f1, f3}
 use Rattle.plane.specs.Plane.{plus, minus, times, dotOf}
 use Rattle.cubic.specs.Basis.{basis, pointAt}
 use Rattle.plane.specs.declared.Point.{Point}
 use Rattle.plane.specs.declared.Curve.{Curve}
-use Rattle.float.proofs.Strict.{Fin, add-finite, sub-finite, mul-finite}
+use Rattle.float.proofs.Strict.{Fin, add-finite, mul-finite}
 use Rattle.plane.proofs.Fine.{Good, dot-fine, minus-fine}
 use Rattle.stages.specs.Worst.{errorOf}
 use Rattle.numbers.specs.Words.{zer, one, Zero, Alike}
 use Rattle.ends.specs.Ends.{FitsP}
-use Rattle.numbers.proofs.Zeros.{f0-is, f1-is, one-fits, mul-zero-r, mul-zero-l, mul-one-r, square-zero, add-zeros, add-zero-l, sub-same, alike-add-r, alike-sub-zero, alike-zero-sub, one-less-zero}
+use Rattle.numbers.proofs.Zeros.{f1-is, one-fits, mul-zero-r, mul-zero-l, mul-one-r, square-zero, add-zeros, add-zero-l, sub-same, alike-add-r, alike-sub-zero, alike-zero-sub, one-less-zero}
 
 -- ---- one coordinate
 abbrev pub om : Float → Float

@@ -1,8 +1,8 @@
 -- The first chord-length parameters: in 0..1, the first +0, the last 1, where the run is fine. That the whole length is not zero follows: 0 / 0 is a NaN.
 use mathlib.Core.Path.{_≡_, refl, sym, ap, _∙_, subst}
 use mathlib.Core.Bool.{Bool, true, false, _&&_, _||_, Bool·beq, cond, true≢false}
-use mathlib.Core.List.{List, []}
-use Prim.Native.Nat.{ℕ, zero, suc, _+_, _-_, _*_, _≤_, _<_}
+use mathlib.Core.List.{List}
+use Prim.Native.Nat.{ℕ, zero, suc, _+_, _-_, _*_, _<_}
 use native.Mathlib.Nat.{lt-irrefl, zero-mul, mul-pos, zero-lt-suc}
 use native.Mathlib.Omega.{arith}
 use borrow.Author.Count.{below-none, below-more}
@@ -10,27 +10,25 @@ use borrow.Author.Tests.{ne-eqb}
 use lib.Dec.{T, eqb}
 use lib.IntN.{ℤ, pos}
 use lib.ListN.{length, getD}
-use lib.Ieee.{Float, nan, inf, fin, Format, binary64, fits, unlike, up, down, add, sub, mul, div, eq, ofBits}
+use lib.Ieee.{Float, nan, inf, fin, Format, binary64, fits, unlike, up, down, add, div, eq, ofBits}
 use lib.Ieee.Fits.{up-pos, add-fits}
-use Rattle.float.specs.Number.{finite, f0, f1}
+use Rattle.float.specs.Number.{finite}
 use Rattle.float.specs.Calc.{Calc, _/!_}
 use Rattle.float.specs.Folds.{each}
 use Rattle.plane.specs.Plane.{minus, dotOf, magnitudeOf, distanceOf}
-use Rattle.plane.proofs.Fine.{dot-fine}
 use Rattle.marks.specs.Marks.{markAt}
 use Rattle.stages.specs.Chords.{along, chordsOf}
 use Rattle.stages.proofs.InPlace.{each-get}
-use Rattle.plane.specs.declared.Point.{Point}
-use Rattle.float.proofs.Strict.{Fin, add-finite}
+use Rattle.float.proofs.Strict.{Fin}
 use Rattle.float.proofs.Answers.{Fine}
 use Rattle.float.proofs.Folds.{each-length, each-all}
 use Rattle.float.proofs.Ranks.{Le}
 use Rattle.float.proofs.Truth.{never, and-left, and-right}
 use Rattle.root.specs.Root.{plain}
 use Rattle.root.proofs.Laws.{sqrt-strict}
-use Rattle.numbers.specs.Words.{zer, one, Zero, InUnit}
+use Rattle.numbers.specs.Words.{zer, one, InUnit}
 use Rattle.ends.specs.Ends.{Params}
-use Rattle.numbers.proofs.Zeros.{eq-zero, round-none, div-is, div-zero-l, div-self}
+use Rattle.numbers.proofs.Zeros.{eq-zero, round-none, div-is, div-self}
 use Rattle.numbers.proofs.Order.{le-tr, le-self}
 use Rattle.numbers.proofs.Plain.{plain-fin, sqrt-plain, add-grows, add-plain, div-unit}
 use Rattle.ends.proofs.Squares.{dot-plain, dot-fits}

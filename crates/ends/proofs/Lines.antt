@@ -1,29 +1,29 @@
 -- A part of two marks is a line, and no distance is measured: that the checker's distances there are finite is a fact about the ranges, not about a run.
-use mathlib.Core.Path.{_≡_, refl, sym, ap, _∙_, subst}
-use mathlib.Core.Bool.{Bool, true, false, _&&_, cond}
+use mathlib.Core.Path.{_≡_, refl, sym, _∙_, subst}
+use mathlib.Core.Bool.{true, false}
 use mathlib.Core.List.{List, [], _∷_}
-use Prim.Native.Nat.{ℕ, zero, suc, _+_, _-_, _*_, _^_, _≤_, _<_}
+use Prim.Native.Nat.{ℕ, suc, _*_, _^_, _≤_, _<_}
 use native.Mathlib.Omega.{arith}
 use borrow.Author.Count.{below-none, below-more}
-use lib.Dec.{T, lit≤}
-use lib.ListN.{length, getD}
-use lib.Ieee.{Float, nan, inf, fin, up, down, binary64, add, sub, mul, le, ofBits}
+use lib.Dec.{lit≤}
+use lib.ListN.{getD}
+use lib.Ieee.{Float, nan, inf, fin, up, down, binary64, mul, le, ofBits}
 use Rattle.plane.specs.declared.Point.{Point}
 use Rattle.plane.specs.declared.Curve.{Curve}
 use Rattle.float.proofs.Strict.{Fin}
 use Rattle.float.specs.Number.{finite, abs, f0, f1, f3}
-use Rattle.float.proofs.Truth.{never, and-right}
+use Rattle.float.proofs.Truth.{never}
 use Rattle.float.proofs.Ranks.{Le, says}
 use Rattle.root.specs.Root.{sqrt}
 use Rattle.plane.specs.Plane.{plus, minus, times, dotOf}
-use Rattle.plane.specs.Range.{coordinate, million}
+use Rattle.plane.specs.Range.{coordinate}
 use Rattle.plane.proofs.Fine.{Good}
 use Rattle.cubic.specs.Basis.{basis, pointAt}
 use Rattle.marks.specs.Marks.{markAt}
 use Rattle.marks.specs.Line.{f033, f066, lineOf}
 use Rattle.stages.specs.Worst.{errorOf}
 use Rattle.squares.proofs.Controls.{GoodCurve}
-use Rattle.numbers.specs.Words.{zer, one, Zero, InUnit}
+use Rattle.numbers.specs.Words.{zer, InUnit}
 use Rattle.ends.specs.Ends.{FitsP, Near, Params}
 use Rattle.numbers.proofs.Zeros.{f0-is, f1-is}
 use Rattle.ends.proofs.Basis.{part, om, error-start, error-end}

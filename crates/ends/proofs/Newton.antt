@@ -1,13 +1,10 @@
 -- The Newton step at the ends: it keeps a zero a zero and 1 at 1, for a mark with the bits of the curve's end, where the run is fine.
 use mathlib.Core.Path.{_≡_, refl, sym, ap, _∙_, subst}
-use mathlib.Core.Logic.{_⊎_, inl, inr}
 use mathlib.Core.Bool.{Bool, true, false, _&&_, cond}
-use lib.Dec.{T}
-use lib.Ieee.{Float, fin, binary64, fits, sub, div, lt, eq, ofBits}
-use Rattle.float.specs.Number.{finite, f0, f1, clamp01}
+use lib.Ieee.{Float, binary64, sub, div, lt, eq, ofBits}
+use Rattle.float.specs.Number.{finite, f0, clamp01}
 use Rattle.float.specs.Calc.{Calc, give, _>>=_, _-!_, _/!_}
-use Rattle.plane.specs.Plane.{minus, dotOf}
-use Rattle.cubic.specs.Basis.{pointAt, casteljau2, casteljau3}
+use Rattle.cubic.specs.Basis.{pointAt}
 use Rattle.cubic.specs.Newton.{verticesOf, ratioOf, newtonBy, newton}
 use Rattle.cubic.specs.declared.newton.Vertices.{Vertices}
 use Rattle.plane.specs.declared.Point.{Point}
@@ -17,11 +14,11 @@ use Rattle.float.proofs.Strict.{Fin}
 use Rattle.float.proofs.Answers.{Fine}
 use Rattle.plane.proofs.Fine.{Good, dot-fine, dot-bad, minus-fine}
 use Rattle.float.proofs.Truth.{and-left, and-right, and-false, is-so}
-use Rattle.numbers.specs.Words.{zer, one, Zero, Alike, InUnit}
+use Rattle.numbers.specs.Words.{one, Zero, InUnit}
 use Rattle.ends.specs.Ends.{FitsP}
-use Rattle.numbers.proofs.Zeros.{f0-is, f1-is, sub-zeros, div-zero-l, one-less-zero}
+use Rattle.numbers.proofs.Zeros.{f0-is, sub-zeros, div-zero-l, one-less-zero}
 use Rattle.numbers.proofs.Order.{clamp-in}
-use Rattle.ends.proofs.Basis.{AlikeP, ZeroP, point-start, point-end, less-mark, dot-zero}
+use Rattle.ends.proofs.Basis.{AlikeP, point-start, point-end, less-mark, dot-zero}
 
 pub clamp-zero : (x : Float) → Zero x → clamp01 x ≡ x
 unfolding clamp01 lt ofBits

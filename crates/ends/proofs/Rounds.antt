@@ -1,27 +1,18 @@
 -- The parameters of a fit: all in 0..1, the first a zero, the last 1. A round of `reparam` keeps this, where the
 -- curve starts at the first mark and ends at the last.
-use mathlib.Core.Path.{_≡_, refl, sym, ap, _∙_, subst}
-use mathlib.Core.Bool.{Bool, true, false, _&&_, cond}
-use mathlib.Core.List.{List, [], _∷_, _++_}
-use Prim.Native.Nat.{ℕ, zero, suc, _+_, _-_, _*_, _≤_, _<_}
-use native.Mathlib.Numerals.{add-one}
+use mathlib.Core.Path.{_≡_, sym, ap, _∙_, subst}
+use mathlib.Core.List.{List}
+use Prim.Native.Nat.{ℕ, _-_, _<_}
 use native.Mathlib.Omega.{arith}
-use borrow.Author.Count.{below-none, below-more}
-use lib.Dec.{T}
-use lib.ListN.{length, getD, List·getD-append}
-use lib.Seq.{getD-at}
-use lib.Ieee.{Float, nan, binary64, fits, sub, div, eq}
-use Rattle.float.specs.Calc.{Calc}
+use lib.ListN.{length, getD}
+use lib.Ieee.{Float, nan}
 use Rattle.float.proofs.Answers.{Fine}
 use Rattle.float.proofs.Folds.{each-length, each-all}
 use Rattle.cubic.specs.Newton.{newton}
 use Rattle.marks.specs.Marks.{markAt}
 use Rattle.stages.specs.Newton.{stepAt, reparam}
 use Rattle.stages.proofs.InPlace.{each-get}
-use Rattle.plane.specs.declared.Point.{Point}
 use Rattle.plane.specs.declared.Curve.{Curve}
-use Rattle.float.proofs.Strict.{Fin}
-use Rattle.float.proofs.Truth.{and-left, and-right}
 use Rattle.numbers.specs.Words.{Zero, InUnit}
 use Rattle.ends.specs.Ends.{Params, EndsAt}
 use Rattle.ends.proofs.Newton.{newton-start, newton-end, newton-unit}

@@ -1,7 +1,6 @@
 -- The square of a vector's length: finite with the sign clear, and a value of an f64. Assumes nothing.
-use mathlib.Core.Path.{_≡_}
 use lib.Dec.{T}
-use lib.Ieee.{Float, binary64, fits, mul}
+use lib.Ieee.{binary64, fits, mul}
 use lib.Ieee.Fits.{add-fits}
 use Rattle.float.proofs.Strict.{Fin, add-finite}
 use Rattle.root.specs.Root.{plain}

@@ -1,17 +1,13 @@
 -- The worst mark: if the root of the largest squared distance is within a tolerance, so is each mark's.
-use mathlib.Core.Path.{_≡_, refl, sym, ap, _∙_, subst}
-use mathlib.Core.Logic.{_⊎_, inl, inr}
-use mathlib.Core.Bool.{Bool, true, false, _&&_, cond, true≢false}
+use mathlib.Core.Path.{_≡_, refl}
+use mathlib.Core.Bool.{Bool, true, false, cond}
 use mathlib.Core.List.{List}
-use Prim.Native.Nat.{ℕ, zero, suc, _+_, _-_, _≤_, _<_}
-use native.Mathlib.Nat.{eq-zero-or-pos, eq-or-lt-of-le}
-use native.Mathlib.Omega.{arith}
+use Prim.Native.Nat.{ℕ, zero, suc, _+_, _<_}
 use native.Mathlib.Numerals.{add-one}
 use borrow.Author.Count.{below-none, below-more}
 use lib.Dec.{T}
 use lib.ListN.{length, getD}
-use lib.Ieee.{Float, nan, binary64, fits, lt, le, ofBits}
-use lib.Ieee.Fits.{add-fits}
+use lib.Ieee.{Float, nan, binary64, fits, lt, ofBits}
 use Rattle.float.specs.Number.{finite, f0}
 use Rattle.float.specs.Calc.{Calc}
 use Rattle.float.specs.Folds.{upto}
@@ -27,7 +23,6 @@ use Rattle.stages.specs.Worst.{errorOf, larger, worstAt, noWorst, worst, maxErr
 use Rattle.stages.specs.declared.worst.Worst.{Worst}
 use Rattle.stages.proofs.Errors.{error-bad}
 use Rattle.root.specs.Root.{sqrt, plain}
-use Rattle.numbers.specs.Words.{zer}
 use Rattle.ends.specs.Ends.{Near}
 use Rattle.numbers.proofs.Order.{le-tr, le-self, lt-is-le, not-lt}
 use Rattle.numbers.proofs.Plain.{plain-fin, sqrt-plain, sqrt-le}

@@ -2,22 +2,21 @@
 use mathlib.Core.Path.{_≡_, refl, sym, ap, _∙_, subst}
 use mathlib.Core.Logic.{_⊎_, inl, inr}
 use Prim.Native.Nat.{ℕ, zero, suc, _+_, _-_, _*_, _%_, _^_, _≤_, _<_}
-use native.Mathlib.Nat.{le-refl, le-trans, le-of-eq, mul-one, one-mul, mul-assoc, mul-comm, mul-right-comm, mul-mul-mul-comm, mul-le-mul, mul-le-mul-right, mul-pos, zero-lt-suc, pow-succ'}
+use native.Mathlib.Nat.{le-trans, le-of-eq, mul-one, one-mul, mul-assoc, mul-right-comm, mul-mul-mul-comm, mul-le-mul, mul-le-mul-right, mul-pos, zero-lt-suc, pow-succ'}
 use native.Mathlib.Omega.{arith}
-use mathlib.Core.Bool.{Bool, true, false, not, _&&_, _||_, Bool·beq, cond, true≢false}
-use lib.IntN.{ℤ, pos}
-use lib.Dec.{T, leb, ltb, eqb, lt→ltb, lit≤}
-use lib.Pow.{pow-add, pow-pos, pow-mono, pow-lt}
-use lib.Ieee.{Float, nan, inf, fin, Format, binary32, binary64, prec, emax, low, unlike, up, down, odd, units, round, fits, neg, sum, add, sub, mul, lt, le, ofBits}
+use mathlib.Core.Bool.{Bool, true, false, _&&_, Bool·beq, cond}
+use lib.IntN.{pos}
+use lib.Dec.{T, leb, ltb, eqb, lt→ltb}
+use lib.Pow.{pow-add, pow-mono, pow-lt}
+use lib.Ieee.{Float, nan, inf, fin, Format, binary32, binary64, prec, emax, low, unlike, up, down, odd, units, round, fits, neg, sum, add, sub, mul, le}
 use lib.Ieee.Bits.{is-true}
 use lib.Ieee.Fits.{down-pos, and-i, round-is}
-use lib.Ieee.Exact.{HasValue, odd-sign}
+use lib.Ieee.Exact.{odd-sign}
 use lib.Ieee.Order.{round-mono}
-use Rattle.float.specs.Number.{finite, f0, f1, f3}
+use Rattle.float.specs.Number.{finite}
 use Rattle.float.proofs.Strict.{Fin}
 use Rattle.root.specs.Root.{plain}
 use Rattle.root.proofs.Nearest.{value-plain}
-use Rattle.numbers.specs.Words.{zer, one}
 use Rattle.numbers.proofs.Keeps.{round-keeps}
 use Rattle.float.proofs.Ranks.{Le, says}
 

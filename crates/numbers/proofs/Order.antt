@@ -1,15 +1,12 @@
 -- The order of floats: `le` is transitive, of two finite numbers one is at most the other, and `clamp01` of a finite number lies in 0..1. Assumes nothing.
-use mathlib.Core.Path.{_≡_, refl, sym, ap, _∙_, subst}
-use mathlib.Core.Logic.{_⊎_, inl, inr}
-use Prim.Native.Nat.{ℕ, zero, suc, _+_, _*_, _≤_, _<_, zero-le}
-use native.Mathlib.Nat.{le-refl, le-trans, le-of-eq, le-of-lt, zero-mul, mul-right-comm, mul-le-mul-right, le-of-mul-le-mul-right, eq-of-mul-eq-mul-right, eq-zero-or-pos, eq-or-lt-of-le}
+use mathlib.Core.Path.{_≡_, refl, sym, ap, _∙_}
+use Prim.Native.Nat.{ℕ, _+_, _*_, _≤_, _<_, zero-le}
+use native.Mathlib.Nat.{le-refl, le-trans, le-of-eq, zero-mul, mul-right-comm, mul-le-mul-right, le-of-mul-le-mul-right, eq-of-mul-eq-mul-right}
 use native.Mathlib.Omega.{arith}
-use mathlib.Core.Bool.{Bool, true, false, not, _&&_, _||_, Bool·beq, cond}
-use lib.IntN.{ℤ, pos}
-use lib.Dec.{T, ltb, eqb}
-use lib.Ieee.{Float, nan, inf, fin, up, down, below, level, lt, eq, le, ofBits}
-use lib.Ieee.Fits.{up-pos, down-pos}
-use borrow.Author.Tests.{ltb-true, ltb-false, eqb-true, lt-ltb, eq-eqb}
+use mathlib.Core.Bool.{Bool, true, false, cond}
+use lib.Ieee.{Float, nan, inf, fin, up, down, below, lt, eq, le, ofBits}
+use lib.Ieee.Fits.{down-pos}
+use borrow.Author.Tests.{ltb-false}
 use Rattle.float.specs.Number.{finite, f0, f1}
 use Rattle.float.specs.Number.{clamp01}
 use Rattle.float.proofs.Strict.{Fin}

@@ -1,17 +1,15 @@
 -- Finite values with the sign clear: squares, their sums and roots are such. A sum is at least each of its terms, a root grows with its number,
 -- and a quotient of a smaller by a larger lies in 0..1.
 use mathlib.Core.Path.{_≡_, refl, sym, ap, _∙_, subst}
-use mathlib.Core.Logic.{_⊎_, inl, inr}
-use Prim.Native.Nat.{ℕ, zero, suc, _+_, _-_, _*_, _/_, _^_, _≤_, _<_, zero-le}
-use native.Mathlib.Nat.{le-trans, le-of-eq, le-add-right, lt-of-lt-of-le, lt-irrefl, zero-mul, mul-one, one-mul, mul-assoc, mul-comm, mul-right-comm, mul-le-mul-right, mul-pos, zero-lt-suc}
+use Prim.Native.Nat.{ℕ, zero, suc, _+_, _*_, _/_, _^_, _≤_, _<_, zero-le}
+use native.Mathlib.Nat.{le-trans, le-of-eq, zero-mul, mul-one, one-mul, mul-assoc, mul-comm, mul-le-mul-right, mul-pos, zero-lt-suc}
 use native.Mathlib.Omega.{arith}
-use mathlib.Core.Bool.{Bool, true, false, not, _&&_, _||_, cond, true≢false}
-use lib.IntN.{ℤ, pos}
-use lib.Dec.{T, ltb, lt→ltb}
-use lib.Ieee.{Float, nan, inf, fin, Format, binary64, unlike, up, down, low, round, fits, sum, add, mul, div, lt, eq, le, ofBits}
-use lib.Ieee.Fits.{up-pos, down-pos, add-fits}
+use mathlib.Core.Bool.{Bool, true, false, true≢false}
+use lib.IntN.{pos}
+use lib.Dec.{T, lt→ltb}
+use lib.Ieee.{Float, nan, inf, fin, Format, binary64, unlike, up, down, low, round, fits, sum, add, mul, div, eq, le}
+use lib.Ieee.Fits.{up-pos, down-pos}
 use lib.Ieee.Bits.{is-true}
-use lib.Ieee.Exact.{HasValue}
 use lib.Ieee.Order.{round-mono}
 use lib.Ieee.Scale.{grid, round-val, round-under, finite as finiteT}
 use Rattle.float.specs.Number.{finite, f0, f1}
@@ -19,12 +17,12 @@ use Rattle.float.specs.Number.{finite, f0, f1}
 use Rattle.float.proofs.Strict.{Fin}
 use Rattle.root.specs.Root.{sqrt, plain}
 use Rattle.root.proofs.Nearest.{result, value-plain}
-use Rattle.root.proofs.Cases.{zero!}
+use Rattle.root.proofs.Cases.{zero! }
 use Rattle.root.proofs.Laws.{sqrt-mono}
 use Rattle.float.proofs.Truth.{never}
-use Rattle.numbers.specs.Words.{zer, one, InUnit}
+use Rattle.numbers.specs.Words.{zer, InUnit}
 use Rattle.numbers.proofs.Keeps.{round-keeps}
-use Rattle.numbers.proofs.Zeros.{f0-is, f1-is, zer-fits, one-fits, zero-is, round-none, eq-zero, unlike-self, div-is}
+use Rattle.numbers.proofs.Zeros.{f0-is, f1-is, one-fits, round-none, eq-zero, unlike-self, div-is}
 use Rattle.float.proofs.Ranks.{Le, says, said}
 
 fin→T : (x : Float) → Fin x → T (finiteT x)

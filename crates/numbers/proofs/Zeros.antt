@@ -1,14 +1,14 @@
 -- Operations with a zero, with one, and of a value with itself; over either format. Assumes nothing.
-use mathlib.Core.Path.{_≡_, refl, sym, ap, _∙_, subst}
-use mathlib.Core.Logic.{_⊎_, inl, inr}
-use Prim.Native.Nat.{ℕ, zero, suc, _+_, _-_, _*_, _^_, _≤_, _<_, zero-le}
-use native.Mathlib.Nat.{zero-mul, mul-zero, mul-one, one-mul, mul-comm, mul-right-comm, mul-pos, add-zero, zero-add, sub-zero, sub-self, le-refl, zero-lt-suc}
+use mathlib.Core.Path.{_≡_, refl, sym, ap, _∙_}
+use mathlib.Core.Logic.{inl, inr}
+use Prim.Native.Nat.{ℕ, zero, suc, _-_, _*_, _<_, zero-le}
+use native.Mathlib.Nat.{zero-mul, mul-zero, mul-one, one-mul, mul-pos, add-zero, zero-add, sub-zero, sub-self, le-refl, zero-lt-suc}
 use native.Mathlib.Omega.{arith}
-use mathlib.Core.Bool.{Bool, true, false, not, _&&_, _||_, Bool·beq, cond, true≢false, false≢true}
-use lib.IntN.{ℤ, pos, negsuc}
-use lib.Dec.{T, leb, ltb, eqb, eqb·suc-zero}
+use mathlib.Core.Bool.{Bool, true, false, not, cond, true≢false}
+use lib.IntN.{ℤ, pos}
+use lib.Dec.{T, eqb, eqb·suc-zero}
 use lib.Ieee.{Float, nan, inf, fin, Format, binary32, binary64, unlike, up, down, round, fits, neg, sum, add, sub, mul, div, eq, ofBits}
-use lib.Ieee.Fits.{up-pos, down-pos, mul-fits}
+use lib.Ieee.Fits.{up-pos, down-pos}
 use borrow.Author.Tests.{le-ltb, lt-ltb}
 use Rattle.float.specs.Number.{finite, f0, f1}
 use Rattle.float.proofs.Truth.{never}
