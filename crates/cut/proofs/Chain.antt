@@ -3,7 +3,7 @@ use Prim.Native.Nat.{ℕ, suc, _+_, _-_, _*_, _≤_, _<_}
 use native.Mathlib.Omega.{arith}
 use mathlib.Core.Path.{_≡_, sym, ap, subst, _∙_}
 use mathlib.Core.List.{List, [], _∷_, _++_}
-use lib.ListN.{length, take, drop, getD}
+use lib.ListN.{length}
 use lib.Seq.{getD-take, getD-drop}
 use lib.Ieee.{Float, nan}
 use Rattle.plane.specs.declared.Point.{Point}
@@ -47,13 +47,13 @@ chain-rises (more {f = f} {g = g} {e = e} {fs = fs} k h a d r) = let s = chain-s
 abbrev pub Within : List Float → List Float → ℕ → Type 0
 Within ws ms first = (i : ℕ) → i < count ms → markAt ws (first + i) ≡ markAt ms i
 
-within-left : (ws ms : List Float) (first k : ℕ) → k + 1 < count ms → Within ws ms first → Within ws (leftOf k ms) first
+pub within-left : (ws ms : List Float) (first k : ℕ) → k + 1 < count ms → Within ws ms first → Within ws (leftOf k ms) first
 unfolding markAt
 within-left ws ms first k h w i l =
     let n = left-count k ms h in
     w i (omega arith) ∙ sym (rw (getD-take (2 * k + 2) ms (2 * i) nan (omega arith), getD-take (2 * k + 2) ms (2 * i + 1) nan (omega arith)))
 
-within-right : (ws ms : List Float) (first k : ℕ) → k + 1 < count ms → Within ws ms first → Within ws (rightOf k ms) (first + k)
+pub within-right : (ws ms : List Float) (first k : ℕ) → k + 1 < count ms → Within ws ms first → Within ws (rightOf k ms) (first + k)
 unfolding markAt
 within-right ws ms first k h w i l =
     let n = right-count k ms h in

@@ -1,0 +1,4 @@
+pub mod Laid
+pub mod Runs
+pub mod Pieces
+pub mod Theorem

@@ -1,0 +1,100 @@
+-- Every run that is done, of marks in range and within a tolerance that is not below zero, lays its curves from the part's first mark to its last. Assumes nothing.
+use mathlib.Core.Path.{_≡_, sym, ap, subst, _∙_}
+use mathlib.Core.List.{List, [], _∷_, _++_}
+use Prim.Native.Nat.{ℕ, _+_, _-_, _*_, _≤_, _<_}
+use native.Mathlib.Omega.{arith}
+use lib.ListN.{length, take, getD}
+use lib.Ieee.{Float, nan}
+use Rattle.float.specs.Number.{f0}
+use Rattle.float.proofs.Ranks.{Le}
+use Rattle.plane.specs.declared.Point.{Point}
+use Rattle.plane.specs.declared.Curve.{Curve}
+use Rattle.marks.specs.Marks.{count, markAt}
+use Rattle.part.specs.Part.{fits}
+use Rattle.part.proofs.Ends.{Sound}
+use Rattle.cut.specs.Run.{Run, refused, done, flat, leftOf, rightOf, join, runOf}
+use Rattle.cut.specs.declared.Ways.{Ways}
+use Rattle.cut.proofs.Run.{run-by, left-count, right-count}
+use Rattle.cut.proofs.Chain.{Within, within-left, within-right}
+use Rattle.blocks.specs.declared.Cutting.the-variants.{Joined}
+use Rattle.blocks.specs.Blocks.{blocksFrom}
+use Rattle.blocks.proofs.Joined.{part, part-count, part-within, blocks-by}
+use Rattle.ends.specs.Ends.{FitsP, Near}
+use Rattle.ends.proofs.Lines.{WP}
+use Rattle.ends.proofs.Accepted.{Marked, Fits, Accepted, part-accepted}
+use Rattle.accepted.specs.Laid.{Laid, last}
+use Rattle.accepted.proofs.Laid.{laid-append}
+
+-- marks among others that are in range are in range
+marked-within : (ws ms : List Float) (first : ℕ) → ((i : ℕ) → i < count ms → first + i < count ws) → Within ws ms first → Marked ws → Marked ms
+marked-within ws ms first b w m i l = subst (λ (p : Point). FitsP p × WP 20 p) (w i l) (m (first + i) (b i l))
+
+own : (ms : List Float) → Within ms ms 0
+own ms i l = ap (markAt ms) (let z : 0 + i ≡ i = omega arith in z)
+
+marked-left : (ms : List Float) (k : ℕ) → k + 1 < count ms → Marked ms → Marked (leftOf k ms)
+marked-left ms k h m = marked-within ms (leftOf k ms) 0 (λ i l. let n = left-count k ms h in omega arith) (within-left ms ms 0 k h (own ms)) m
+
+marked-right : (ms : List Float) (k : ℕ) → k + 1 < count ms → Marked ms → Marked (rightOf k ms)
+marked-right ms k h m = marked-within ms (rightOf k ms) (0 + k) (λ i l. let n = right-count k ms h in omega arith) (within-right ms ms 0 k h (own ms)) m
+
+module _ (tol : Float) (t : Le f0 tol) where
+  abbrev Lays : List Float → ℕ → Run → Type 0
+  Lays ms first (refused q) = Unit {0}
+  Lays ms first (done cs fs ps) = Marked ms → (ws : List Float) → Within ws ms first → Laid ws tol first (first + (count ms - 1)) cs fs ps
+
+  lays-one : (ms : List Float) (first : ℕ) (c : Curve) (ps : List Float) → 2 ≤ count ms → Sound ms (fits c ps) → (Marked ms → Accepted ms tol (fits c ps)) → Lays ms first (done (flat c) (first ∷ []) ps)
+  lays-one ms first c ps h sd acc m ws w =
+      let a : Fits ms tol c ps = acc m in
+      let n = a .many in
+      let z : first + 0 ≡ first = omega arith in
+      let k : first + (count ms - 1) - first ≡ length ps - 1 = omega arith in
+      last {f = first} {e = first + (count ms - 1)} {p = ps} c (omega arith) (sd .1 ∙ sym (w (count ms - 1) (omega arith)))
+      record {
+        good = a .good;
+        start = sd .0 ∙ sym (w 0 (omega arith)) ∙ ap (markAt ws) z;
+        many = omega arith;
+        first = a .params .first;
+        unit = λ i l. a .params .unit i (omega arith);
+        near = λ i l. let b : i < count ms = omega arith in subst (λ (p : Point). Near tol p c (getD ps i nan)) (sym (w i b)) (a .near i b);
+      }
+      (ap (λ (x : ℕ). getD ps x nan) k ∙ a .params .last)
+
+  lays-both : (ms : List Float) (first k : ℕ) (R R′ : Run) → 0 < k → k + 1 < count ms → Lays (leftOf k ms) first R → Lays (rightOf k ms) (first + k) R′ → Lays ms first (join k R R′)
+  lays-both ms first k (refused q) R′ i j l r = tt
+  lays-both ms first k (done c f p) (refused q) i j l r = tt
+  lays-both ms first k (done c f p) (done c′ f′ p′) i j l r = λ m ws w.
+      let a : first + (count (leftOf k ms) - 1) ≡ first + k = let n = left-count k ms j in omega arith in
+      let b : first + k + (count (rightOf k ms) - 1) ≡ first + (count ms - 1) = let n = right-count k ms j in omega arith in
+      let d : first + k - first ≡ k = omega arith in
+      subst (λ (x : ℕ). Laid ws tol first (first + (count ms - 1)) (c ++ c′) (f ++ f′) (take x p ++ p′)) d
+      (laid-append (subst (λ (e : ℕ). Laid ws tol first e c f p) a (l (marked-left ms k j m) ws (within-left ws ms first k j w)))
+      (subst (λ (e : ℕ). Laid ws tol (first + k) e c′ f′ p′) b (r (marked-right ms k j m) ws (within-right ws ms first k j w))))
+
+  run-lays : (ms : List Float) (first : ℕ) (s e : Point) → 2 ≤ count ms → Lays ms first (runOf ms first s e tol)
+  run-lays = run-by tol (λ ms X. Marked ms → Accepted ms tol X) (λ ms s e h m. part-accepted ms tol t h m s e) Lays lays-one (λ ms first q. tt) lays-both
+
+  -- the direct fit's run
+  pub run-laid : (ms : List Float) (s e : Point) (cs : List Float) (fs : List ℕ) (ps : List Float) → 2 ≤ count ms → Marked ms → runOf ms 0 s e tol ≡ done cs fs ps → Laid ms tol 0 (count ms - 1) cs fs ps
+  run-laid ms s e cs fs ps h m q =
+      let l : Lays ms 0 (done cs fs ps) = rw q at (run-lays ms 0 s e h) in
+      let z : 0 + (count ms - 1) ≡ count ms - 1 = omega arith in
+      subst (λ (x : ℕ). Laid ms tol 0 x cs fs ps) z (l m ms (own ms))
+
+  -- the joined fit's
+  module _ (ms : List Float) (n size : ℕ) (even : length ms ≡ 2 * n) (m : Marked ms) where
+    block-laid : (from to : ℕ) (w : Ways) (cs : List Float) (fs : List ℕ) (ps : List Float) → from + 2 ≤ to → to ≤ n → runOf (part ms n size tol even from to) from (w .start) (w .end) tol ≡ done cs fs ps
+        → Laid ms tol from (to - 1) cs fs ps
+    block-laid from to w cs fs ps h l q =
+        let ws = part ms n size tol even from to in
+        let many : count ws ≡ to - from = part-count ms n size tol even from to h l in
+        let within = part-within ms n size tol even from to h l in
+        let r : Lays ws from (done cs fs ps) = rw q at (run-lays ws from (w .start) (w .end) (omega (arith, many))) in
+        let z : from + (count ws - 1) ≡ to - 1 = omega (arith, many) in
+        subst (λ (e : ℕ). Laid ms tol from e cs fs ps) z (r (marked-within ms ws from (λ i b. inside (count ws) (count ms) i many (omega arith) b) within m) ms within)
+      where
+        inside : (a b i : ℕ) → a ≡ to - from → b ≡ n → i < a → from + i < b
+        inside a b i p q r = omega arith
+
+    pub blocks-laid : (cs : List Float) (fs : List ℕ) (ps : List Float) → 0 < size → 2 ≤ n → blocksFrom Joined ms n size tol 0 ≡ done cs fs ps → Laid ms tol 0 (n - 1) cs fs ps
+    blocks-laid = blocks-by ms n size tol even (Laid ms tol) block-laid (λ f g e cs cs′ fs fs′ ps ps′ l x y. laid-append x y)

@@ -1,0 +1,182 @@
+-- Demand 3: every list that the joined or the direct fit accepts is sound, with the same marks and tolerance. Assumes nothing.
+use mathlib.Core.Path.{_≡_, refl, ap}
+use mathlib.Core.Bool.{Bool, true, false, cond}
+use mathlib.Core.List.{List, [], _∷_, _++_}
+use Prim.Native.Nat.{ℕ, zero, suc, _+_, _-_, _*_, _≤_, _<_}
+use native.Mathlib.Omega.{arith}
+use lib.Dec.{T, eqb}
+use lib.ListN.{length, drop, getD, length-append}
+use lib.Ieee.{Float, nan, binary64, fits, toBits, eq, le, ofBits}
+use borrow.Author.Tests.{eqb-true}
+use Rattle.float.specs.Number.{f0, f1, finite}
+use Rattle.float.specs.Answer.{Answer, ok}
+use Rattle.float.specs.Answer.{refused as no}
+use Rattle.float.specs.Slices.{written}
+use Rattle.float.proofs.Truth.{and-left, and-right, both}
+use Rattle.plane.specs.declared.Point.{Point}
+use Rattle.plane.specs.Range.{coordinate}
+use Rattle.plane.proofs.Fine.{good-point}
+use Rattle.marks.specs.Marks.{count, markAt}
+use Rattle.squares.proofs.Controls.{GoodCurve}
+use Rattle.numbers.specs.Words.{one, Zero}
+use Rattle.ends.proofs.Accepted.{Marked}
+use Rattle.ends.proofs.Lines.{coordinate-w}
+use Rattle.gate.specs.Gate.{inRange, tolerable, gateFor, gateOf}
+use Rattle.gate.proofs.Tests.{PassedFor, passed-for, passes}
+use Rattle.cut.specs.Run.{Run, refused, done, runOf}
+use Rattle.blocks.specs.declared.Cutting.the-variants.{Joined}
+use Rattle.blocks.specs.Blocks.{blocksOf}
+use Rattle.marks.specs.Block.{blockSize}
+use Rattle.fit.specs.Fit.{Ending, ending, ended, entered, fitOf, cubicGate, cubicOf}
+use Rattle.fit.proofs.Entries.{size-within, cubic-passed}
+use Rattle.checker.specs.Check.{firstAt, curveAt, curveFinite, distanceAt}
+use Rattle.checker.specs.Sound.{Sound, SamePoint}
+use Rattle.accepted.specs.Laid.{Laid}
+use Rattle.accepted.proofs.Laid.{laid-many, laid-curves}
+use Rattle.accepted.proofs.Runs.{run-laid, blocks-laid}
+use Rattle.accepted.proofs.Pieces.{Piece, laid-first, laid-some, laid-one, laid-unit, laid-piece}
+
+-- ---- a laid list is sound
+
+same-point : (p q : Point) → p ≡ q → SamePoint p q
+same-point p q e = (ap (λ (p : Point). toBits binary64 (p .x)) e, ap (λ (p : Point). toBits binary64 (p .y)) e)
+
+all-finite : (cs : List Float) (j : ℕ) → GoodCurve (curveAt cs j) → curveFinite (curveAt cs j) ≡ true
+unfolding curveFinite
+all-finite cs j g = both _ _ (good-point _ (g .0)) (both _ _ (good-point _ (g .1)) (both _ _ (good-point _ (g .2)) (good-point _ (g .3))))
+
+zero-eq : (x : Float) → Zero x → eq x f0 ≡ true
+unfolding eq ofBits
+zero-eq x (true, p) = ap (λ (v : Float). eq v f0) p
+zero-eq x (false, p) = ap (λ (v : Float). eq v f0) p
+
+one-eq : (x : Float) → x ≡ one → eq x f1 ≡ true
+unfolding eq ofBits
+one-eq x p = ap (λ (v : Float). eq v f1) p
+
+pub laid-sound : (ms : List Float) (tol : Float) (cs : List Float) (fs : List ℕ) (ps X : List Float) (Y : List ℕ) (Z : List Float) → 2 ≤ count ms → Laid ms tol 0 (count ms - 1) cs fs ps
+    → Sound ms tol (length fs) (cs ++ X) (fs ++ Y) (ps ++ Z)
+unfolding distanceAt
+laid-sound ms tol cs fs ps X Y Z h l =
+    let n = count ms in
+    let some : 0 < n = omega arith in
+    let piece : (j : ℕ) → j < length fs → Piece ms tol n 0 (length fs) (cs ++ X) (fs ++ Y) (ps ++ Z) j = laid-piece ms tol n some X Y Z l in
+    record {
+      some = laid-some ms tol n some X Y Z l;
+      from-first = laid-first ms tol n some X Y Z l;
+      two-or-more = λ j b. piece j b .two;
+      begins = λ j b. same-point _ _ (piece j b .begins);
+      ends = λ j b. same-point _ _ (piece j b .ends);
+      numbers = λ j b. all-finite (cs ++ X) j (piece j b .good);
+      within-unit = λ i b. rw (none i) at (laid-unit ms tol n some X Y Z l i (omega arith) (omega arith));
+      zero-at-first = λ j b. zero-eq _ (rw (none (firstAt (fs ++ Y) j)) at (piece j b .zero-first));
+      one-at-last = one-eq _ (rw (none (n - 1)) at (laid-one ms tol n some X Y Z l));
+      near-enough = λ j b i a c. rw (none i) at (piece j b .near i a c);
+    }
+  where
+    none : (x : ℕ) → x - 0 ≡ x
+    none x = omega arith
+
+-- ---- marks that a gate let pass
+
+-- every number is a value of an f64
+abbrev pub Numbers : List Float → Type 0
+Numbers xs = (i : ℕ) → i < length xs → T (fits binary64 (getD xs i nan))
+
+in-range-at : (xs : List Float) → inRange xs ≡ true → (i : ℕ) → i < length xs → coordinate (getD xs i nan) ≡ true
+unfolding inRange
+in-range-at [] h i l = absurd (omega arith)
+in-range-at (x ∷ xs) h zero l = and-left (coordinate x) (inRange xs) h
+in-range-at (x ∷ xs) h (suc i) l = in-range-at xs (and-right (coordinate x) (inRange xs) h) i (omega arith)
+
+marked : (ms : List Float) → inRange ms ≡ true → Numbers ms → Marked ms
+unfolding markAt
+marked ms r f k l =
+    let a : 2 * k < length ms = omega arith in
+    let b : 2 * k + 1 < length ms = omega arith in
+    ((f (2 * k) a, f (2 * k + 1) b), (coordinate-w _ (in-range-at ms r (2 * k) a), coordinate-w _ (in-range-at ms r (2 * k + 1) b)))
+
+-- ---- a call that is accepted
+
+-- what an accepted call leaves is a run's list over the lent slices
+record Done (ms : List Float) (tol : Float) (k : ℕ) (C C′ : List Float) (F F′ : List ℕ) (P P′ : List Float) (g : ℕ) (R : Run) : Type 0 where
+  cs : List Float
+  fs : List ℕ
+  ps : List Float
+  let-pass : g ≡ 0
+  is-done : R ≡ done cs fs ps
+  many : k ≡ length fs
+  curves : C′ ≡ written cs C
+  firsts : F′ ≡ written fs F
+  params : P′ ≡ written ps P
+
+accepted-done : (ms : List Float) (tol : Float) (k : ℕ) (C C′ : List Float) (F F′ : List ℕ) (P P′ : List Float) (g : ℕ) (R : Run) → ending (ok k) C′ F′ P′ ≡ entered g R C F P → Done ms tol k C C′ F F′ P P′ g R
+accepted-done ms tol k C C′ F F′ P P′ g R h = go (eqb g 0) refl h
+  where
+    run : (R : Run) → g ≡ 0 → ending (ok k) C′ F′ P′ ≡ ended R C F P → Done ms tol k C C′ F F′ P P′ g R
+    run (refused q) z h = let a : _≡_ {A = Answer ℕ} (ok k) (no q) = ap (λ (x : Ending). x .answer) h in let y : _≡_ {A = ℕ} 0 1 = cc in absurd (omega arith)
+    run (done cs fs ps) z h =
+        let a : _≡_ {A = Answer ℕ} (ok k) (ok (length fs)) = ap (λ (x : Ending). x .answer) h in
+        record {
+          cs = cs;
+          fs = fs;
+          ps = ps;
+          let-pass = z;
+          is-done = refl;
+          many = cc;
+          curves = ap (λ (x : Ending). x .curves) h;
+          firsts = ap (λ (x : Ending). x .firsts) h;
+          params = ap (λ (x : Ending). x .params) h;
+        }
+
+    go : (b : Bool) → eqb g 0 ≡ b → ending (ok k) C′ F′ P′ ≡ cond b (ended R C F P) (ending (no g) C F P) → Done ms tol k C C′ F F′ P P′ g R
+    go true e h = run R (eqb-true g 0 e) h
+    go false e h = let a : _≡_ {A = Answer ℕ} (ok k) (no g) = ap (λ (x : Ending). x .answer) h in let y : _≡_ {A = ℕ} 0 1 = cc in absurd (omega arith)
+
+-- a list laid by an accepted call is sound, and the checker does not refuse it
+pub record Passing (ms : List Float) (tol : Float) (k : ℕ) (C : List Float) (F : List ℕ) (P : List Float) : Type 0 where
+  pub taken : gateFor 4096 k ms tol (length C) (length F) (length P) ≡ 0
+  pub sound : Sound ms tol k C F P
+
+laid-passing : (ms : List Float) (tol : Float) (k top : ℕ) (cs C : List Float) (fs F : List ℕ) (ps P : List Float) → top ≤ 4096 → PassedFor top (count ms - 1) ms tol (length C) (length F) (length P) → k ≡ length fs
+    → Laid ms tol 0 (count ms - 1) cs fs ps → Passing ms tol k (written cs C) (written fs F) (written ps P)
+laid-passing ms tol k top cs C fs F ps P t g e l = rw e (record { taken = passes 4096 (length fs) ms tol _ _ _ room; sound = laid-sound ms tol cs fs ps _ _ _ (g .two) l })
+  where
+    room : PassedFor 4096 (length fs) ms tol (length (written cs C)) (length (written fs F)) (length (written ps P))
+    room =
+        let a = laid-curves l in
+        let b = laid-many l in
+        let two = g .two in
+        let most = g .most in
+        let x = length-append cs (drop (length cs) C) in
+        let y = length-append fs (drop (length fs) F) in
+        let z = length-append ps (drop (length ps) P) in
+        record { even = g .even; two = two; most = omega arith; curves = omega arith; firsts = omega arith; params = omega arith; near = g .near; usable = g .usable }
+
+same-lists : (ms : List Float) (tol : Float) (k : ℕ) (C C′ : List Float) (F F′ : List ℕ) (P P′ : List Float) → C′ ≡ C → F′ ≡ F → P′ ≡ P → Passing ms tol k C F P → Passing ms tol k C′ F′ P′
+same-lists ms tol k C C′ F F′ P P′ x y z h = rw (x, y, z) h
+
+not-below : (tol : Float) → tolerable tol ≡ true → le f0 tol ≡ true
+unfolding tolerable
+not-below tol h = and-right (finite tol) (le f0 tol) h
+
+module _ (ms : List Float) (tol : Float) (k : ℕ) (C C′ : List Float) (F F′ : List ℕ) (P P′ : List Float) (numbers : Numbers ms) where
+  pub joined-passing : ending (ok k) C′ F′ P′ ≡ fitOf Joined ms tol C F P → Passing ms tol k C′ F′ P′
+  unfolding fitOf blocksOf
+  joined-passing h =
+      let d = accepted-done ms tol k C C′ F F′ P P′ (gateOf 4096 ms tol (length C) (length F) (length P)) (blocksOf Joined ms (blockSize (count ms)) tol) h in
+      let g = passed-for 4096 (count ms - 1) ms tol (length C) (length F) (length P) (d .let-pass) in
+      let size = size-within (count ms) (blockSize (count ms)) refl in
+      let even : length ms ≡ 2 * count ms = let e = g .even in omega arith in
+      same-lists ms tol k _ C′ _ F′ _ P′ (d .curves) (d .firsts) (d .params)
+      (laid-passing ms tol k 4096 (d .cs) C (d .fs) F (d .ps) P (omega arith) g (d .many)
+      (blocks-laid tol (not-below tol (g .usable)) ms (count ms) (blockSize (count ms)) even (marked ms (g .near) numbers) (d .cs) (d .fs) (d .ps) (omega arith) (g .two) (d .is-done)))
+
+  pub direct-passing : (s e : Point) → ending (ok k) C′ F′ P′ ≡ cubicOf ms s e tol C F P → Passing ms tol k C′ F′ P′
+  unfolding cubicOf
+  direct-passing s e h =
+      let d = accepted-done ms tol k C C′ F F′ P P′ (cubicGate ms s e tol (length C) (length F) (length P)) (runOf ms 0 s e tol) h in
+      let g = cubic-passed ms s e tol (length C) (length F) (length P) (cubicGate ms s e tol (length C) (length F) (length P)) refl (d .let-pass) in
+      same-lists ms tol k _ C′ _ F′ _ P′ (d .curves) (d .firsts) (d .params)
+      (laid-passing ms tol k 512 (d .cs) C (d .fs) F (d .ps) P (omega arith) g (d .many)
+      (run-laid tol (not-below tol (g .usable)) ms s e (d .cs) (d .fs) (d .ps) (g .two) (marked ms (g .near) numbers) (d .is-done)))

@@ -1,0 +1,5 @@
+pub mod Keeps
+pub mod Zeros
+pub mod Order
+pub mod Plain
+pub mod Bounds
