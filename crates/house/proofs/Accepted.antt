@@ -10,9 +10,10 @@ use Rattle.float.specs.Answer.{Answer, ok, refused}
 use Rattle.house.specs.Bytes.{allFit}
 use Rattle.house.specs.File.{File, Holds, bytesOf, marksIn, curvesIn, fewer}
 use Rattle.house.specs.Held.{fileOf}
-use Rattle.house.specs.Slices.{over, room}
+use Rattle.float.specs.Slices.{written}
+use Rattle.house.specs.Slices.{room}
 use Rattle.house.specs.Reader.{Found, foundIn, Outcome, outcome, within, judged, settled, readOf}
-use Rattle.house.specs.Writer.{fileFor, checked, Written, written, put, writeOf}
+use Rattle.house.specs.Writer.{fileFor, checked, Writing, writing, put, writeOf}
 use Rattle.house.proofs.Answers.{not-refused, unless-ok}
 use Rattle.house.proofs.Numbers.{split}
 use Rattle.house.proofs.Rooms.{Places, places, placing}
@@ -27,7 +28,7 @@ pub record Taken (F : File) (M P C Q : List ℕ) : Type 0 where
   pub places : Places (marksIn F) (curvesIn F) (length P) (length C) (length Q)
 
 pub read-accepts : {b M P C Q : List ℕ} {F : File} → Holds b F → Taken F M P C Q
-    → readOf b M P C Q ≡ outcome (ok (foundIn F)) (over (F .marks) M) (over (F .firsts) P) (over (F .curves) C) (over (F .params) Q)
+    → readOf b M P C Q ≡ outcome (ok (foundIn F)) (written (F .marks) M) (written (F .firsts) P) (written (F .curves) C) (written (F .params) Q)
 read-accepts {b} {M} {P} {C} {Q} {F} h t =
     reads M P C Q h
     ∙ simp (le-leb (marksIn F) 4096 (t .few), le-leb (length (F .marks)) (length M) (t .marks), placing (t .places))
@@ -37,10 +38,10 @@ pub record Accepted (b M P C Q : List ℕ) (f : Found) (M′ P′ C′ Q′ : Li
   pub holds : Holds b file
   pub taken : Taken file M P C Q
   pub answer : f ≡ foundIn file
-  pub marks : M′ ≡ over (file .marks) M
-  pub firsts : P′ ≡ over (file .firsts) P
-  pub curves : C′ ≡ over (file .curves) C
-  pub params : Q′ ≡ over (file .params) Q
+  pub marks : M′ ≡ written (file .marks) M
+  pub firsts : P′ ≡ written (file .firsts) P
+  pub curves : C′ ≡ written (file .curves) C
+  pub params : Q′ ≡ written (file .params) Q
 
 pub read-accepted : {b M P C Q : List ℕ} {f : Found} {M′ P′ C′ Q′ : List ℕ} → outcome (ok f) M′ P′ C′ Q′ ≡ readOf b M P C Q → Accepted b M P C Q f M′ P′ C′ Q′
 unfolding readOf judged
@@ -84,7 +85,7 @@ pub record Sound (M : List ℕ) (k : ℕ) (P C Q : List ℕ) : Type 0 where
   pub firsts : allFit 2 (take k P) ≡ true
 
 pub write-accepts : (t : ℕ) {M : List ℕ} {k : ℕ} {P C Q : List ℕ} (O : List ℕ) → Sound M k P C Q → length (bytesOf (fileFor t M k P C Q)) ≤ length O
-    → writeOf t M k P C Q O ≡ written (ok (length (bytesOf (fileFor t M k P C Q)))) (over (bytesOf (fileFor t M k P C Q)) O)
+    → writeOf t M k P C Q O ≡ writing (ok (length (bytesOf (fileFor t M k P C Q)))) (written (bytesOf (fileFor t M k P C Q)) O)
 unfolding writeOf checked
 write-accepts t {M} {k} {P} {C} {Q} O s h =
     rw (
@@ -100,9 +101,9 @@ pub record Put (t : ℕ) (M : List ℕ) (k : ℕ) (P C Q O : List ℕ) (len : �
   pub sound : Sound M k P C Q
   pub whole : length (bytesOf (fileFor t M k P C Q)) ≤ length O
   pub answer : len ≡ length (bytesOf (fileFor t M k P C Q))
-  pub out : O′ ≡ over (bytesOf (fileFor t M k P C Q)) O
+  pub out : O′ ≡ written (bytesOf (fileFor t M k P C Q)) O
 
-pub write-accepted : {t : ℕ} {M : List ℕ} {k : ℕ} {P C Q O : List ℕ} {len : ℕ} {O′ : List ℕ} → written (ok len) O′ ≡ writeOf t M k P C Q O → Put t M k P C Q O len O′
+pub write-accepted : {t : ℕ} {M : List ℕ} {k : ℕ} {P C Q O : List ℕ} {len : ℕ} {O′ : List ℕ} → writing (ok len) O′ ≡ writeOf t M k P C Q O → Put t M k P C Q O len O′
 unfolding writeOf checked
 write-accepted {t} {M} {k} {P} {C} {Q} {O} {len} {O′} e = first (checked t M k P C Q (length O)) refl e
   where
@@ -112,15 +113,15 @@ write-accepted {t} {M} {k} {P} {C} {Q} {O} {len} {O′} e = first (checked t M k
     F : File
     F = fileFor t M k P C Q
 
-    second : (G : File) → checked t M k P C Q (length O) ≡ ok G → written (ok len) O′ ≡ put (ok G) O → Put t M k P C Q O len O′
+    second : (G : File) → checked t M k P C Q (length O) ≡ ok G → writing (ok len) O′ ≡ put (ok G) O → Put t M k P C Q O len O′
     second G w q =
         let h3 = unless-ok 3 (eqb (length M % 2) 0) _ w in
         let h2 = unless-ok 2 (leb n 4096) _ (h3 .1) in
         let h4 = unless-ok 4 (room n k (length P) (length C) (length Q) && leb (length (bytesOf F)) (length O)) _ (h2 .1) in
         let h9 = unless-ok 9 (fewer k n && allFit 2 (take k P)) (ok F) (h4 .1) in
         let g : F ≡ G = cc in
-        let p : written (ok len) O′ ≡ put (ok F) O = rw g q in
-        let a : ok len ≡ ok (length (bytesOf F)) = ap (λ (o : Written). o .answer) p in
+        let p : writing (ok len) O′ ≡ put (ok F) O = rw g q in
+        let a : ok len ≡ ok (length (bytesOf F)) = ap (λ (o : Writing). o .answer) p in
         let e : len ≡ length (bytesOf F) = cc in
         let r = split _ _ (h4 .0) in
         let f = split _ _ (h9 .0) in
@@ -128,9 +129,9 @@ write-accepted {t} {M} {k} {P} {C} {Q} {O} {len} {O′} e = first (checked t M k
           sound = record { even = eqb-true _ _ (h3 .0); few = leb-true _ _ (h2 .0); places = places _ _ _ _ _ (r .0); fewer = f .0; firsts = f .1 };
           whole = leb-true _ _ (r .1);
           answer = e;
-          out = ap (λ (o : Written). o .out) p;
+          out = ap (λ (o : Writing). o .out) p;
         }
 
-    first : (a : Answer File) → checked t M k P C Q (length O) ≡ a → written (ok len) O′ ≡ put (checked t M k P C Q (length O)) O → Put t M k P C Q O len O′
+    first : (a : Answer File) → checked t M k P C Q (length O) ≡ a → writing (ok len) O′ ≡ put (checked t M k P C Q (length O)) O → Put t M k P C Q O len O′
     first (ok G) x q = second G x (rw x at q)
-    first (refused m) x q = let y : written (ok len) O′ ≡ put (refused m) O = rw x at q in not-refused m (ap (λ (o : Written). o .answer) y)
+    first (refused m) x q = let y : writing (ok len) O′ ≡ put (refused m) O = rw x at q in not-refused m (ap (λ (o : Writing). o .answer) y)

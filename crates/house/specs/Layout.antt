@@ -11,7 +11,7 @@ use Rattle.house.specs.Limits.{lengthField, kindField, numberField, mark
 use Rattle.house.specs.Bytes.{num}
 use Rattle.house.specs.File.{File, paramsFor}
 use Rattle.house.specs.Held.{isFile, marksEnd, paramsAt, marksHeld, curvesHeld}
-use Rattle.house.specs.Slices.{over}
+use Rattle.float.specs.Slices.{written}
 
 -- the length and the kind of the record at p
 unfoldable pub headAt : List ℕ → ℕ → ℕ → ℕ → Bool
@@ -52,7 +52,7 @@ pub record Room (n k : ℕ) (b M P C Q : List ℕ) : Type 0 where
 
 -- a file stands at the front of the slices
 pub record Copied (F : File) (M P C Q M′ P′ C′ Q′ : List ℕ) : Type 0 where
-  pub marks : M′ ≡ over (F .marks) M
-  pub firsts : P′ ≡ over (F .firsts) P
-  pub curves : C′ ≡ over (F .curves) C
-  pub params : Q′ ≡ over (F .params) Q
+  pub marks : M′ ≡ written (F .marks) M
+  pub firsts : P′ ≡ written (F .firsts) P
+  pub curves : C′ ≡ written (F .curves) C
+  pub params : Q′ ≡ written (F .params) Q

@@ -10,7 +10,8 @@ use Rattle.house.specs.declared.Read.the-variants as read
 use Rattle.house.specs.Limits.{tooMany, noRoom, mostMarks}
 use Rattle.house.specs.File.{File, marksIn, curvesIn}
 use Rattle.house.specs.Held.{fileOf}
-use Rattle.house.specs.Slices.{room, over}
+use Rattle.float.specs.Slices.{written}
+use Rattle.house.specs.Slices.{room}
 
 -- the file, if it is within the limits: m, p, c and q are the lengths of the slices for marks, first marks, curves and parameters
 abbrev pub within : File → ℕ → ℕ → ℕ → ℕ → Answer File
@@ -51,7 +52,7 @@ outcome a M P C Q = record { answer = a; marks = M; firsts = P; curves = C; para
 
 -- a file fills the first places of the slices, and a refusal leaves them
 abbrev pub settled : Answer File → List ℕ → List ℕ → List ℕ → List ℕ → Outcome
-settled (ok F) M P C Q = outcome (ok (foundIn F)) (over (F .marks) M) (over (F .firsts) P) (over (F .curves) C) (over (F .params) Q)
+settled (ok F) M P C Q = outcome (ok (foundIn F)) (written (F .marks) M) (written (F .firsts) P) (written (F .curves) C) (written (F .params) Q)
 settled (refused q) M P C Q = outcome (refused q) M P C Q
 
 -- from the bytes, and the slices as they were lent

@@ -10,7 +10,8 @@ use Rattle.house.specs.declared.Wrote.the-variants as wrote
 use Rattle.house.specs.Limits.{tooMany, oddMarks, noRoom, badlyFormed, mostMarks, firstField, markNumbers, curveNumbers}
 use Rattle.house.specs.Bytes.{allFit}
 use Rattle.house.specs.File.{File, bytesOf, fewer, paramsFor}
-use Rattle.house.specs.Slices.{room, over}
+use Rattle.float.specs.Slices.{written}
+use Rattle.house.specs.Slices.{room}
 
 -- the file that a tolerance, marks, a count of curves and the slices give
 unfoldable pub fileFor : ℕ → List ℕ → ℕ → List ℕ → List ℕ → List ℕ → File
@@ -37,18 +38,18 @@ writeAnswer (wrote.Bytes n) = ok n
 writeAnswer (wrote.Refused q) = refused q
 
 -- the answer, and the lent bytes as they are left
-pub record Written : Type 0 where
+pub record Writing : Type 0 where
   pub answer : Answer ℕ
   pub out : List ℕ
 
-abbrev pub written : Answer ℕ → List ℕ → Written
-written a O = record { answer = a; out = O }
+abbrev pub writing : Answer ℕ → List ℕ → Writing
+writing a O = record { answer = a; out = O }
 
 -- a file's bytes fill the first places, and a refusal leaves them
-abbrev pub put : Answer File → List ℕ → Written
-put (ok F) O = written (ok (length (bytesOf F))) (over (bytesOf F) O)
-put (refused q) O = written (refused q) O
+abbrev pub put : Answer File → List ℕ → Writing
+put (ok F) O = writing (ok (length (bytesOf F))) (written (bytesOf F) O)
+put (refused q) O = writing (refused q) O
 
 -- from the numbers, the slices and the bytes as they were lent
-unfoldable pub writeOf : ℕ → List ℕ → ℕ → List ℕ → List ℕ → List ℕ → List ℕ → Written
+unfoldable pub writeOf : ℕ → List ℕ → ℕ → List ℕ → List ℕ → List ℕ → List ℕ → Writing
 writeOf t M k P C Q O = put (checked t M k P C Q (length O)) O

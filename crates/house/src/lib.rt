@@ -6,6 +6,10 @@ mod sizes;
 mod writer;
 
 use bytes::eight;
+use float::refusal::BADLY_FORMED;
+use float::refusal::NO_ROOM;
+use float::refusal::ODD;
+use float::refusal::TOO_MANY;
 use reader::Layout;
 use reader::copy_file;
 use reader::find_layout;
@@ -15,22 +19,10 @@ use writer::can_hold;
 use writer::put_file;
 ghost use mathlib.Core.Path.{_≡_};
 ghost use Rattle.house.specs.Reader.{outcome, readAnswer, readOf};
-ghost use Rattle.house.specs.Writer.{written, writeAnswer, writeOf};
+ghost use Rattle.house.specs.Writer.{writing, writeAnswer, writeOf};
 
 // The most marks that a file may hold.
 pub const MOST_MARKS: usize = 4096;
-
-// The refusal of more marks than that.
-pub const TOO_MANY_MARKS: u32 = 2;
-
-// The refusal of a slice of marks whose length is odd.
-pub const ODD_MARKS: u32 = 3;
-
-// The refusal of a slice that is too short.
-pub const NO_ROOM: u32 = 4;
-
-// The refusal of bytes that are no file, and of curves that no file can hold.
-pub const BADLY_FORMED: u32 = 9;
 
 // What a file holds beside the slices: its tolerance, and how many marks and curves; or why it is not read.
 pub enum Read {
@@ -67,7 +59,7 @@ pub fn read_file(
         return Read::Refused(BADLY_FORMED);
     };
     if n > MOST_MARKS {
-        return Read::Refused(TOO_MANY_MARKS);
+        return Read::Refused(TOO_MANY);
     }
     if marks.len() < sizes::MARK_NUMBERS * n {
         return Read::Refused(NO_ROOM);
@@ -93,14 +85,14 @@ pub fn write_file(
     params: &[u64],
     out: &mut [u8],
 ) -> Wrote
-    ensures { λ r. ⌜ written (writeAnswer r) (now (out .exit)) ≡ writeOf tolerance (now (marks .entry)) count (now (firsts .entry)) (now (curves .entry)) (now (params .entry)) (now (out .entry)) ⌝ }
+    ensures { λ r. ⌜ writing (writeAnswer r) (now (out .exit)) ≡ writeOf tolerance (now (marks .entry)) count (now (firsts .entry)) (now (curves .entry)) (now (params .entry)) (now (out .entry)) ⌝ }
 {
     if marks.len() % sizes::MARK_NUMBERS != 0 {
-        return Wrote::Refused(ODD_MARKS);
+        return Wrote::Refused(ODD);
     }
     let n = marks.len() / sizes::MARK_NUMBERS;
     if n > MOST_MARKS {
-        return Wrote::Refused(TOO_MANY_MARKS);
+        return Wrote::Refused(TOO_MANY);
     }
     if has_room(n, count, firsts.len(), curves.len(), params.len()) {
         let size = size_for(n, count);

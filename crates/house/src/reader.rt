@@ -10,7 +10,7 @@ ghost use lib.ListN.{length, drop};
 ghost use Rattle.house.specs.Limits.{kindField, numberField, curveNumbers, headBytes, markBytes, curveBytes, marksAt};
 ghost use Rattle.house.specs.Layout.{Room, Copied, headAt, startsWith, curvesLead, endsWith, layoutOf};
 ghost use Rattle.house.specs.Held.{firstsOf, curvesOf, fileAt, paramsAt};
-ghost use Rattle.house.specs.Slices.{over};
+ghost use Rattle.float.specs.Slices.{written};
 
 // How many marks and curves a file has; or that the bytes are no file.
 pub enum Layout {
@@ -117,7 +117,7 @@ pub fn find_layout(b: &[u8]) -> Layout
 // The bodies of k records of kind 3 from `at` on, into the first places.
 fn copy_curves(b: &[u8], at: usize, k: usize, firsts: &mut [u32], curves: &mut [u64])
     requires { ⌜ (at + curveBytes * k ≤ length (now b)) × ((k ≤ length (now firsts)) × (curveNumbers * k ≤ length (now curves))) ⌝ }
-    ensures { λ _. ⌜ (now (firsts .exit) ≡ over (firstsOf k (drop at (now (b .entry)))) (now (firsts .entry))) × (now (curves .exit) ≡ over (curvesOf k (drop at (now (b .entry)))) (now (curves .entry))) ⌝ }
+    ensures { λ _. ⌜ (now (firsts .exit) ≡ written (firstsOf k (drop at (now (b .entry)))) (now (firsts .entry))) × (now (curves .exit) ≡ written (curvesOf k (drop at (now (b .entry)))) (now (curves .entry))) ⌝ }
 {
     let mut i = 0;
     while i < k {

@@ -14,7 +14,7 @@ ghost use Rattle.house.specs.Limits.{lengthField, kindField, firstField,
 ghost use Rattle.house.specs.Bytes.{le, les, allFit};
 ghost use Rattle.house.specs.File.{rec, flat, curveRecords, bytesOf, fewer};
 ghost use Rattle.house.specs.Layout.{Room};
-ghost use Rattle.house.specs.Slices.{over};
+ghost use Rattle.float.specs.Slices.{written};
 ghost use Rattle.house.specs.Writer.{fileFor};
 
 // Whether the first k first marks fit their field.
@@ -102,7 +102,7 @@ pub fn put_file(
 )
     requires { ⌜ length (now marks) % markNumbers ≡ 0 ⌝ }
     requires { ⌜ Room (length (now marks) / markNumbers) k (now out) (now marks) (now firsts) (now curves) (now params) ⌝ }
-    ensures { λ _. ⌜ now (out .exit) ≡ over (bytesOf (fileFor tolerance (now (marks .entry)) k (now (firsts .entry)) (now (curves .entry)) (now (params .entry)))) (now (out .entry)) ⌝ }
+    ensures { λ _. ⌜ now (out .exit) ≡ written (bytesOf (fileFor tolerance (now (marks .entry)) k (now (firsts .entry)) (now (curves .entry)) (now (params .entry)))) (now (out .entry)) ⌝ }
 {
     put_marks(out, tolerance, marks);
     if k == 0 {

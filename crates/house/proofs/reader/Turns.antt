@@ -9,7 +9,7 @@ use lib.ListN.{length, take, drop, set, length-append, length-drop, drop-of-leng
 use lib.Seq.{drop-drop, take-at, drop-at, take-all}
 use Rattle.house.specs.Bytes.{num, words}
 use Rattle.house.specs.Held.{firstsOf, curvesOf}
-use Rattle.house.specs.Slices.{over}
+use Rattle.float.specs.Slices.{written}
 use Rattle.house.specs.Layout.{headAt, curvesLead}
 use Rattle.house.proofs.Rows.{length-words}
 use Rattle.house.proofs.Records.{head-drop}
@@ -59,7 +59,7 @@ firsts-turn b at l i h =
 
 -- the front as it is, and eight more numbers
 curves-turn : (b : List ℕ) (at : ℕ) (l m : List ℕ) (i : ℕ) → m ≡ curvesOf i (drop at b) ++ drop (8 * i) l
-    → take (8 * i) m ++ over (words 8 (drop (at + 72 * i + 6 + 2) b)) (drop (8 * i) m) ≡ curvesOf (i + 1) (drop at b) ++ drop (8 * (i + 1)) l
+    → take (8 * i) m ++ written (words 8 (drop (at + 72 * i + 6 + 2) b)) (drop (8 * i) m) ≡ curvesOf (i + 1) (drop at b) ++ drop (8 * (i + 1)) l
 curves-turn b at l m i e =
     let p : at + (72 * i + 8) ≡ at + 72 * i + 6 + 2 = omega arith in
     let q : 8 * i + 8 ≡ 8 * (i + 1) = omega arith in
@@ -70,13 +70,13 @@ curves-turn b at l m i e =
 
 -- the same where the part was lent: all from 8 * i on
 pub curves-put : (b : List ℕ) (at : ℕ) (l m last : List ℕ) (i : ℕ) → m ≡ curvesOf i (drop at b) ++ drop (8 * i) l → 8 * i ≤ length m
-    → last ≡ over (words 8 (drop (at + 72 * i + 6 + 2) b)) (take (length m - 8 * i) (drop (8 * i) m))
+    → last ≡ written (words 8 (drop (at + 72 * i + 6 + 2) b)) (take (length m - 8 * i) (drop (8 * i) m))
     → take (8 * i) m ++ (last ++ drop (length m - 8 * i) (drop (8 * i) m)) ≡ curvesOf (i + 1) (drop at b) ++ drop (8 * (i + 1)) l
 curves-put b at l m last i e h s =
     let g : length (drop (8 * i) m) ≤ length m - 8 * i = simp length-drop (omega arith) in
     let t : take (length m - 8 * i) (drop (8 * i) m) ≡ drop (8 * i) m = take-all (length m - 8 * i) (drop (8 * i) m) g in
     let d : drop (length m - 8 * i) (drop (8 * i) m) ≡ [] = drop-of-length-le (drop (8 * i) m) {i = length m - 8 * i} g in
-    let s′ : last ≡ over (words 8 (drop (at + 72 * i + 6 + 2) b)) (drop (8 * i) m) = s ∙ rw t in
+    let s′ : last ≡ written (words 8 (drop (at + 72 * i + 6 + 2) b)) (drop (8 * i) m) = s ∙ rw t in
     rw (d, append-nil, s′) (curves-turn b at l m i e)
 
 -- what holds after i turns

@@ -7,7 +7,7 @@ use lib.ListN.{length, take, length-append}
 use lib.Seq.{length-take-le, sets, sets-eq}
 use Rattle.house.specs.Bytes.{le, les}
 use Rattle.house.specs.File.{File, rec, flat, curveRecords, bytesOf, paramsFor}
-use Rattle.house.specs.Slices.{over}
+use Rattle.float.specs.Slices.{written}
 use Rattle.house.specs.Writer.{fileFor}
 use Rattle.house.specs.Layout.{Room}
 use Rattle.house.proofs.Numbers.{length-le}
@@ -27,8 +27,8 @@ sized-for t M k P C Q even s = record {
   params = length-take-le (paramsFor (length M / 2) k) Q (s .params);
 }
 
-over-sets : (xs O : List ℕ) → length xs ≤ length O → sets O 0 xs ≡ over xs O
-over-sets xs O h = let z : 0 + length xs ≡ length xs = omega arith in rw (sets-eq xs O 0 (omega arith), z)
+written-sets : (xs O : List ℕ) → length xs ≤ length O → sets O 0 xs ≡ written xs O
+written-sets xs O h = let z : 0 + length xs ≡ length xs = omega arith in rw (sets-eq xs O 0 (omega arith), z)
 
 module _ {M : List ℕ} {k : ℕ} {P C Q O : List ℕ} (t : ℕ) (even : length M % 2 ≡ 0) (r : Room (length M / 2) k O M P C Q) where
   abbrev n : ℕ
@@ -44,12 +44,12 @@ module _ {M : List ℕ} {k : ℕ} {P C Q O : List ℕ} (t : ℕ) (even : length 
   whole = omega (arith, length-bytes (sized-for t M k P C Q even (record { firsts = r .firsts; curves = r .curves; params = r .params })), r .bytes)
 
   -- kinds 1 and 2 alone
-  pub put-plain : k ≡ 0 → sets O 0 start ≡ over (bytesOf F) O
+  pub put-plain : k ≡ 0 → sets O 0 start ≡ written (bytesOf F) O
   unfolding fileFor flat
   put-plain e =
       let none : length (take k P) ≡ 0 = length-take-le k P (r .firsts) ∙ e in
       let z : bytesOf F ≡ start = bytes-are F ∙ rw (rest-none (take k P) (take (8 * k) C) (take (paramsFor n k) Q) none) in
-      rw (← z) (over-sets (bytesOf F) O whole)
+      rw (← z) (written-sets (bytesOf F) O whole)
 
   -- all four kinds, one behind the other
   module _ (some : 0 < k) where
@@ -72,7 +72,7 @@ module _ {M : List ℕ} {k : ℕ} {P C Q O : List ℕ} (t : ℕ) (even : length 
         let e = rest-some (take k P) (take (8 * k) C) (take n Q) (rw length-firsts some) in
         bytes-are F ∙ rw (p, e) (simp (append-assoc, append-nil, length-params))
 
-    pub put-whole : sets (sets (sets (sets O 0 start) (20 + 16 * n) curves) (20 + 16 * n + 72 * k) head) (20 + 16 * n + 72 * k + 6) (les (take n Q)) ≡ over (bytesOf F) O
+    pub put-whole : sets (sets (sets (sets O 0 start) (20 + 16 * n) curves) (20 + 16 * n + 72 * k) head) (20 + 16 * n + 72 * k + 6) (les (take n Q)) ≡ written (bytesOf F) O
     unfolding flat
     put-whole =
         let a : length start ≡ 20 + 16 * n = simp (length-append, length-le, length-les) (omega (arith, even)) in
@@ -85,4 +85,4 @@ module _ {M : List ℕ} {k : ℕ} {P C Q O : List ℕ} (t : ℕ) (even : length 
         let s1 = sets-append start curves O 0 in
         let s2 = sets-append (start ++ curves) head O 0 in
         let s3 = sets-append ((start ++ curves) ++ head) (les (take n Q)) O 0 in
-        sym (rw (p3, s2, p2, s1, p1) at s3) ∙ rw (← whole-is) (over-sets (bytesOf F) O whole)
+        sym (rw (p3, s2, p2, s1, p1) at s3) ∙ rw (← whole-is) (written-sets (bytesOf F) O whole)

@@ -8,8 +8,9 @@ use lib.ListN.{length, take}
 use Rattle.float.specs.Answer.{ok, refused}
 use Rattle.house.specs.Bytes.{allFit}
 use Rattle.house.specs.File.{File, bytesOf, fewer}
-use Rattle.house.specs.Slices.{room, over}
-use Rattle.house.specs.Writer.{fileFor, checked, Written, written, writeOf}
+use Rattle.float.specs.Slices.{written}
+use Rattle.house.specs.Slices.{room}
+use Rattle.house.specs.Writer.{fileFor, checked, Writing, writing, writeOf}
 use Rattle.house.specs.Layout.{sizeFor}
 use Rattle.house.proofs.Numbers.{split}
 use Rattle.house.proofs.Whole.{length-bytes}
@@ -34,7 +35,7 @@ module _ (w : Call) where
   abbrev file : File
   file = fileFor (w .tolerance) (w .marks) (w .count) (w .firsts) (w .curves) (w .params)
 
-  abbrev answers : Written
+  abbrev answers : Writing
   answers = writeOf (w .tolerance) (w .marks) (w .count) (w .firsts) (w .curves) (w .params) (w .out)
 
   abbrev roomed : Bool
@@ -43,17 +44,17 @@ module _ (w : Call) where
   abbrev holdable : Bool
   holdable = fewer (w .count) marked && allFit 2 (take (w .count) (w .firsts))
 
-  pub write-odd : (length (w .marks) % 2 ≡ 0 → ⊥) → written (refused 3) (w .out) ≡ answers
+  pub write-odd : (length (w .marks) % 2 ≡ 0 → ⊥) → writing (refused 3) (w .out) ≡ answers
   unfolding writeOf checked
   write-odd h = rw (ne-eqb (length (w .marks) % 2) 0 h)
 
   module _ (even : length (w .marks) % 2 ≡ 0) where
-    pub write-many : 4096 < marked → written (refused 2) (w .out) ≡ answers
+    pub write-many : 4096 < marked → writing (refused 2) (w .out) ≡ answers
     unfolding writeOf checked
     write-many h = rw (eq-eqb (length (w .marks) % 2) 0 even, lt-leb marked 4096 h)
 
     module _ (few : marked ≤ 4096) where
-      pub write-short : roomed ≡ false → written (refused 4) (w .out) ≡ answers
+      pub write-short : roomed ≡ false → writing (refused 4) (w .out) ≡ answers
       unfolding writeOf checked
       write-short h = rw (eq-eqb (length (w .marks) % 2) 0 even, le-leb marked 4096 few, h)
 
@@ -61,18 +62,18 @@ module _ (w : Call) where
         size-is : length (bytesOf file) ≡ sizeFor marked (w .count)
         size-is = length-bytes (sized-for (w .tolerance) (w .marks) (w .count) (w .firsts) (w .curves) (w .params) even (places marked (w .count) _ _ _ roomy))
 
-        pub write-small : length (w .out) < sizeFor marked (w .count) → written (refused 4) (w .out) ≡ answers
+        pub write-small : length (w .out) < sizeFor marked (w .count) → writing (refused 4) (w .out) ≡ answers
         unfolding writeOf checked
         write-small h = rw (eq-eqb (length (w .marks) % 2) 0 even, le-leb marked 4096 few, roomy, size-is, lt-leb (sizeFor marked (w .count)) (length (w .out)) h)
 
         module _ (whole : sizeFor marked (w .count) ≤ length (w .out)) where
-          pub write-unfit : holdable ≡ false → written (refused 9) (w .out) ≡ answers
+          pub write-unfit : holdable ≡ false → writing (refused 9) (w .out) ≡ answers
           unfolding writeOf checked
           write-unfit h = rw (eq-eqb (length (w .marks) % 2) 0 even, le-leb marked 4096 few, roomy, size-is, le-leb (sizeFor marked (w .count)) (length (w .out)) whole, h)
 
-          pub write-done : holdable ≡ true → {s : ℕ} {O′ : List ℕ} → s ≡ sizeFor marked (w .count) → O′ ≡ over (bytesOf file) (w .out) → written (ok s) O′ ≡ answers
+          pub write-done : holdable ≡ true → {s : ℕ} {O′ : List ℕ} → s ≡ sizeFor marked (w .count) → O′ ≡ written (bytesOf file) (w .out) → writing (ok s) O′ ≡ answers
           write-done fit es eo =
               let f = split _ _ fit in
               let sound : Sound (w .marks) (w .count) (w .firsts) (w .curves) (w .params) =
               record { even = even; few = few; places = places marked (w .count) _ _ _ roomy; fewer = f .0; firsts = f .1 } in
-              ap₂ written (ap ok (es ∙ sym size-is)) eo ∙ sym (write-accepts (w .tolerance) (w .out) sound (rw size-is whole))
+              ap₂ writing (ap ok (es ∙ sym size-is)) eo ∙ sym (write-accepts (w .tolerance) (w .out) sound (rw size-is whole))
