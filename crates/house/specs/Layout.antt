@@ -5,12 +5,10 @@ use mathlib.Core.Bool.{Bool, true, _&&_, cond}
 use mathlib.Core.List.{List}
 use lib.Dec.{eqb, ltb}
 use lib.ListN.{length, drop}
-use Rattle.house.specs.declared.reader.Layout.{Layout}
-use Rattle.house.specs.declared.reader.Layout.the-variants as layout
 use Rattle.house.specs.Limits.{lengthField, kindField, numberField, markNumbers, curveNumbers, markBytes, curveBytes, marksHead, toleranceKind, marksKind, curveKind, paramsKind}
 use Rattle.house.specs.Bytes.{num}
 use Rattle.house.specs.File.{File, paramsFor}
-use Rattle.house.specs.Held.{isFile, marksEnd, paramsAt, marksHeld, curvesHeld}
+use Rattle.house.specs.Held.{marksEnd, paramsAt}
 use Rattle.float.specs.Slices.{written}
 
 -- the length and the kind of the record at p
@@ -34,9 +32,6 @@ endsWith b n k =
     && (ltb k n
     && (curvesLead k (drop (marksEnd n) b)
     && headAt b (marksEnd n + curveBytes * k) (kindField + numberField * n) paramsKind)))
-
-unfoldable pub layoutOf : List ℕ → Layout
-layoutOf b = cond (isFile b) (layout.Counts (marksHeld b) (curvesHeld b (marksHeld b))) layout.Broken
 
 -- how many bytes a file of n marks and k curves has
 abbrev pub sizeFor : ℕ → ℕ → ℕ

@@ -1,12 +1,13 @@
 -- Laws of stores one behind the other. Assumes nothing.
 use mathlib.Core.Path.{_≡_, refl, sym, ap, _∙_}
 use mathlib.Core.List.{List, [], _∷_, _++_}
-use Prim.Native.Nat.{ℕ, suc, _+_, _<_}
+use Prim.Native.Nat.{ℕ, suc, _+_, _<_, _≤_}
 use native.Mathlib.Nat.{add-zero}
 use native.Mathlib.Numerals.{add-one}
 use native.Mathlib.Omega.{arith}
 use lib.ListN.{length, take, set, getD}
-use lib.Seq.{set-comm, take-suc, length-take-le, sets}
+use lib.Seq.{set-comm, take-suc, length-take-le, sets, sets-eq}
+use Rattle.float.specs.Slices.{written}
 
 -- two runs of stores, the second behind the first, are one
 pub sets-append : (xs ys l : List ℕ) (i : ℕ) → sets l i (xs ++ ys) ≡ sets (sets l i xs) (i + length xs) ys
@@ -27,3 +28,7 @@ sets-suc l xs at i h =
     let t : take (i + 1) xs ≡ take i xs ++ (getD xs i 0 ∷ []) = rw (add-one i, take-suc xs i 0) in
     let e = sets-append (take i xs) (getD xs i 0 ∷ []) l at in
     rw t (sym (rw z at e))
+
+-- a run of stores from the front on
+pub written-sets : (xs l : List ℕ) → length xs ≤ length l → sets l 0 xs ≡ written xs l
+written-sets xs l h = let z : 0 + length xs ≡ length xs = omega arith in rw (sets-eq xs l 0 (omega arith), z)
