@@ -5,13 +5,11 @@ use mathlib.Core.Bool.{Bool, true, _&&_, cond}
 use mathlib.Core.List.{List}
 use lib.Dec.{eqb, ltb}
 use lib.ListN.{length, drop}
-use Rattle.house.specs.declared.reader.Layout.{Layout}
-use Rattle.house.specs.declared.reader.Layout.the-variants as layout
 use Rattle.house.specs.Limits.{lengthField, kindField, numberField, markNumbers, curveNumbers, markBytes, curveBytes, marksHead, toleranceKind, marksKind, curveKind, paramsKind}
 use Rattle.house.specs.Bytes.{num}
 use Rattle.house.specs.File.{File, paramsFor}
-use Rattle.house.specs.Held.{isFile, marksEnd, paramsAt, marksHeld, curvesHeld}
-use Rattle.house.specs.Slices.{over}
+use Rattle.house.specs.Held.{marksEnd, paramsAt}
+use Rattle.float.specs.Slices.{written}
 
 -- the length and the kind of the record at p
 unfoldable pub headAt : List ℕ → ℕ → ℕ → ℕ → Bool
@@ -35,9 +33,6 @@ endsWith b n k =
     && (curvesLead k (drop (marksEnd n) b)
     && headAt b (marksEnd n + curveBytes * k) (kindField + numberField * n) paramsKind)))
 
-unfoldable pub layoutOf : List ℕ → Layout
-layoutOf b = cond (isFile b) (layout.Counts (marksHeld b) (curvesHeld b (marksHeld b))) layout.Broken
-
 -- how many bytes a file of n marks and k curves has
 abbrev pub sizeFor : ℕ → ℕ → ℕ
 sizeFor n k = cond (eqb k 0) (marksEnd n) (paramsAt n k + numberField * n)
@@ -52,7 +47,7 @@ pub record Room (n k : ℕ) (b M P C Q : List ℕ) : Type 0 where
 
 -- a file stands at the front of the slices
 pub record Copied (F : File) (M P C Q M′ P′ C′ Q′ : List ℕ) : Type 0 where
-  pub marks : M′ ≡ over (F .marks) M
-  pub firsts : P′ ≡ over (F .firsts) P
-  pub curves : C′ ≡ over (F .curves) C
-  pub params : Q′ ≡ over (F .params) Q
+  pub marks : M′ ≡ written (F .marks) M
+  pub firsts : P′ ≡ written (F .firsts) P
+  pub curves : C′ ≡ written (F .curves) C
+  pub params : Q′ ≡ written (F .params) Q

@@ -3,6 +3,4 @@ pub mod Bytes
 pub mod File
 pub mod Held
 pub mod Slices
-pub mod Reader
-pub mod Writer
 pub mod Layout

@@ -6,7 +6,7 @@ ghost use lib.ListN.{length, take, drop};
 ghost use lib.Seq.{sets};
 ghost use Rattle.house.specs.Limits.{numberField};
 ghost use Rattle.house.specs.Bytes.{num, words, le, les};
-ghost use Rattle.house.specs.Slices.{over};
+ghost use Rattle.float.specs.Slices.{written};
 
 // A byte as a number.
 fn wide(x: u8) -> u64
@@ -48,7 +48,7 @@ pub fn eight(b: &[u8], at: usize) -> u64
 // The row of n numbers at `at`, into the first n places.
 pub fn copy_words(b: &[u8], at: usize, n: usize, out: &mut [u64])
     requires { ⌜ (at + numberField * n ≤ length (now b)) × (n ≤ length (now out)) ⌝ }
-    ensures { λ _. ⌜ now (out .exit) ≡ over (words n (drop at (now (b .entry)))) (now (out .entry)) ⌝ }
+    ensures { λ _. ⌜ now (out .exit) ≡ written (words n (drop at (now (b .entry)))) (now (out .entry)) ⌝ }
 {
     let mut i = 0;
     while i < n {

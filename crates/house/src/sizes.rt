@@ -6,6 +6,9 @@ ghost use Rattle.house.specs.Layout.{sizeFor};
 ghost use Rattle.house.specs.Held.{paramsAt};
 ghost use Rattle.house.specs.Slices.{room};
 
+// The most marks that a file may hold.
+pub const MOST_MARKS: usize = 4096;
+
 // The bytes of a record's length.
 pub const LENGTH_FIELD: usize = 4;
 
@@ -17,9 +20,6 @@ pub const FIRST_FIELD: usize = 2;
 
 // The bytes of any other number.
 pub const NUMBER_FIELD: usize = 8;
-
-// The first number that a first mark's field does not hold.
-pub const FIRST_TOP: u32 = 65536;
 
 // A mark's numbers: x and y.
 pub const MARK_NUMBERS: usize = 2;

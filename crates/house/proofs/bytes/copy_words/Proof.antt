@@ -6,7 +6,7 @@ use native.Mathlib.Omega.{arith}
 use lib.ListN.{length, drop, length-set}
 use Rattle.house.specs.Bytes.{words}
 use Rattle.house.proofs.Rows.{length-words}
-use Rattle.house.proofs.bytes.Turns.{words-turn}
+use Rattle.house.proofs.Turns.{words-turn}
 use Rattle.house.proofs.bytes.copy_words.Statement.{statement}
 use Rattle.house.proofs.bytes.copy_words.Tie as tie
 

@@ -2,7 +2,7 @@
 use mathlib.Core.Path.{_∙_}
 use Prim.Native.Nat.{_/_}
 use borrow.Author.Needs.{needs}
-use Rattle.house.proofs.bytes.Turns.{le-eight, put-both}
+use Rattle.house.proofs.Turns.{le-eight, put-both}
 use Rattle.house.proofs.bytes.put_eight.Statement.{statement}
 use Rattle.house.proofs.bytes.put_eight.Tie as tie
 

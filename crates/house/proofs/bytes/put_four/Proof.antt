@@ -2,7 +2,7 @@
 use mathlib.Core.Path.{_∙_}
 use Prim.Native.Nat.{_/_}
 use borrow.Author.Needs.{needs}
-use Rattle.house.proofs.bytes.Turns.{le-four, put-both}
+use Rattle.house.proofs.Turns.{le-four, put-both}
 use Rattle.house.proofs.bytes.put_four.Statement.{statement}
 use Rattle.house.proofs.bytes.put_four.Tie as tie
 

@@ -2,7 +2,7 @@
 use borrow.Author.Needs.{needs}
 use native.Mathlib.Omega.{arith}
 use lib.ListN.{length-set}
-use Rattle.house.proofs.bytes.Turns.{le-two}
+use Rattle.house.proofs.Turns.{le-two}
 use Rattle.house.proofs.bytes.put_two.Statement.{statement}
 use Rattle.house.proofs.bytes.put_two.Tie as tie
 

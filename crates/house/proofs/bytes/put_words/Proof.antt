@@ -5,7 +5,7 @@ use native.Mathlib.Omega.{arith}
 use lib.ListN.{length, take}
 use lib.Seq.{sets, length-sets}
 use Rattle.house.specs.Bytes.{les}
-use Rattle.house.proofs.bytes.Turns.{words-put}
+use Rattle.house.proofs.Turns.{words-put}
 use Rattle.house.proofs.bytes.put_words.Statement.{statement}
 use Rattle.house.proofs.bytes.put_words.Tie as tie
 

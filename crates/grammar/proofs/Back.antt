@@ -1,0 +1,131 @@
+-- The bytes of a well formed file are laid out as one, and what they hold is the file. Assumes nothing.
+use mathlib.Core.Path.{_≡_, refl, sym, ap, _∙_}
+use mathlib.Core.Bool.{true}
+use mathlib.Core.List.{List, [], _∷_, _++_, append-nil}
+use Prim.Native.Nat.{ℕ, zero, suc, _+_, _*_, _<_, _^_}
+use native.Mathlib.Omega.{arith}
+use lib.ListN.{length, drop, length-append}
+use lib.Seq.{drop-drop, drop-at}
+use Rattle.house.specs.Bytes.{le, num, words, les, allFit}
+use Rattle.house.specs.File.{File, rec, framed, flat, curveRecords, fitRecords, bytesOf, paramsFor}
+use Rattle.house.specs.Held.{firstsOf, curvesOf, fileAt}
+use Rattle.house.proofs.Numbers.{length-le, val-front, drop-front}
+use Rattle.house.proofs.Rows.{length-les, words-les}
+use Rattle.grammar.proofs.Records.{Head, length-framed, framed-head, framed-body}
+use Rattle.grammar.proofs.Curves.{Opened, opened, length-flat}
+use Rattle.grammar.proofs.Formed.{Turn, Sized, Fit, Formed, params-some}
+use Rattle.grammar.proofs.Laid.{Started, Laid, plain, full}
+use Rattle.grammar.proofs.Whole.{bytes-are, rest-none, rest-some}
+
+-- kinds 1 and 2, read off
+record Fronted (b : List ℕ) (n t : ℕ) (M r : List ℕ) : Type 0 where
+  starts : Started b n
+  tolerance : num 8 b 6 ≡ t
+  marks : words (2 * n) (drop 20 b) ≡ M
+  behind : drop (20 + 16 * n) b ≡ r
+  size : length b ≡ 20 + 16 * n + length r
+
+fronted : (n t : ℕ) (M r : List ℕ) → 2 + 16 * n < 256 ^ 4 → t < 256 ^ 8 → allFit 8 M ≡ true → length M ≡ 2 * n
+    → Fronted (framed (rec 1 (le 8 t)) ++ (framed (rec 2 (les M)) ++ r)) n t M r
+fronted n t M r hn ht g l =
+    let A : List ℕ = framed (rec 2 (les M)) ++ r in
+    let b : List ℕ = framed (rec 1 (le 8 t)) ++ A in
+    let z1 : 2 + length (le 8 t) ≡ 10 = simp length-le in
+    let h1 : 10 < 256 ^ 4 = omega arith in
+    let z2 : length (les M) ≡ 16 * n = length-les M ∙ rw l (omega arith) in
+    let s2 : 2 + length (les M) ≡ 2 + 16 * n = ap (λ (x : ℕ). 2 + x) z2 in
+    let k1 : 1 < 256 ^ 2 = omega arith in
+    let k2 : 2 < 256 ^ 2 = omega arith in
+    let d6 : drop 6 b ≡ le 8 t ++ A = framed-body 1 10 (le 8 t) A z1 h1 k1 in
+    let j14 : drop 8 (drop 6 b) ≡ drop 14 b = drop-drop 8 6 b in
+    let d14 : drop 14 b ≡ A = sym j14 ∙ rw d6 (drop-front 8 t A) in
+    let j18 : drop 4 (drop 14 b) ≡ drop 18 b = drop-drop 4 14 b in
+    let d18 : drop 18 b ≡ drop 4 A = sym j18 ∙ rw d14 in
+    let j20 : drop 6 (drop 14 b) ≡ drop 20 b = drop-drop 6 14 b in
+    let d20 : drop 20 b ≡ les M ++ r = sym j20 ∙ rw d14 (framed-body 2 (2 + 16 * n) (les M) r s2 hn k2) in
+    let f2 = framed-head 2 (2 + 16 * n) (les M) r s2 hn k2 in
+    let w : words (2 * n) (les M ++ r) ≡ M = rw l at (words-les M r g) in
+    let je : drop (16 * n) (drop 20 b) ≡ drop (20 + 16 * n) b = drop-drop (16 * n) 20 b in
+    let de : drop (20 + 16 * n) b ≡ r = sym je ∙ rw d20 (drop-at (les M) r (16 * n) z2) in
+    let sz : length b ≡ 20 + 16 * n + length r = simp (length-append, length-le, z2) (omega arith) in
+    record {
+      starts = record { long = omega arith; head1 = framed-head 1 10 (le 8 t) A z1 h1 k1; head2 = record { size-is = rw d14 (f2 .size-is); kind-is = rw d18 (f2 .kind-is) } };
+      tolerance = rw d6 (val-front 8 t A ht);
+      marks = rw d20 w;
+      behind = de;
+      size = sz;
+    }
+
+-- where bytes are laid out for n marks and k curves, and hold the file there
+pub record Read-back (b : List ℕ) (F : File) (n k : ℕ) : Type 0 where
+  pub laid : Laid b n k
+  pub file : fileAt b n k ≡ F
+
+same-file : (b : List ℕ) (n k : ℕ) (F : File) → num 8 b 6 ≡ F .tolerance → words (2 * n) (drop 20 b) ≡ F .marks → firstsOf k (drop (20 + 16 * n) b) ≡ F .firsts
+    → curvesOf k (drop (20 + 16 * n) b) ≡ F .curves → words (paramsFor n k) (drop (20 + 16 * n + 72 * k + 6) b) ≡ F .params → fileAt b n k ≡ F
+same-file b n k F e1 e2 e3 e4 e5 = simp (e1, e2, e3, e4, e5)
+
+empty : (xs : List ℕ) → length xs ≡ 0 → xs ≡ []
+empty [] h = refl
+empty (x ∷ xs) h = absurd (omega arith)
+
+module _ (F : File) (b : List ℕ) (n : ℕ) (f : Fronted b n (F .tolerance) (F .marks) (flat (fitRecords (F .firsts) (F .curves) (F .params)))) where
+  back-plain : Sized F n 0 → Read-back b F n 0
+  unfolding firstsOf curvesOf words
+  back-plain s =
+      let xp : F .params ≡ [] = empty (F .params) (s .params) in
+      let r : length (flat (fitRecords (F .firsts) (F .curves) (F .params))) ≡ 0 = ap length (rest-none (F .firsts) (F .curves) (F .params) (s .firsts)) in
+      record {
+        laid = plain (f .starts) (omega (arith, f .size)) refl;
+        file = same-file b n 0 F (f .tolerance) (f .marks) (sym (empty (F .firsts) (s .firsts))) (sym (empty (F .curves) (s .curves))) (sym (empty (F .params) (s .params)));
+      }
+
+  back-full : (k : ℕ) → 0 < k → k < n → 2 + 16 * n < 256 ^ 4 → Fit F → Sized F n k → Read-back b F n k
+  back-full k some few hn g s =
+      let last : List ℕ = framed (rec 4 (les (F .params))) in
+      let d : List ℕ = flat (curveRecords (F .firsts) (F .curves)) in
+      let h8 : length (F .curves) ≡ 8 * length (F .firsts) = rw (s .firsts) (s .curves) in
+      let eq : paramsFor n k ≡ n = params-some n some in
+      let ep : length (F .params) ≡ n = s .params ∙ eq in
+      let er : flat (fitRecords (F .firsts) (F .curves) (F .params)) ≡ d ++ last = rest-some (F .firsts) (F .curves) (F .params) (rw (s .firsts) some) in
+      let et : drop (20 + 16 * n) b ≡ d ++ last = f .behind ∙ er in
+      let o : Opened k (d ++ last) (F .firsts) (F .curves) = rw (s .firsts) at (opened (F .firsts) (F .curves) last (g .firsts) (g .curves) h8) in
+      let ld : length d ≡ 72 * k = length-flat (F .firsts) (F .curves) h8 ∙ rw (s .firsts) in
+      let zp : length (les (F .params)) ≡ 8 * n = length-les (F .params) ∙ rw ep in
+      let z4 : 2 + length (les (F .params)) ≡ 2 + 8 * n = ap (λ (x : ℕ). 2 + x) zp in
+      let ll : length last ≡ 6 + 8 * n = length-framed 4 (les (F .params)) ∙ rw zp in
+      let lr : length (flat (fitRecords (F .firsts) (F .curves) (F .params))) ≡ 72 * k + (6 + 8 * n) = rw (er, length-append, ld, ll) in
+      let sz : length b ≡ 20 + 16 * n + 72 * k + 6 + 8 * n = omega (arith, f .size) in
+      let j : drop (72 * k) (drop (20 + 16 * n) b) ≡ drop (20 + 16 * n + 72 * k) b = drop-drop (72 * k) (20 + 16 * n) b in
+      let dl : drop (20 + 16 * n + 72 * k) b ≡ last = sym j ∙ rw et (drop-at d last (72 * k) ld) in
+      let en : last ++ [] ≡ last = append-nil last in
+      let h4 : 2 + 8 * n < 256 ^ 4 = omega arith in
+      let k4 : 4 < 256 ^ 2 = omega arith in
+      let f4 : Head last 0 (2 + 8 * n) 4 = rw en at (framed-head 4 (2 + 8 * n) (les (F .params)) [] z4 h4 k4) in
+      let b4 : drop 6 last ≡ les (F .params) ++ [] = rw en at (framed-body 4 (2 + 8 * n) (les (F .params)) [] z4 h4 k4) in
+      let j4 : drop 4 (drop (20 + 16 * n + 72 * k) b) ≡ drop (20 + 16 * n + 72 * k + 4) b = drop-drop 4 (20 + 16 * n + 72 * k) b in
+      let j6 : drop 6 (drop (20 + 16 * n + 72 * k) b) ≡ drop (20 + 16 * n + 72 * k + 6) b = drop-drop 6 (20 + 16 * n + 72 * k) b in
+      let dp : drop (20 + 16 * n + 72 * k + 6) b ≡ les (F .params) ++ [] = sym j6 ∙ rw dl b4 in
+      let w : words n (les (F .params) ++ []) ≡ F .params = rw ep at (words-les (F .params) [] (g .params)) in
+      record {
+        laid = full (f .starts) (record { size = sz; some = some; few = few; heads = rw et (o .heads); head4 = record { size-is = rw dl (f4 .size-is); kind-is = rw (← j4, dl) (f4 .kind-is) } });
+        file = same-file b n k F (f .tolerance) (f .marks) (rw et (o .firsts)) (rw et (o .curves)) (rw (eq, dp) w);
+      }
+
+-- the law
+pub back : {F : File} {n k : ℕ} → Formed F n k → Read-back (bytesOf F) F n k
+back {F} {n} {k} G = rw (bytes-are F) (go k (G .way) (G .sized))
+  where
+    R : List ℕ
+    R = flat (fitRecords (F .firsts) (F .curves) (F .params))
+
+    b : List ℕ
+    b = framed (rec 1 (le 8 (F .tolerance))) ++ (framed (rec 2 (les (F .marks))) ++ R)
+
+    f : Fronted b n (F .tolerance) (F .marks) R
+    f = fronted n (F .tolerance) (F .marks) R (G .few) (G .fit .tolerance) (G .fit .marks) (G .sized .marks)
+
+    go : (k : ℕ) → Turn n k → Sized F n k → Read-back b F n k
+    go zero w s = back-plain F b n f s
+    go (suc k) (Turn.plain e) s = absurd (omega arith)
+    go (suc k) (Turn.full some few) s = back-full F b n f (suc k) some few (G .few) (G .fit) s

@@ -1,0 +1,97 @@
+-- What makes a file well formed, as facts: the tests of `wellFormed`, to and fro. Assumes nothing.
+use mathlib.Core.Path.{_≡_, refl}
+use mathlib.Core.Bool.{true}
+use mathlib.Core.List.{List}
+use Prim.Native.Nat.{ℕ, zero, suc, _+_, _*_, _<_, _^_}
+use native.Mathlib.Omega.{arith}
+use borrow.Author.Tests.{eqb-true, eq-eqb, ne-eqb, ltb-true, lt-ltb}
+use lib.ListN.{length}
+use Rattle.float.proofs.Truth.{both}
+use Rattle.house.specs.Bytes.{les, allFit}
+use Rattle.house.specs.File.{File, marksIn, curvesIn, fewer, paramsFor, wellFormed}
+use Rattle.house.proofs.Numbers.{split}
+use Rattle.house.proofs.Rows.{length-les}
+
+-- ---- no curves, or fewer than marks
+
+pub data Turn (n k : ℕ) : Type 0 where
+  plain : k ≡ 0 → Turn n k
+  full : 0 < k → k < n → Turn n k
+
+pub turn : (n k : ℕ) → fewer k n ≡ true → Turn n k
+turn n zero h = plain refl
+turn n (suc k) h = full (omega arith) (ltb-true (suc k) n (rw (ne-eqb (suc k) 0 (λ e. omega arith)) at h))
+
+pub turning : {n k : ℕ} → Turn n k → fewer k n ≡ true
+turning {n} {k} (plain e) = rw e
+turning {n} {k} (full some few) = rw (ne-eqb k 0 (λ e. omega arith)) (lt-ltb k n few)
+
+pub params-some : (n : ℕ) {k : ℕ} → 0 < k → paramsFor n k ≡ n
+params-some n {k} h = rw (ne-eqb k 0 (λ e. omega arith))
+
+-- ---- a file of n marks and k curves
+
+-- by the lengths of its lists
+pub record Sized (F : File) (n k : ℕ) : Type 0 where
+  pub marks : length (F .marks) ≡ 2 * n
+  pub firsts : length (F .firsts) ≡ k
+  pub curves : length (F .curves) ≡ 8 * k
+  pub params : length (F .params) ≡ paramsFor n k
+
+-- by its numbers
+pub record Fit (F : File) : Type 0 where
+  pub tolerance : F .tolerance < 256 ^ 8
+  pub marks : allFit 8 (F .marks) ≡ true
+  pub firsts : allFit 2 (F .firsts) ≡ true
+  pub curves : allFit 8 (F .curves) ≡ true
+  pub params : allFit 8 (F .params) ≡ true
+
+pub record Formed (F : File) (n k : ℕ) : Type 0 where
+  pub sized : Sized F n k
+  pub way : Turn n k
+  pub few : 2 + 16 * n < 256 ^ 4
+  pub fit : Fit F
+
+few-marks : (M : List ℕ) (n : ℕ) → length M ≡ 2 * n → 2 + length (les M) < 256 ^ 4 → 2 + 16 * n < 256 ^ 4
+few-marks M n m l = omega (arith, length-les M)
+
+pub formed : (F : File) → wellFormed F ≡ true → Formed F (marksIn F) (curvesIn F)
+unfolding wellFormed
+formed F h =
+    let h0 = split _ _ h in
+    let h1 = split _ _ (h0 .1) in
+    let h2 = split _ _ (h1 .1) in
+    let h3 = split _ _ (h2 .1) in
+    let h4 = split _ _ (h3 .1) in
+    let h5 = split _ _ (h4 .1) in
+    let h6 = split _ _ (h5 .1) in
+    let h7 = split _ _ (h6 .1) in
+    let h8 = split _ _ (h7 .1) in
+    let m : length (F .marks) ≡ 2 * marksIn F = eqb-true _ _ (h0 .0) in
+    let l : 2 + length (les (F .marks)) < 256 ^ 4 = ltb-true _ _ (h4 .0) in
+    record {
+      sized = record { marks = m; firsts = refl; curves = eqb-true _ _ (h1 .0); params = eqb-true _ _ (h2 .0) };
+      way = turn (marksIn F) (curvesIn F) (h3 .0);
+      few = few-marks (F .marks) (marksIn F) m l;
+      fit = record { tolerance = ltb-true _ _ (h5 .0); marks = h6 .0; firsts = h7 .0; curves = h8 .0; params = h8 .1 };
+    }
+
+pub forming : {F : File} {n k : ℕ} → Formed F n k → wellFormed F ≡ true
+unfolding wellFormed
+forming {F} {n} {k} f =
+    let s = f .sized in
+    let en : marksIn F ≡ n = rw (s .marks) (omega arith) in
+    let em : length (F .marks) ≡ 2 * marksIn F = rw en (s .marks) in
+    let ec : length (F .curves) ≡ 8 * curvesIn F = rw (s .firsts) (s .curves) in
+    let ep : length (F .params) ≡ paramsFor (marksIn F) (curvesIn F) = rw (en, s .firsts) (s .params) in
+    let ew : fewer (curvesIn F) (marksIn F) ≡ true = rw (en, s .firsts) (turning (f .way)) in
+    let el : 2 + length (les (F .marks)) < 256 ^ 4 = omega (arith, length-les (F .marks)) in
+    both _ _ (eq-eqb _ _ em)
+    (both _ _ (eq-eqb _ _ ec)
+    (both _ _ (eq-eqb _ _ ep)
+    (both _ _ ew
+    (both _ _ (lt-ltb _ _ el)
+    (both _ _ (lt-ltb _ _ (f .fit .tolerance))
+    (both _ _ (f .fit .marks)
+    (both _ _ (f .fit .firsts)
+    (both _ _ (f .fit .curves) (f .fit .params)))))))))

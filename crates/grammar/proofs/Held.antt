@@ -1,0 +1,94 @@
+-- Bytes that are laid out as a file are that file. Assumes nothing.
+use mathlib.Core.Path.{_≡_, refl, sym, ap, _∙_}
+use mathlib.Core.Bool.{true}
+use mathlib.Core.List.{List, [], _++_, append-nil}
+use Prim.Native.Nat.{ℕ, _+_, _*_, _<_, _≤_, _^_}
+use native.Mathlib.Omega.{arith}
+use lib.ListN.{length, drop, length-drop, drop-of-length-le}
+use lib.Seq.{drop-drop}
+use Rattle.house.specs.Bytes.{le, num, words, les, allFit}
+use Rattle.house.specs.File.{Holds, rec, framed, flat, curveRecords, fitRecords, paramsFor}
+use Rattle.house.specs.Held.{firstsOf, curvesOf, fileAt}
+use Rattle.house.proofs.Numbers.{fit-drop, length-le, le-front}
+use Rattle.house.proofs.Rows.{length-words, length-les, fit-num, fit-words, les-front}
+use Rattle.grammar.proofs.Records.{Head, framed-front}
+use Rattle.grammar.proofs.Curves.{length-firsts, length-curves, fit-firsts, fit-curves, curves-front}
+use Rattle.grammar.proofs.Formed.{Turn, Sized, Fit, forming, params-some}
+use Rattle.grammar.proofs.Laid.{Started, Ended, Laid, plain, full}
+use Rattle.grammar.proofs.Whole.{bytes-are, rest-none, rest-some}
+
+sized-at : (b : List ℕ) (n k : ℕ) → Sized (fileAt b n k) n k
+sized-at b n k = record {
+  marks = length-words (2 * n) (drop 20 b);
+  firsts = length-firsts k (drop (20 + 16 * n) b);
+  curves = length-curves k (drop (20 + 16 * n) b);
+  params = length-words (paramsFor n k) (drop (20 + 16 * n + 72 * k + 6) b);
+}
+
+module _ (b : List ℕ) (g : allFit 1 b ≡ true) where
+  fit-at : (n k : ℕ) → Fit (fileAt b n k)
+  fit-at n k = record {
+    tolerance = fit-num 8 6 b g;
+    marks = fit-words (2 * n) (drop 20 b) (fit-drop 1 20 b g);
+    firsts = fit-firsts k (drop (20 + 16 * n) b) (fit-drop 1 (20 + 16 * n) b g);
+    curves = fit-curves k (drop (20 + 16 * n) b) (fit-drop 1 (20 + 16 * n) b g);
+    params = fit-words (paramsFor n k) (drop (20 + 16 * n + 72 * k + 6) b) (fit-drop 1 (20 + 16 * n + 72 * k + 6) b g);
+  }
+
+  few-at : {n : ℕ} → Started b n → 2 + 16 * n < 256 ^ 4
+  few-at s = omega (arith, s .head2 .size-is, fit-num 4 14 b g)
+
+  -- a head at p is the head of what is left there
+  head-at : (p : ℕ) {size kind : ℕ} → Head b p size kind → Head (drop p b) 0 size kind
+  head-at p h = record { size-is = h .size-is; kind-is = rw (drop-drop 4 p b) (h .kind-is) }
+
+  -- kinds 1 and 2, and what follows
+  start-held : (n : ℕ) (r : List ℕ) → Started b n → 20 + 16 * n ≤ length b → r ≡ drop (20 + 16 * n) b
+      → framed (rec 1 (le 8 (num 8 b 6))) ++ (framed (rec 2 (les (words (2 * n) (drop 20 b)))) ++ r) ≡ b
+  start-held n r s h er =
+      let m : List ℕ = words (2 * n) (drop 20 b) in
+      let p : 8 * (2 * n) ≡ 16 * n = omega arith in
+      let e20 : drop (8 * (2 * n)) (drop 20 b) ≡ drop (20 + 16 * n) b = rw (drop-drop, p) in
+      let b2 : les m ++ r ≡ drop 20 b = rw (er, ← e20) (les-front (2 * n) (drop 20 b) (fit-drop 1 20 b g) (simp length-drop (omega arith))) in
+      let z2 : 2 + length (les m) ≡ 2 + 16 * n = ap (λ (x : ℕ). 2 + x) (length-les m ∙ rw length-words p) in
+      let j20 : drop 6 (drop 14 b) ≡ drop 20 b = drop-drop 6 14 b in
+      let r2 : framed (rec 2 (les m)) ++ r ≡ drop 14 b =
+      framed-front (drop 14 b) 2 (2 + 16 * n) (les m) r (fit-drop 1 14 b g) (simp length-drop (omega arith)) z2 (head-at 14 (s .head2)) (b2 ∙ sym j20) in
+      let j14 : drop 8 (drop 6 b) ≡ drop 14 b = drop-drop 8 6 b in
+      let b1 : le 8 (num 8 b 6) ++ drop 14 b ≡ drop 6 b = rw (← j14) (le-front (drop 6 b) 8 (num 8 b 6) (fit-drop 1 6 b g) (simp length-drop (omega arith)) refl) in
+      let z1 : 2 + length (le 8 (num 8 b 6)) ≡ 10 = simp length-le in
+      rw r2 (framed-front b 1 10 (le 8 (num 8 b 6)) (drop 14 b) g (omega arith) z1 (s .head1) b1)
+
+  -- kind 3 and kind 4
+  end-held : (n k : ℕ) → Ended b n k
+      → flat (fitRecords (firstsOf k (drop (20 + 16 * n) b)) (curvesOf k (drop (20 + 16 * n) b)) (words (paramsFor n k) (drop (20 + 16 * n + 72 * k + 6) b))) ≡ drop (20 + 16 * n) b
+  end-held n k f =
+      let at : ℕ = 20 + 16 * n in
+      let last : ℕ = at + 72 * k in
+      let d : List ℕ = drop at b in
+      let t : List ℕ = drop (last + 6) b in
+      let eq : paramsFor n k ≡ n = params-some n (f .some) in
+      let none : drop (8 * n) t ≡ [] = drop-of-length-le t {i = 8 * n} (simp length-drop (omega (arith, f .size))) in
+      let b4 : les (words n t) ++ [] ≡ t = rw (← none) (les-front n t (fit-drop 1 (last + 6) b g) (simp length-drop (omega (arith, f .size)))) in
+      let j6 : drop 6 (drop last b) ≡ t = drop-drop 6 last b in
+      let z : 2 + length (les (words n t)) ≡ 2 + 8 * n = ap (λ (x : ℕ). 2 + x) (length-les (words n t) ∙ rw length-words) in
+      let r4 : framed (rec 4 (les (words n t))) ++ [] ≡ drop last b =
+      framed-front (drop last b) 4 (2 + 8 * n) (les (words n t)) [] (fit-drop 1 last b g) (simp length-drop (omega (arith, f .size))) z (head-at last (f .head4)) (b4 ∙ sym j6) in
+      let jl : drop (72 * k) d ≡ drop last b = drop-drop (72 * k) at b in
+      let r : framed (rec 4 (les (words n t))) ≡ drop (72 * k) d = sym (append-nil (framed (rec 4 (les (words n t))))) ∙ r4 ∙ sym jl in
+      let i : flat (curveRecords (firstsOf k d) (curvesOf k d)) ++ drop (72 * k) d ≡ d = curves-front k d (fit-drop 1 at b g) (simp length-drop (omega (arith, f .size))) (f .heads) in
+      rw (eq, rest-some (firstsOf k d) (curvesOf k d) (words n t) (rw length-firsts (f .some)), r) i
+
+  -- the law
+  pub held : (n k : ℕ) → Laid b n k → Holds b (fileAt b n k)
+  held n k (plain s z e) =
+      let r : flat (fitRecords (firstsOf k (drop (20 + 16 * n) b)) (curvesOf k (drop (20 + 16 * n) b)) (words (paramsFor n k) (drop (20 + 16 * n + 72 * k + 6) b))) ≡ drop (20 + 16 * n) b =
+      rest-none (firstsOf k (drop (20 + 16 * n) b)) _ _ (length-firsts k (drop (20 + 16 * n) b) ∙ e) ∙ sym (drop-of-length-le b {i = 20 + 16 * n} (omega arith)) in
+      record {
+        formed = forming (record { sized = sized-at b n k; way = Turn.plain e; few = few-at s; fit = fit-at n k });
+        bytes = bytes-are (fileAt b n k) ∙ start-held n _ s (omega arith) r;
+      }
+  held n k (full s f) = record {
+    formed = forming (record { sized = sized-at b n k; way = Turn.full (f .some) (f .few); few = few-at s; fit = fit-at n k });
+    bytes = bytes-are (fileAt b n k) ∙ start-held n _ s (omega (arith, f .size)) (end-held n k f);
+  }

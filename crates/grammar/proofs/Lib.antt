@@ -1,0 +1,11 @@
+pub mod Answers
+pub mod Records
+pub mod Curves
+pub mod Formed
+pub mod Laid
+pub mod Whole
+pub mod Rooms
+pub mod Held
+pub mod Back
+pub mod Candidate
+pub mod Grammar

@@ -1,0 +1,96 @@
+-- `heads::find_layout` meets its contract. Assumes nothing.
+use mathlib.Core.Path.{_≡_, refl, sym, ap, _∙_}
+use mathlib.Core.Bool.{true}
+use Prim.Native.Nat.{ℕ, _/_}
+use native.Mathlib.Omega.{arith}
+use borrow.Author.Needs.{needs}
+use Rattle.float.proofs.Truth.{true-false}
+use Rattle.house.specs.Bytes.{allFit}
+use Rattle.house.specs.Held.{marksHeld}
+use Rattle.house.proofs.Numbers.{fit-each}
+use Rattle.grammar.proofs.Laid.{Started, plain, full, started, starting, ended, ending, laid-started, laid-ended}
+use Rattle.heads.proofs.Ways.{counted, broken}
+use Rattle.heads.proofs.find_layout.Statement.{statement}
+use Rattle.heads.proofs.find_layout.Tie as tie
+
+-- what is a byte fits one
+bytes : (c : tie.After-shared-slice-known) → allFit 1 (c .before .args .b .now) ≡ true
+bytes c = fit-each 1 (c .before .args .b .now) (λ i. omega (arith, c .shared-slice-known .given i))
+
+marks : (c : tie.After-four) → marksHeld (c .before .before .before .args .b .now) ≡ c .four .result / 16
+marks c = ap (λ (x : ℕ). x / 16) (sym (c .four .ensures .0))
+
+begun : (c : tie.Then2) → Started (c .before .before .before .before .before .args .b .now) (c .before .before .four .result / 16)
+begun c = started _ _ (omega arith) (sym (c .before .starts-with .ensures) ∙ c .if2 .taken)
+
+returns : tie.Need-returns
+returns c = broken (c .before .before .args .b .now) _ refl (λ l. let s = laid-started l in omega (arith, s .long))
+
+four-requires : tie.Need-four-requires
+four-requires c κs = search needs
+
+starts-with-requires : tie.Need-starts-with-requires
+starts-with-requires c κs = search needs
+
+mul-end : tie.Need-mul-end
+mul-end c = search needs
+
+add-end : tie.Need-add-end
+add-end c = search needs
+
+returns-2 : tie.Need-returns-2
+returns-2 c =
+    let i = c .before .before .before in
+    counted (i .before .before .before .args .b .now) (bytes (i .before .before)) (plain (begun (c .before)) (omega arith) refl)
+
+add-least : tie.Need-add-least
+add-least c = search needs
+
+mul-least : tie.Need-mul-least
+mul-least c = search needs
+
+add-least-2 : tie.Need-add-least-2
+add-least-2 c = search needs
+
+returns-3 : tie.Need-returns-3
+returns-3 c =
+    let i = c .before .before .before .before in
+    broken (i .before .before .before .args .b .now) (i .four .result / 16) (marks i) (λ l. let d = laid-ended l (λ z. omega arith) in omega (arith, d .size))
+
+ends-with-requires : tie.Need-ends-with-requires
+ends-with-requires c κs = search needs
+
+returns-4 : tie.Need-returns-4
+returns-4 c =
+    let i = c .before .before .before .before .before .before in
+    let b = i .before .before .before .args .b .now in
+    counted b (bytes (i .before .before)) (full (begun (c .before .before .before .before)) (ended b (i .four .result / 16) _ (sym (c .before .ends-with .ensures) ∙ c .if5 .taken)))
+
+returns-5 : tie.Need-returns-5
+returns-5 c =
+    let i = c .before .before .before .before .before .before in
+    broken (i .before .before .before .args .b .now) (i .four .result / 16) (marks i) (λ l. true-false _ (ending (laid-ended l (λ z. omega arith))) (sym (c .before .ends-with .ensures) ∙ c .if5 .left))
+
+returns-6 : tie.Need-returns-6
+returns-6 c =
+    let i = c .before .before in
+    broken (i .before .before .before .args .b .now) (i .four .result / 16) (marks i) (λ l. true-false _ (starting (laid-started l)) (sym (c .before .starts-with .ensures) ∙ c .if2 .left))
+
+pub find-layout-spec : {M : Type 1} → statement M
+find-layout-spec =
+    tie.close
+    (tie.spec
+    returns
+    four-requires
+    starts-with-requires
+    mul-end
+    add-end
+    returns-2
+    add-least
+    mul-least
+    add-least-2
+    returns-3
+    ends-with-requires
+    returns-4
+    returns-5
+    returns-6)

@@ -1,0 +1,114 @@
+// How a house file is laid out. Two numbers settle where everything stands: the length of kind 2 gives the marks, and the length of the
+// whole gives the curves. So the heads are tested at fixed places.
+use house::bytes::four;
+use house::bytes::two;
+use house::sizes;
+ghost use mathlib.Core.Path.{_≡_};
+ghost use Prim.Native.Nat.{_+_, _*_, _^_, _<_, _≤_};
+ghost use lib.ListN.{length, drop};
+ghost use Rattle.house.specs.Limits.{kindField, numberField, headBytes, markBytes, curveBytes, marksAt};
+ghost use Rattle.house.specs.Layout.{headAt, startsWith, curvesLead, endsWith};
+ghost use Rattle.house.specs.Held.{paramsAt};
+ghost use Rattle.heads.specs.Layout.{layoutOf};
+
+// How many marks and curves a file has; or that the bytes are no file.
+pub enum Layout {
+    Counts { marks: usize, curves: usize },
+    Broken,
+}
+
+// Whether the record at `at` has this length and this kind.
+fn has_head(b: &[u8], at: usize, size: u64, kind: u64) -> bool
+    requires { ⌜ at + headBytes ≤ length (now b) ⌝ }
+    ensures { λ r. ⌜ r ≡ headAt (now (b .entry)) at size kind ⌝ }
+{
+    if four(b, at) != size {
+        return false;
+    }
+    two(b, at + sizes::LENGTH_FIELD) == kind
+}
+
+// Whether kinds 1 and 2 begin as they should for n marks.
+fn starts_with(b: &[u8], n: usize) -> bool
+    requires { ⌜ (marksAt ≤ length (now b)) × (kindField + markBytes * n < 2 ^ 64) ⌝ }
+    ensures { λ r. ⌜ r ≡ startsWith (now (b .entry)) n ⌝ }
+{
+    if has_head(b, 0, sizes::TOLERANCE_LENGTH, sizes::TOLERANCE_KIND) {
+        let size = sizes::KIND_FIELD + sizes::MARK_BYTES * n;
+        return has_head(b, sizes::MARKS_HEAD, size as u64, sizes::MARKS_KIND);
+    }
+    false
+}
+
+// Whether k records of kind 3 stand from `at` on.
+fn curves_lead(b: &[u8], at: usize, k: usize) -> bool
+    requires { ⌜ at + curveBytes * k ≤ length (now b) ⌝ }
+    ensures { λ r. ⌜ r ≡ curvesLead k (drop at (now (b .entry))) ⌝ }
+{
+    let mut i = 0;
+    while i < k {
+        let head = at + sizes::CURVE_BYTES * i;
+        if has_head(b, head, sizes::CURVE_LENGTH, sizes::CURVE_KIND) {
+            i += 1;
+            continue;
+        }
+        return false;
+    }
+    true
+}
+
+// Whether k curves, above none and fewer than marks, and n parameters follow the marks up to the end.
+fn ends_with(b: &[u8], n: usize, k: usize) -> bool
+    requires { ⌜ paramsAt n k + numberField * n ≤ length (now b) ⌝ }
+    ensures { λ r. ⌜ r ≡ endsWith (now (b .entry)) n k ⌝ }
+{
+    let end = sizes::MARKS_AT + sizes::MARK_BYTES * n;
+    let last = end + sizes::CURVE_BYTES * k;
+    if b.len() != last + sizes::HEAD_BYTES + sizes::NUMBER_FIELD * n {
+        return false;
+    }
+    if k == 0 {
+        return false;
+    }
+    if n <= k {
+        return false;
+    }
+    if curves_lead(b, end, k) {
+        let size = sizes::KIND_FIELD + sizes::NUMBER_FIELD * n;
+        return has_head(b, last, size as u64, sizes::PARAMS_KIND);
+    }
+    false
+}
+
+// How the bytes are laid out, if they are a file.
+pub fn find_layout(b: &[u8]) -> Layout
+    ensures { λ r. ⌜ r ≡ layoutOf (now (b .entry)) ⌝ }
+{
+    let len = b.len();
+    if len < sizes::MARKS_AT {
+        return Layout::Broken;
+    }
+    let n = four(b, sizes::MARKS_HEAD) as usize / sizes::MARK_BYTES;
+    if starts_with(b, n) {
+        let end = sizes::MARKS_AT + sizes::MARK_BYTES * n;
+        if len == end {
+            return Layout::Counts {
+                marks: n,
+                curves: 0,
+            };
+        }
+        let least = end + sizes::HEAD_BYTES + sizes::NUMBER_FIELD * n;
+        if len < least {
+            return Layout::Broken;
+        }
+        let k = (len - least) / sizes::CURVE_BYTES;
+        if ends_with(b, n, k) {
+            return Layout::Counts {
+                marks: n,
+                curves: k,
+            };
+        }
+        return Layout::Broken;
+    }
+    Layout::Broken
+}

@@ -1,0 +1,50 @@
+-- Turns of the loops that read and write rows, and bytes that are put one after another. Assumes nothing.
+use mathlib.Core.Path.{_≡_, sym, ap, _∙_}
+use mathlib.Core.List.{List, [], _∷_, _++_, append-nil}
+use Prim.Native.Nat.{ℕ, suc, _+_, _*_, _/_, _%_, _<_}
+use native.Mathlib.Nat.{add-zero}
+use native.Mathlib.Numerals.{add-one}
+use native.Mathlib.Omega.{arith}
+use lib.ListN.{length, take, drop, set, getD}
+use lib.Seq.{drop-drop, drop-cons, set-at, append-snoc, take-suc, length-take-le, sets}
+use Rattle.text.proofs.Stores.{sets-append}
+use Rattle.house.specs.Bytes.{num, le, words, les}
+use Rattle.house.proofs.Numbers.{length-le}
+use Rattle.house.proofs.Rows.{length-words, length-les, words-suc, les-append}
+
+-- a store that makes a front one longer
+pub front-suc : (xs l : List ℕ) (x i : ℕ) → length xs ≡ i → i < length l → set (xs ++ drop i l) i x ≡ (xs ++ (x ∷ [])) ++ drop (i + 1) l
+front-suc xs l x i e h = rw (drop-cons l i 0, set-at xs _ _ x i, append-snoc, add-one)
+
+-- one more number read
+pub words-turn : (b : List ℕ) (at : ℕ) (l : List ℕ) (i : ℕ) → i < length l
+    → set (words i (drop at b) ++ drop i l) i (num 8 b (at + 8 * i)) ≡ words (i + 1) (drop at b) ++ drop (i + 1) l
+words-turn b at l i h =
+    let e : words (i + 1) (drop at b) ≡ words i (drop at b) ++ (num 8 b (at + 8 * i) ∷ []) = rw (add-one i, words-suc, drop-drop) in
+    front-suc (words i (drop at b)) l (num 8 b (at + 8 * i)) i (length-words i (drop at b)) h
+    ∙ ap (λ (r : List ℕ). r ++ drop (i + 1) l) (sym e)
+
+-- a number's bytes, and its halves
+pub le-two : (l : List ℕ) (at x : ℕ) → set (set l at (x % 256)) (at + 1) (x / 256 % 256) ≡ sets l at (le 2 x)
+unfolding le
+le-two l at x = rw (add-one at)
+
+pub le-four : (x : ℕ) → le 4 x ≡ le 2 x ++ le 2 (x / 65536)
+unfolding le
+le-four x = let c : x / 65536 ≡ x / 256 / 256 = omega arith in rw c
+
+pub le-eight : (x : ℕ) → le 8 x ≡ le 4 x ++ le 4 (x / 4294967296)
+unfolding le
+le-eight x = let c : x / 4294967296 ≡ x / 256 / 256 / 256 / 256 = omega arith in rw c
+
+pub put-both : (l : List ℕ) (at j k x y : ℕ) → sets (sets l at (le j x)) (at + j) (le k y) ≡ sets l at (le j x ++ le k y)
+put-both l at j k x y = let e = sets-append (le j x) (le k y) l at in sym (rw length-le at e)
+
+-- one more number written
+pub words-put : (l xs : List ℕ) (at i : ℕ) → i < length xs → sets (sets l at (les (take i xs))) (at + 8 * i) (le 8 (getD xs i 0)) ≡ sets l at (les (take (i + 1) xs))
+unfolding les
+words-put l xs at i h =
+    let z : length (les (take i xs)) ≡ 8 * i = length-les (take i xs) ∙ rw (length-take-le i xs (omega arith)) in
+    let t : les (take (i + 1) xs) ≡ les (take i xs) ++ le 8 (getD xs i 0) = rw (add-one i, take-suc xs i 0, les-append, append-nil) in
+    let e = sets-append (les (take i xs)) (le 8 (getD xs i 0)) l at in
+    rw t (sym (rw z at e))

@@ -1,3 +1,0 @@
-mod Turns
-pub mod Puts
-pub mod Ways

@@ -1,0 +1,93 @@
+-- What each way through the reader answers. Assumes nothing.
+use mathlib.Core.Path.{_≡_, refl}
+use mathlib.Core.Bool.{Bool, true, false, _&&_, cond}
+use mathlib.Core.List.{List}
+use Prim.Native.Nat.{ℕ, _*_, _/_, _<_, _≤_}
+use native.Mathlib.Omega.{arith}
+use borrow.Author.Tests.{le-leb, lt-leb}
+use lib.Dec.{leb}
+use lib.ListN.{length}
+use Rattle.float.specs.Answer.{ok, refused, unless}
+use Rattle.heads.specs.declared.Layout.the-variants as layout
+use Rattle.house.specs.Bytes.{num}
+use Rattle.house.specs.Held.{marksHeld, curvesHeld, fileAt, isFile, fileOf}
+use Rattle.house.specs.Slices.{room}
+use Rattle.reader.specs.Reader.{judged, outcome, readOf}
+use Rattle.heads.specs.Layout.{layoutOf}
+use Rattle.house.specs.Layout.{sizeFor, Room, Copied}
+use Rattle.house.proofs.Rows.{length-words}
+use Rattle.grammar.proofs.Curves.{length-firsts}
+use Rattle.grammar.proofs.Laid.{Laid, plain, full, laid-candidate}
+use Rattle.grammar.proofs.Rooms.{size-none, size-some, places}
+use Rattle.grammar.proofs.Candidate.{file-laid}
+
+-- ---- the layout
+
+-- what a layout that was found tells
+pub record Told (b : List ℕ) (n k : ℕ) : Type 0 where
+  pub file : isFile b ≡ true
+  pub laid : Laid b n k
+
+pub told : (b : List ℕ) (n k : ℕ) → layoutOf b ≡ layout.Counts n k → Told b n k
+unfolding layoutOf
+told b n k e = go (isFile b) refl e
+  where
+    go : (t : Bool) → isFile b ≡ t → cond t (layout.Counts (marksHeld b) (curvesHeld b (marksHeld b))) layout.Broken ≡ layout.Counts n k → Told b n k
+    go true h q =
+        let en : marksHeld b ≡ n = cc in
+        let ek : curvesHeld b (marksHeld b) ≡ k = cc in
+        record { file = h; laid = rw (ek, en) at (file-laid h) }
+    go false h q = let z : _≡_ {A = ℕ} 0 1 = cc in absurd (omega arith)
+
+untold : (b : List ℕ) → layoutOf b ≡ layout.Broken → isFile b ≡ false
+unfolding layoutOf
+untold b e = go (isFile b) refl e
+  where
+    go : (t : Bool) → isFile b ≡ t → cond t (layout.Counts (marksHeld b) (curvesHeld b (marksHeld b))) layout.Broken ≡ layout.Broken → isFile b ≡ false
+    go true h q = let z : _≡_ {A = ℕ} 0 1 = cc in absurd (omega arith)
+    go false h q = h
+
+-- ---- the answer
+
+pub read-broken : (b : List ℕ) {M P C Q : List ℕ} → layoutOf b ≡ layout.Broken → outcome (refused 9) M P C Q ≡ readOf b M P C Q
+unfolding readOf judged fileOf
+read-broken b e = rw (untold b e)
+
+module _ {b : List ℕ} {n k : ℕ} (t : Told b n k) where
+  judged-at : (m p c q : ℕ) → judged b m p c q ≡ unless 2 (leb n 4096) (unless 4 (leb (2 * n) m && room n k p c q) (ok (fileAt b n k)))
+  unfolding judged fileOf
+  judged-at m p c q =
+      let half : 2 * n / 2 ≡ n = omega arith in
+      simp (t .file, laid-candidate (t .laid), length-words, length-firsts, half)
+
+  module _ {M P C Q : List ℕ} where
+    pub read-many : 4096 < n → outcome (refused 2) M P C Q ≡ readOf b M P C Q
+    unfolding readOf
+    read-many h = rw (judged-at (length M) (length P) (length C) (length Q), lt-leb n 4096 h)
+
+    module _ (h : n ≤ 4096) where
+      pub read-few : length M < 2 * n → outcome (refused 4) M P C Q ≡ readOf b M P C Q
+      unfolding readOf
+      read-few m = rw (judged-at (length M) (length P) (length C) (length Q), le-leb n 4096 h, lt-leb (2 * n) (length M) m)
+
+      module _ (m : 2 * n ≤ length M) where
+        pub read-short : room n k (length P) (length C) (length Q) ≡ false → outcome (refused 4) M P C Q ≡ readOf b M P C Q
+        unfolding readOf
+        read-short r = rw (judged-at (length M) (length P) (length C) (length Q), le-leb n 4096 h, le-leb (2 * n) (length M) m, r)
+
+        pub read-given : room n k (length P) (length C) (length Q) ≡ true → {t : ℕ} {M′ P′ C′ Q′ : List ℕ} → t ≡ num 8 b 6 → Copied (fileAt b n k) M P C Q M′ P′ C′ Q′
+            → outcome (ok (record { tolerance = t; marks = n; curves = k })) M′ P′ C′ Q′ ≡ readOf b M P C Q
+        unfolding readOf
+        read-given r e f =
+            let half : 2 * n / 2 ≡ n = omega arith in
+            simp (judged-at (length M) (length P) (length C) (length Q), le-leb n 4096 h, le-leb (2 * n) (length M) m, r, length-words, length-firsts, half, e, f .marks, f .firsts, f .curves, f .params)
+
+-- and there is room to copy
+pub told-room : {b M P C Q : List ℕ} {n k : ℕ} → Told b n k → 2 * n ≤ length M → room n k (length P) (length C) (length Q) ≡ true → Room n k b M P C Q
+told-room {b} {M} {P} {C} {Q} {n} {k} t m r =
+    let s = places n k (length P) (length C) (length Q) r in
+    record { bytes = fits (t .laid); marks = m; firsts = s .firsts; curves = s .curves; params = s .params }
+  where
+    fits : Laid b n k → sizeFor n k ≤ length b
+    fits (plain s z x) = omega (arith, size-none n x)
+    fits (full s d) = omega (arith, size-some n (d .some), d .size)

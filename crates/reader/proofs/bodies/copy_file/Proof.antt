@@ -1,0 +1,86 @@
+-- `reader::bodies::copy_file` meets its contract. Assumes nothing.
+use Prim.Native.Nat.{_<_}
+use native.Mathlib.Omega.{arith}
+use borrow.Author.Needs.{needs}
+use Rattle.house.specs.Bytes.{words}
+use Rattle.house.specs.Held.{firstsOf, curvesOf}
+use Rattle.grammar.proofs.Formed.{params-some}
+use Rattle.grammar.proofs.Rooms.{room-start, room-whole, room-params}
+use Rattle.reader.proofs.bodies.copy_file.Statement.{statement}
+use Rattle.reader.proofs.bodies.copy_file.Tie as tie
+
+-- there are curves
+some : (c : tie.Else1) → 0 < c .before .before .before .before .before .before .before .before .before .before .args .k
+some c = omega arith
+
+mul-copy-words : tie.Need-mul-copy-words
+mul-copy-words c = search needs
+
+copy-words-requires : tie.Need-copy-words-requires
+copy-words-requires c κs = let r = c .before .before .before .before .before .before .pre in (omega (arith, room-start r), r .marks)
+
+same-length : tie.Need-same-length
+same-length c = search needs
+
+returns : tie.Need-returns
+unfolding words firstsOf curvesOf
+returns c = let e = c .if1 .taken in record { marks = c .before .before .before .copy-words .ensures; firsts = rw e; curves = rw e; params = rw e }
+
+mul-end : tie.Need-mul-end
+mul-end c = search needs
+
+add-end : tie.Need-add-end
+add-end c = search needs
+
+copy-curves-requires : tie.Need-copy-curves-requires
+copy-curves-requires c κs = let r = c .before .before .before .before .before .before .before .before .before .before .before .before .pre in (omega (arith, room-whole r (some (c .before .before))), (r .firsts, r .curves))
+
+mul-last : tie.Need-mul-last
+mul-last c = search needs
+
+add-last : tie.Need-add-last
+add-last c = omega (arith, room-whole (c .before .before .before .before .before .before .before .before .before .before .before .before .before .before .before .before .before .pre) (some (c .before .before .before .before .before .before .before)))
+
+add-last-2 : tie.Need-add-last-2
+add-last-2 c = omega (arith, room-whole (c .before .before .before .before .before .before .before .before .before .before .before .before .before .before .before .before .before .pre) (some (c .before .before .before .before .before .before .before)))
+
+copy-words-requires-2 : tie.Need-copy-words-requires-2
+copy-words-requires-2 c κs = let r = c .before .before .before .before .before .before .before .before .before .before .before .before .before .before .before .before .before .before .pre in (omega (arith, room-whole r (some (c .before .before .before .before .before .before .before .before))), omega (arith, room-params r (some (c .before .before .before .before .before .before .before .before))))
+
+same-length-2 : tie.Need-same-length-2
+same-length-2 c = search needs
+
+same-length-3 : tie.Need-same-length-3
+same-length-3 c = search needs
+
+same-length-4 : tie.Need-same-length-4
+same-length-4 c = search needs
+
+same-length-5 : tie.Need-same-length-5
+same-length-5 c = search needs
+
+returns-2 : tie.Need-returns-2
+returns-2 c =
+    let s = c .before .before .before .before .before .before .before .before .copy-curves .ensures in
+    record { marks = c .before .before .before .before .before .before .before .before .before .before .before .before .before .before .copy-words .ensures; firsts = s .0; curves = s .1; params = rw (params-some (c .before .before .before .before .before .before .before .before .before .before .before .before .before .before .before .before .before .before .before .before .before .args .n) (some (c .before .before .before .before .before .before .before .before .before .before .before))) (c .before .before .copy-words2 .ensures) }
+
+pub copy-file-spec : {M : Type 1} → statement M
+copy-file-spec =
+    tie.close
+    (tie.spec
+    mul-copy-words
+    copy-words-requires
+    same-length
+    returns
+    mul-end
+    add-end
+    copy-curves-requires
+    mul-last
+    add-last
+    add-last-2
+    copy-words-requires-2
+    same-length-2
+    same-length-3
+    same-length-4
+    same-length-5
+    returns-2)

@@ -1,0 +1,81 @@
+-- `reader::read_file` meets its contract. Assumes nothing.
+use mathlib.Core.Path.{sym, _∙_}
+use native.Mathlib.Omega.{arith}
+use borrow.Author.Needs.{needs}
+use Rattle.grammar.proofs.Laid.{laid-started}
+use Rattle.reader.proofs.Ways.{Told, told, told-room, read-broken, read-many, read-few, read-short, read-given}
+use Rattle.reader.proofs.read_file.Statement.{statement}
+use Rattle.reader.proofs.read_file.Tie as tie
+
+-- what the layout tells
+found : (c : tie.After-found) → Told (c .before .before .before .before .before .before .before .before .args .file .now) (c .found .given .0 .0) (c .found .given .0 .1 .0)
+found c = told _ _ _ (sym (c .before .before .find-layout .ensures) ∙ c .found .given .1)
+
+find-layout-requires : tie.Need-find-layout-requires
+find-layout-requires c κs = search needs
+
+enum-known-found : tie.Need-enum-known-found
+enum-known-found c = search needs
+
+enum-told : tie.Need-enum-told
+enum-told c = search needs
+
+returns : tie.Need-returns
+returns c = read-broken _ (sym (c .before .before .find-layout .ensures) ∙ c .enum-told .given .1)
+
+returns-2 : tie.Need-returns-2
+returns-2 c = read-many (found (c .before .before)) (omega arith)
+
+mul-if2 : tie.Need-mul-if2
+mul-if2 c = search needs
+
+returns-3 : tie.Need-returns-3
+returns-3 c = read-few (found (c .before .before .before)) (omega arith) (omega arith)
+
+has-room-requires : tie.Need-has-room-requires
+has-room-requires c κs = search needs
+
+copy-file-requires : tie.Need-copy-file-requires
+copy-file-requires c κs = told-room (found (c .before .before .before .before .before .before .before .before .before)) (omega arith) (sym (c .before .before .before .before .before .has-room .ensures) ∙ c .before .before .before .before .if3 .taken)
+
+eight-requires : tie.Need-eight-requires
+eight-requires c κs = omega (arith, laid-started (found (c .before .before .before .before .before .before .before .before .before .before .before .before .before .before .before .before .before .before) .laid) .long)
+
+same-length : tie.Need-same-length
+same-length c = search needs
+
+same-length-2 : tie.Need-same-length-2
+same-length-2 c = search needs
+
+same-length-3 : tie.Need-same-length-3
+same-length-3 c = search needs
+
+same-length-4 : tie.Need-same-length-4
+same-length-4 c = search needs
+
+returns-4 : tie.Need-returns-4
+returns-4 c = read-given (found (c .before .before .before .before .before .before .before .before .before .before .before .before .before .before .before .before .before .before .before)) (omega arith) (omega arith) (sym (c .before .before .before .before .before .before .before .before .before .before .before .before .before .before .before .has-room .ensures) ∙ c .before .before .before .before .before .before .before .before .before .before .before .before .before .before .if3 .taken) (c .eight .ensures) (c .before .before .before .before .before .before .before .before .before .copy-file .ensures)
+
+returns-5 : tie.Need-returns-5
+returns-5 c = read-short (found (c .before .before .before .before .before)) (omega arith) (omega arith) (sym (c .before .has-room .ensures) ∙ c .if3 .left)
+
+pub read-file-spec : {M : Type 1} → statement M
+read-file-spec =
+    tie.close
+    (tie.spec
+    find-layout-requires
+    enum-known-found
+    enum-told
+    returns
+    returns-2
+    mul-if2
+    returns-3
+    has-room-requires
+    copy-file-requires
+    eight-requires
+    same-length
+    same-length-2
+    same-length-3
+    same-length-4
+    returns-4
+    returns-5)

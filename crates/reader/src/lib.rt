@@ -1,0 +1,59 @@
+// The house file, read. Numbers stand as the bit patterns of `f64`, so that every pattern, a NaN's too, comes as it is.
+mod bodies;
+
+use bodies::copy_file;
+use float::refusal::BADLY_FORMED;
+use float::refusal::NO_ROOM;
+use float::refusal::TOO_MANY;
+use heads::Layout;
+use heads::find_layout;
+use house::bytes::eight;
+use house::sizes;
+use house::sizes::has_room;
+ghost use mathlib.Core.Path.{_≡_};
+ghost use Rattle.reader.specs.Reader.{outcome, readAnswer, readOf};
+
+// What a file holds beside the slices: its tolerance, and how many marks and curves; or why it is not read.
+pub enum Read {
+    File {
+        tolerance: u64,
+        marks: usize,
+        curves: usize,
+    },
+    Refused(u32),
+}
+
+// Takes a file apart into the lent slices, which stay as they are where it is refused. No number's value is judged.
+pub fn read_file(
+    file: &[u8],
+    marks: &mut [u64],
+    firsts: &mut [u32],
+    curves: &mut [u64],
+    params: &mut [u64],
+) -> Read
+    ensures { λ r. ⌜ outcome (readAnswer r) (now (marks .exit)) (now (firsts .exit)) (now (curves .exit)) (now (params .exit)) ≡ readOf (now (file .entry)) (now (marks .entry)) (now (firsts .entry)) (now (curves .entry)) (now (params .entry)) ⌝ }
+{
+    let found = find_layout(file);
+    let Layout::Counts {
+        marks: n,
+        curves: k,
+    } = found
+    else {
+        return Read::Refused(BADLY_FORMED);
+    };
+    if n > sizes::MOST_MARKS {
+        return Read::Refused(TOO_MANY);
+    }
+    if marks.len() < sizes::MARK_NUMBERS * n {
+        return Read::Refused(NO_ROOM);
+    }
+    if has_room(n, k, firsts.len(), curves.len(), params.len()) {
+        copy_file(file, n, k, marks, firsts, curves, params);
+        return Read::File {
+            tolerance: eight(file, sizes::HEAD_BYTES),
+            marks: n,
+            curves: k,
+        };
+    }
+    Read::Refused(NO_ROOM)
+}

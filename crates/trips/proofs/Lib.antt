@@ -1,0 +1,4 @@
+mod Accepted
+pub mod RoundTrips
+pub mod Cuts
+pub mod Agree

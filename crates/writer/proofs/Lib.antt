@@ -1,0 +1,4 @@
+mod Turns
+pub mod Puts
+pub mod Accepted
+pub mod Ways
