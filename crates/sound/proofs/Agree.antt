@@ -2,11 +2,10 @@
 use Prim.Native.Nat.{ℕ}
 use native.Mathlib.Omega.{arith}
 use mathlib.Core.Path.{_≡_, refl, sym, ap, _∙_}
-use Rattle.float.specs.Answer.{Answer, ok, refused}
-use Rattle.checker.specs.declared.Fault.{Fault}
+use Rattle.float.specs.Answer.{Answer}
 use Rattle.checker.specs.declared.Checked.{Checked}
 use Rattle.checker.specs.declared.Checked.the-variants.{Passed, Faulty, Refused}
-use Rattle.checker.specs.Check.{Verdict, passed, fault, checkedAnswer}
+use Rattle.checker.specs.Check.{Verdict, checkedAnswer}
 
 pub same-checked : (r r′ : Checked) → checkedAnswer r ≡ checkedAnswer r′ → r ≡ r′
 unfolding checkedAnswer

@@ -1,10 +1,10 @@
 -- What a passed curve and a passed mark are, and back. Assumes nothing.
 use Prim.Native.Nat.{ℕ, _+_, _-_, _≤_, _<_}
 use native.Mathlib.Omega.{arith}
-use mathlib.Core.Path.{_≡_, refl, sym, ap, _∙_}
-use mathlib.Core.Bool.{Bool, true, false, _&&_}
+use mathlib.Core.Path.{_≡_}
+use mathlib.Core.Bool.{Bool, true}
 use mathlib.Core.List.{List}
-use lib.ListN.{length, getD}
+use lib.ListN.{getD}
 use lib.Dec.{eqb}
 use lib.Ieee.{Float, nan, binary64, toBits, le}
 use borrow.Author.Tests.{eqb-true, eq-eqb}
@@ -13,7 +13,7 @@ use Rattle.float.proofs.Truth.{and-left, and-right, both}
 use Rattle.plane.specs.declared.Point.{Point}
 use Rattle.marks.specs.Marks.{count, markAt}
 use Rattle.checker.specs.declared.Fault.the-variants.{B, C, D}
-use Rattle.checker.specs.Check.{Verdict, passed, place, must, _then_, inTurn, firstAt, curveAt, lastAt, stopAt, same, curveFinite, runs, timed, near, distanceAt, markChecked, curveChecked}
+use Rattle.checker.specs.Check.{Verdict, passed, place, must, inTurn, firstAt, curveAt, lastAt, stopAt, same, curveFinite, runs, timed, near, distanceAt, markChecked, curveChecked}
 use Rattle.checker.specs.Sound.{SamePoint}
 use Rattle.checker.proofs.Turns.{must-true, both-pass, turn-each, turn-all}
 

@@ -1,21 +1,20 @@
 -- A list that is not refused passes exactly when it is sound. Assumes nothing.
-use Prim.Native.Nat.{ℕ, suc, _-_, _≤_, _<_}
+use Prim.Native.Nat.{ℕ, _-_, _<_}
 use native.Mathlib.Omega.{arith}
 use mathlib.Core.Path.{_≡_, refl, sym, ap, _∙_}
 use mathlib.Core.Bool.{Bool, true, false, cond}
 use mathlib.Core.List.{List}
 use lib.ListN.{length, getD}
 use lib.Dec.{eqb}
-use lib.Ieee.{Float, nan, eq}
+use lib.Ieee.{Float, nan}
 use borrow.Author.Tests.{eqb-true, eq-eqb}
-use Rattle.float.specs.Number.{f0, f1}
-use Rattle.float.specs.Answer.{Answer, ok, refused}
+use Rattle.float.specs.Answer.{ok, refused}
 use Rattle.marks.specs.Marks.{count}
 use Rattle.gate.specs.Gate.{gateFor}
-use Rattle.checker.specs.Check.{Verdict, passed, inTurn, firstAt, lastAt, stopAt, listed, timed, curveChecked, listChecked, checkOf}
+use Rattle.checker.specs.Check.{Verdict, passed, inTurn, firstAt, listed, curveChecked, listChecked, checkOf}
 use Rattle.checker.specs.Sound.{Sound}
 use Rattle.checker.proofs.Turns.{both-pass, turn-each, turn-all}
-use Rattle.checker.proofs.Firsts.{Risen, risen, listed-of, later, ending}
+use Rattle.checker.proofs.Firsts.{Risen, risen, listed-of, ending}
 use Rattle.checker.proofs.Curves.{span}
 use Rattle.sound.proofs.Unit.{timed-unit, timed-first, timed-last, timed-of}
 use Rattle.sound.proofs.Under.{home, risen-of}

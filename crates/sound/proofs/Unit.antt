@@ -1,10 +1,9 @@
 -- Parameters: one that equals 0 or 1 lies in 0..1. Assumes nothing.
-use Prim.Native.Nat.{ℕ, zero, suc, _+_, _-_, _*_, _≤_}
+use Prim.Native.Nat.{ℕ, suc, _*_}
 use native.Mathlib.Nat.{zero-mul}
 use native.Mathlib.Omega.{arith}
-use mathlib.Core.Path.{_≡_, refl, sym, _∙_}
+use mathlib.Core.Path.{_≡_, refl, _∙_}
 use mathlib.Core.Bool.{Bool, true, false, _&&_, _||_, Bool·beq, cond}
-use lib.IntN.{ℤ, pos}
 use lib.Dec.{eqb}
 use lib.Ieee.{Float, nan, inf, fin, up, down, lt, eq, le, ofBits}
 use borrow.Author.Tests.{eqb-true, eq-eqb, ne-eqb}
