@@ -1,5 +1,5 @@
 -- Demand 3: every list that the joined or the direct fit accepts is sound, with the same marks and tolerance. Assumes nothing.
-use mathlib.Core.Path.{_≡_, refl, ap}
+use mathlib.Core.Path.{_≡_, refl, ap, _∙_}
 use mathlib.Core.Bool.{Bool, true, false, cond}
 use mathlib.Core.List.{List, [], _∷_, _++_}
 use Prim.Native.Nat.{ℕ, zero, suc, _+_, _-_, _*_, _≤_, _<_}
@@ -27,10 +27,16 @@ use Rattle.cut.specs.Run.{Run, refused, done, runOf}
 use Rattle.blocks.specs.declared.Cutting.the-variants.{Joined}
 use Rattle.blocks.specs.Blocks.{blocksOf}
 use Rattle.marks.specs.Block.{blockSize}
-use Rattle.fit.specs.Fit.{Ending, ending, ended, entered, fitOf, cubicGate, cubicOf}
+use Rattle.fit.specs.Fit.{Ending, fittedAnswer, ending, ended, entered, fitOf, cubicGate, cubicOf}
 use Rattle.fit.proofs.Entries.{size-within, cubic-passed}
 use Rattle.checker.specs.Check.{firstAt, curveAt, curveFinite, distanceAt}
+use Rattle.checker.specs.Check.{checkOf, checkedAnswer}
+use Rattle.checker.specs.declared.Checked.{Checked}
+use Rattle.checker.specs.declared.Checked.the-variants as checked
 use Rattle.checker.specs.Sound.{Sound, SamePoint}
+use Rattle.sound.proofs.Sound.{sound-passes}
+use Rattle.sound.proofs.Agree.{same-checked}
+use Rattle.cut.specs.declared.Fitted.the-variants as fitted
 use Rattle.accepted.specs.Laid.{Laid}
 use Rattle.accepted.proofs.Laid.{laid-many, laid-curves}
 use Rattle.accepted.proofs.Runs.{run-laid, blocks-laid}
@@ -180,3 +186,20 @@ module _ (ms : List Float) (tol : Float) (k : ℕ) (C C′ : List Float) (F F′
       same-lists ms tol k _ C′ _ F′ _ P′ (d .curves) (d .firsts) (d .params)
       (laid-passing ms tol k 512 (d .cs) C (d .fs) F (d .ps) P (omega arith) g (d .many)
       (run-laid tol (not-below tol (g .usable)) ms s e (d .cs) (d .fs) (d .ps) (g .two) (marked ms (g .near) numbers) (d .is-done)))
+
+-- ---- stated of the promises: whatever answer and slices meet a fit's promise, the checker's promise on them allows `Passed` alone
+
+module _ (ms : List Float) (tol : Float) (numbers : Numbers ms) (k : ℕ) (C C′ : List Float) (F F′ : List ℕ) (P P′ : List Float) (answer : Checked) (checks : checkedAnswer answer ≡ checkOf ms tol k C′ F′ P′) where
+  passing-passes : Passing ms tol k C′ F′ P′ → answer ≡ checked.Passed
+  unfolding checkedAnswer
+  passing-passes h = same-checked answer checked.Passed (checks ∙ sound-passes ms tol k C′ F′ P′ (h .taken) (h .sound))
+
+  -- every list that the joined fit accepts passes the checker with the same marks and tolerance
+  pub joined-passes : ending (fittedAnswer (fitted.Curves k)) C′ F′ P′ ≡ fitOf Joined ms tol C F P → answer ≡ checked.Passed
+  unfolding fittedAnswer
+  joined-passes h = passing-passes (joined-passing ms tol k C C′ F F′ P P′ numbers h)
+
+  -- and every list that the direct fit accepts
+  pub direct-passes : (s e : Point) → ending (fittedAnswer (fitted.Curves k)) C′ F′ P′ ≡ cubicOf ms s e tol C F P → answer ≡ checked.Passed
+  unfolding fittedAnswer
+  direct-passes s e h = passing-passes (direct-passing ms tol k C C′ F F′ P P′ numbers s e h)

@@ -1,25 +1,24 @@
 -- One curve: its marks lie within the lists, and the part that is walked shows them. Assumes nothing.
-use Prim.Native.Nat.{ℕ, zero, suc, _+_, _-_, _*_, _/_, _≤_, _<_}
+use Prim.Native.Nat.{ℕ, suc, _+_, _-_, _*_, _≤_, _<_}
 use native.Mathlib.Nat.{eq-or-lt-of-le}
 use native.Mathlib.Omega.{arith}
-use mathlib.Core.Path.{_≡_, refl, sym, ap, _∙_}
+use mathlib.Core.Path.{_≡_, sym, ap, _∙_}
 use mathlib.Core.Logic.{_⊎_, inl, inr}
 use mathlib.Core.Bool.{Bool, true, false}
 use mathlib.Core.List.{List}
 use lib.ListN.{length, take, drop, getD, length-take, length-drop}
 use lib.Seq.{getD-drop, getD-take}
 use lib.Ieee.{Float, nan}
-use Rattle.float.specs.Answer.{Answer, ok, refused}
+use Rattle.float.specs.Answer.{Answer, ok}
 use Rattle.plane.specs.declared.Point.{Point}
 use Rattle.plane.specs.declared.Curve.{Curve}
 use Rattle.marks.specs.Marks.{count, markAt}
 use Rattle.marks.proofs.Parts.{mark-drop, mark-take}
 use Rattle.checker.specs.declared.Fault.the-variants.{B}
-use Rattle.checker.specs.declared.Checked.{Checked}
 use Rattle.checker.specs.declared.Checked.the-variants as checked
-use Rattle.checker.specs.Check.{Verdict, passed, fault, checkedAnswer, place, inTurn, _then_, firstAt, curveAt, lastAt, stopAt, runs, timed, near, markChecked, curveChecked}
+use Rattle.checker.specs.Check.{Verdict, fault, place, inTurn, firstAt, curveAt, lastAt, stopAt, runs, markChecked, curveChecked}
 use Rattle.checker.specs.Inner.{underChecked, Listed}
-use Rattle.checker.proofs.Turns.{turn-next, turn-stop, turn-same}
+use Rattle.checker.proofs.Turns.{turn-same}
 use Rattle.checker.proofs.Firsts.{Risen, risen, later, ending}
 
 pub part-length : {A : Type 0} (a e : ℕ) (l : List A) → e ≤ length l → {t : List A} → t ≡ take (e - a) (drop a l) → length t ≡ e - a

@@ -1,8 +1,8 @@
 -- Curve by curve, and the whole list. Assumes nothing.
-use Prim.Native.Nat.{ℕ, zero, suc, _+_, _-_, _*_, _≤_, _<_}
+use Prim.Native.Nat.{ℕ, _+_, _≤_, _<_}
 use native.Mathlib.Omega.{arith}
-use mathlib.Core.Path.{_≡_, refl, sym, ap, _∙_}
-use mathlib.Core.Logic.{_⊎_, inl, inr}
+use mathlib.Core.Path.{_≡_, sym, ap, _∙_}
+use mathlib.Core.Logic.{inl, inr}
 use mathlib.Core.List.{List, [], _∷_}
 use lib.ListN.{length}
 use types.Run.{OneOf}
@@ -16,7 +16,7 @@ use Rattle.gate.proofs.Tests.{PassedFor, passed-for}
 use Rattle.checker.specs.declared.Fault.{Fault}
 use Rattle.checker.specs.declared.Checked.{Checked}
 use Rattle.checker.specs.declared.Checked.the-variants.{Passed, Faulty, Refused}
-use Rattle.checker.specs.Check.{Verdict, passed, fault, checkedAnswer, inTurn, _then_, listed, curveChecked, listChecked, checkOf}
+use Rattle.checker.specs.Check.{Verdict, passed, fault, checkedAnswer, inTurn, listed, curveChecked, listChecked, checkOf}
 use Rattle.checker.specs.Inner.{Listed}
 use Rattle.checker.proofs.Checked.{the-type}
 use Rattle.checker.proofs.Turns.{turn-next, turn-stop}

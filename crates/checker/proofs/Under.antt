@@ -1,20 +1,17 @@
 -- C and D over the marks under one curve: the loop, and the part that it walks against the whole lists. Assumes nothing.
-use Prim.Native.Nat.{ℕ, zero, suc, _+_, _-_, _*_, _≤_, _<_}
+use Prim.Native.Nat.{ℕ, _+_, _≤_, _<_}
 use native.Mathlib.Omega.{arith}
-use mathlib.Core.Path.{_≡_, refl, sym, ap, _∙_}
+use mathlib.Core.Path.{_≡_, sym}
 use mathlib.Core.Bool.{Bool, true, false}
 use mathlib.Core.List.{List}
-use lib.ListN.{length, take, drop, getD, length-take, length-drop}
-use lib.Seq.{getD-drop, getD-take}
+use lib.ListN.{length, getD}
 use lib.Ieee.{Float, nan}
-use Rattle.float.specs.Answer.{Answer, ok}
 use Rattle.plane.specs.declared.Curve.{Curve}
-use Rattle.marks.specs.Marks.{count, markAt}
-use Rattle.marks.proofs.Parts.{mark-drop, mark-take}
+use Rattle.marks.specs.Marks.{markAt}
 use Rattle.checker.specs.declared.Fault.the-variants.{C, D}
-use Rattle.checker.specs.Check.{Verdict, passed, fault, place, must, _then_, inTurn, timed, near}
+use Rattle.checker.specs.Check.{Verdict, passed, fault, place, inTurn, timed, near}
 use Rattle.checker.specs.Inner.{underChecked}
-use Rattle.checker.proofs.Turns.{turn-next, turn-stop, turn-same}
+use Rattle.checker.proofs.Turns.{turn-next, turn-stop}
 
 module _ (tol : Float) (n j first : ℕ) (c : Curve) (us ts : List Float) where
   abbrev steps : ℕ → Verdict

@@ -1,8 +1,7 @@
 -- `checker::check_firsts` meets its contract. Assumes nothing.
-use Prim.Native.Nat.{_≤_, _-_}
+use Prim.Native.Nat.{_-_}
 use native.Mathlib.Omega.{arith}
 use mathlib.Core.Path.{refl, ap}
-use borrow.Author.Needs.{needs}
 use Rattle.float.specs.Answer.{ok}
 use Rattle.checker.specs.Check.{checkedAnswer, inTurn}
 use Rattle.checker.proofs.Firsts.{Rising, none-listed, many-listed, rising-more, rising-stop, rising-end}

@@ -1,5 +1,5 @@
 -- `checker::check_marks` meets its contract. Assumes nothing.
-use Prim.Native.Nat.{_≤_, _-_}
+use Prim.Native.Nat.{_-_}
 use native.Mathlib.Omega.{arith}
 use mathlib.Core.Path.{refl, ap}
 use borrow.Author.Needs.{needs}

@@ -1,6 +1,5 @@
 -- `checker::curve_at` meets its contract. Assumes nothing.
 use borrow.Author.Needs.{needs}
-use mathlib.Core.Path.{refl}
 use Rattle.checker.specs.Check.{curveAt}
 use Rattle.checker.proofs.curve_at.Statement.{statement}
 use Rattle.checker.proofs.curve_at.Tie as tie

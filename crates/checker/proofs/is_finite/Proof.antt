@@ -1,6 +1,5 @@
 -- `checker::is_finite` meets its contract. Assumes nothing.
 use borrow.Author.Needs.{needs}
-use mathlib.Core.Path.{refl}
 use Rattle.checker.specs.Check.{curveFinite}
 use Rattle.checker.proofs.is_finite.Statement.{statement}
 use Rattle.checker.proofs.is_finite.Tie as tie

@@ -1,6 +1,5 @@
 -- `checker::is_near` meets its contract. Assumes nothing.
 use borrow.Author.Needs.{needs}
-use mathlib.Core.Path.{refl}
 use Rattle.checker.specs.Check.{near, distanceAt}
 use Rattle.checker.proofs.is_near.Statement.{statement}
 use Rattle.checker.proofs.is_near.Tie as tie

@@ -1,6 +1,5 @@
 -- `checker::is_run` meets its contract. Assumes nothing.
 use borrow.Author.Needs.{needs}
-use mathlib.Core.Path.{refl}
 use Rattle.checker.specs.Check.{runs}
 use Rattle.checker.proofs.is_run.Statement.{statement}
 use Rattle.checker.proofs.is_run.Tie as tie

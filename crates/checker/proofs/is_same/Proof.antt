@@ -1,6 +1,5 @@
 -- `checker::is_same` meets its contract. Assumes nothing.
 use borrow.Author.Needs.{needs}
-use mathlib.Core.Path.{refl}
 use Rattle.checker.specs.Check.{same}
 use Rattle.checker.proofs.is_same.Statement.{statement}
 use Rattle.checker.proofs.is_same.Tie as tie

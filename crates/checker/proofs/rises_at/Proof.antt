@@ -1,6 +1,5 @@
 -- `checker::rises_at` meets its contract. Assumes nothing.
 use borrow.Author.Needs.{needs}
-use mathlib.Core.Path.{_≡_, refl, sym, ap, _∙_}
 use Rattle.checker.proofs.Firsts.{rises-first, rises-later}
 use Rattle.checker.proofs.rises_at.Statement.{statement}
 use Rattle.checker.proofs.rises_at.Tie as tie
