@@ -1,9 +1,9 @@
 -- Laws of the blocks' definition. Assumes nothing.
 use Prim.Native.Nat.{ℕ, zero, suc, _+_, _-_, _*_, _≤_, _<_}
 use native.Mathlib.Omega.{arith}
-use mathlib.Core.Path.{_≡_, refl, sym, ap, _∙_}
+use mathlib.Core.Path.{_≡_, refl, ap, _∙_}
 use mathlib.Core.Bool.{Bool, true, false}
-use mathlib.Core.List.{List, [], _∷_, _++_, append-assoc}
+use mathlib.Core.List.{List, [], _++_, append-assoc}
 use lib.ListN.{length, take, drop, length-take, length-drop}
 use lib.Dec.{leb, ltb}
 use lib.Ieee.{Float}
@@ -21,7 +21,7 @@ use Rattle.cut.specs.Lent.{turnAnswer, Left, Room}
 use Rattle.cut.proofs.Run.{Sizes}
 use Rattle.cut.proofs.Cut.{sizes, ways-are, ways-lost}
 use Rattle.blocks.specs.declared.Cutting.{Cutting}
-use Rattle.blocks.specs.Blocks.{over, waysOf, blockOf, lastOf, blocks, blocksFrom, blocksOf}
+use Rattle.blocks.specs.Blocks.{over, waysOf, blockOf, lastOf, blocks, blocksFrom}
 
 module _ (k : Cutting) (ms : List Float) (n size : ℕ) (tol : Float) where
   -- ---- the blocks by cases: proofs unfold them by `blocks-last` and `blocks-more`, and never see the bound

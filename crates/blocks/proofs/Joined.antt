@@ -1,9 +1,9 @@
 -- The joined fit's curves join, from mark 0 to the last, over the ends of the blocks too. Proved of the definition. Assumes nothing.
 use Prim.Native.Nat.{ℕ, zero, suc, _+_, _-_, _*_, _≤_, _<_}
 use native.Mathlib.Omega.{arith}
-use mathlib.Core.Path.{_≡_, refl, sym, ap, subst, _∙_}
+use mathlib.Core.Path.{_≡_, refl, sym, subst}
 use mathlib.Core.Bool.{Bool, true, false}
-use mathlib.Core.List.{List, [], _∷_, _++_}
+use mathlib.Core.List.{List, _++_}
 use lib.ListN.{length, take, drop, getD, length-take, length-drop}
 use lib.Seq.{getD-take, getD-drop}
 use lib.Dec.{leb, ltb}
@@ -18,7 +18,7 @@ use Rattle.cut.specs.declared.Ways.{Ways}
 use Rattle.cut.proofs.Chain.{Within, Joined as JoinedRun, run-joined, chain-append}
 use Rattle.blocks.specs.declared.Cutting.{Cutting}
 use Rattle.blocks.specs.declared.Cutting.the-variants.{Joined}
-use Rattle.blocks.specs.Blocks.{over, waysOf, blockOf, lastOf, blocks, blocksFrom, blocksOf}
+use Rattle.blocks.specs.Blocks.{over, waysOf, blockOf, blocks, blocksFrom}
 
 -- two runs that are both done
 record Both (R R′ : Run) (cs : List Float) (fs : List ℕ) : Type 0 where

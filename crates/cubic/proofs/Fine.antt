@@ -1,23 +1,22 @@
 -- Each run over a single curve was fine exactly where its ends are finite. Assumes nothing.
 use mathlib.Core.Path.{_≡_, refl}
 use mathlib.Core.Logic.{_⊎_, inl, inr}
-use mathlib.Core.Bool.{Bool, true, false, _&&_}
+use mathlib.Core.Bool.{false}
 use lib.Ieee.{Float, binary64}
 use Rattle.float.specs.Number.{finite}
 use Rattle.float.specs.Calc.{Calc}
 use Rattle.float.proofs.Truth.{and-left, and-right, and-false, both, same, is-so}
-use Rattle.float.proofs.Strict.{Fin, add-finite, sub-finite, mul-finite}
+use Rattle.float.proofs.Strict.{Fin, add-finite, sub-finite}
 use Rattle.float.proofs.Answers.{Fine}
-use Rattle.plane.specs.Plane.{plus, minus, times, dotOf}
+use Rattle.plane.specs.Plane.{plus, minus, times}
 use Rattle.plane.specs.declared.Point.{Point}
 use Rattle.plane.specs.declared.Curve.{Curve}
-use Rattle.plane.proofs.Fine.{Good, plus-fine, minus-fine, times-fine, dot-fine, good-point, point-good}
+use Rattle.plane.proofs.Fine.{Good, plus-fine, minus-fine, times-fine, good-point, point-good}
 use Rattle.cubic.specs.Basis.{basis, pointAt, casteljau2, casteljau3, casteljau4, coefficientsOf}
 use Rattle.cubic.specs.Subdivide.{subdivide4Of}
-use Rattle.cubic.specs.Newton.{verticesOf, ratioOf}
+use Rattle.cubic.specs.Newton.{verticesOf}
 use Rattle.plane.specs.Range.{pointFinite}
 use Rattle.cubic.specs.Tests.{coefficientsFinite, halvesFinite, verticesFinite}
-use Rattle.cubic.specs.declared.eval.Coefficients.{Coefficients}
 use Rattle.cubic.specs.declared.newton.Vertices.{Vertices}
 
 -- ---- from the end back

@@ -1,7 +1,7 @@
 -- Every run's curves join, from the part's first mark to its last. Proved of the definition, once, by `run-ind`. Assumes nothing.
-use Prim.Native.Nat.{ℕ, zero, suc, _+_, _-_, _*_, _/_, _≤_, _<_}
+use Prim.Native.Nat.{ℕ, suc, _+_, _-_, _*_, _≤_, _<_}
 use native.Mathlib.Omega.{arith}
-use mathlib.Core.Path.{_≡_, refl, sym, ap, subst, _∙_}
+use mathlib.Core.Path.{_≡_, sym, ap, subst, _∙_}
 use mathlib.Core.List.{List, [], _∷_, _++_}
 use lib.ListN.{length, take, drop, getD}
 use lib.Seq.{getD-take, getD-drop}
@@ -9,7 +9,7 @@ use lib.Ieee.{Float, nan}
 use Rattle.plane.specs.declared.Point.{Point}
 use Rattle.plane.specs.declared.Curve.{Curve}
 use Rattle.marks.specs.Marks.{count, markAt}
-use Rattle.part.specs.Part.{Part, fits, cuts, fails, partOf}
+use Rattle.part.specs.Part.{fits}
 use Rattle.cut.specs.Run.{Run, refused, done, flat, leftOf, rightOf, join, runOf}
 use Rattle.cut.specs.Chain.{Chain, one, more}
 use Rattle.part.proofs.Ends.{Sound}

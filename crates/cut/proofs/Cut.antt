@@ -1,7 +1,7 @@
 -- What the cycle {fit_part, cut_part} cites: plain laws, of lists and runs, with no place of the code in them. Assumes nothing.
-use Prim.Native.Nat.{ℕ, zero, suc, _+_, _-_, _*_, _/_, _≤_, _<_}
+use Prim.Native.Nat.{ℕ, _+_, _-_, _*_, _≤_, _<_}
 use native.Mathlib.Omega.{arith}
-use mathlib.Core.Path.{_≡_, refl, sym, ap, subst, _∙_}
+use mathlib.Core.Path.{_≡_, refl, sym, ap, _∙_}
 use mathlib.Core.List.{List, [], _∷_, _++_, append-nil, append-assoc}
 use lib.ListN.{length, take, drop, set, length-append, length-take, length-drop, drop-of-length-le}
 use lib.Seq.{take-all, take-at, drop-at, drop-drop, take-append-le}
@@ -18,7 +18,7 @@ use Rattle.part.specs.declared.Tried.{Tried}
 use Rattle.part.specs.declared.Tried.the-variants.{Good, Cut}
 use Rattle.part.specs.declared.Tried.the-variants.{Refused as TRefused}
 use Rattle.part.proofs.Ends.{Sound, part-sound}
-use Rattle.cut.specs.Run.{Run, refused, done, flat, waysAt, leftOf, rightOf, join, turned, runOf, cutOf}
+use Rattle.cut.specs.Run.{Run, refused, done, flat, waysAt, leftOf, rightOf, join, runOf, cutOf}
 use Rattle.cut.specs.Lent.{turnAnswer, Left, Room}
 use Rattle.cut.specs.declared.Ways.{Ways}
 use Rattle.cut.specs.declared.Turn.{Turn}

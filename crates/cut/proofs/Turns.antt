@@ -6,7 +6,7 @@ use mathlib.Core.List.{List}
 use lib.Ieee.{Float, ofBits, neg}
 use Rattle.float.specs.Number.{finite, f1}
 use Rattle.float.specs.Calc.{Calc, give, _>>=_}
-use Rattle.float.specs.Answer.{Answer, ok, refused, outcome}
+use Rattle.float.specs.Answer.{ok, refused, outcome}
 use Rattle.float.specs.Answer.{_>>=_ as chain}
 use Rattle.float.proofs.Truth.{and-true}
 use Rattle.float.proofs.Strict.{Fin}

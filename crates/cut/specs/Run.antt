@@ -1,7 +1,7 @@
 -- The run of a part: one curve, or the run of its left side and then of its right. Definitions only.
 use Prim.Native.Nat.{ℕ, zero, suc, _+_, _-_, _*_}
 use mathlib.Core.List.{List, [], _∷_, _++_}
-use lib.ListN.{length, take, drop}
+use lib.ListN.{take, drop}
 use lib.Ieee.{Float, neg}
 use Rattle.float.specs.Number.{f1}
 use Rattle.float.specs.Calc.{Calc, give, _>>=_}

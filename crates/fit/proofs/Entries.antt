@@ -1,15 +1,15 @@
 -- What a passed gate gives a run, and the three ways a fit ends. Assumes nothing.
-use Prim.Native.Nat.{ℕ, zero, suc, _+_, _-_, _*_, _/_, _%_, _≤_, _<_}
+use Prim.Native.Nat.{ℕ, zero, suc, _+_, _%_, _≤_}
 use native.Mathlib.Omega.{arith}
-use mathlib.Core.Path.{_≡_, refl, sym, ap, _∙_, subst}
-use mathlib.Core.Bool.{Bool, true, false, not, _&&_, cond}
-use mathlib.Core.List.{List, [], _∷_, _++_}
+use mathlib.Core.Path.{_≡_, refl, sym, _∙_, subst}
+use mathlib.Core.Bool.{Bool, true, false, not, cond}
+use mathlib.Core.List.{List, _++_}
 use lib.ListN.{length, take, drop, replicate, length-take}
 use lib.Dec.{leb, ltb, eqb}
-use lib.Ieee.{Float, nan, inf, fin, le, lt, eq, ofBits}
+use lib.Ieee.{Float, eq}
 use borrow.Author.Tests.{eq-eqb, ne-eqb, eqb-true}
-use Rattle.float.specs.Number.{f0, f2, finite, abs}
-use Rattle.float.specs.Answer.{Answer, ok}
+use Rattle.float.specs.Number.{f0}
+use Rattle.float.specs.Answer.{ok}
 use Rattle.float.specs.Answer.{refused as no}
 use Rattle.plane.specs.declared.Point.{Point}
 use Rattle.marks.specs.Marks.{count}
@@ -23,7 +23,7 @@ use Rattle.cut.specs.declared.Fitted.the-variants.{Curves, Refused}
 use Rattle.cut.proofs.Cut.{Done, is-done, is-refused, front-length}
 use Rattle.blocks.specs.declared.Cutting.{Cutting}
 use Rattle.blocks.specs.Blocks.{blocksOf}
-use Rattle.fit.specs.Fit.{fittedAnswer, Ending, ending, ended, entered, component, areTangents, cubicGate}
+use Rattle.fit.specs.Fit.{fittedAnswer, ending, ended, entered, areTangents, cubicGate}
 
 -- ---- block sizes
 

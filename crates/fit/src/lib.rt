@@ -1,6 +1,5 @@
 // The fits: the marks of an outline to curves. Each tests its own arguments, and a refused run leaves zeros.
 ghost use mathlib.Core.Path.{_≡_};
-ghost use Prim.Native.Nat.{_≤_};
 ghost use lib.ListN.{length, replicate};
 ghost use Rattle.float.specs.Number.{f0};
 ghost use Rattle.blocks.specs.declared.Cutting.the-variants as variants;

@@ -1,8 +1,8 @@
 -- An operation's result is finite only where its operands are; of a quotient only the dividend. So where the end of a chain of sums,
 -- differences and products is finite, each operation on the way gave a finite number. Assumes nothing.
-use mathlib.Core.Path.{_≡_, refl, sym, subst}
+use mathlib.Core.Path.{_≡_, refl, sym}
 use mathlib.Core.Bool.{Bool, true, false, not, cond}
-use lib.Dec.{T, eqb}
+use lib.Dec.{eqb}
 use lib.Ieee.{Float, nan, inf, fin, Format, neg, add, sub, mul, div, lt, unlike}
 use Rattle.float.specs.Number.{finite}
 use Rattle.float.proofs.Truth.{never}

@@ -1,12 +1,12 @@
 -- Zero times a finite number is a zero, and zero times any other is a NaN. So a product that starts with zero is a zero exactly where
 -- every factor is finite. Assumes nothing.
-use mathlib.Core.Path.{_≡_, refl, sym, ap, _∙_}
-use mathlib.Core.Bool.{Bool, true, false, cond, _&&_}
-use Prim.Native.Nat.{ℕ, zero, suc, _+_, _-_, _*_, _/_, _%_, _^_, _<_, compare, Ordering, Ordering·lt, compare·zero-suc}
-use native.Mathlib.Nat.{lt-irrefl, zero-mul, zero-div, zero-mod, one-mul, mul-pos, zero-sub}
-use lib.IntN.{ℤ, pos, negsuc}
+use mathlib.Core.Path.{_≡_, refl, ap, _∙_}
+use mathlib.Core.Bool.{Bool, true, false, _&&_}
+use Prim.Native.Nat.{ℕ, zero, suc, _-_, _*_, _/_, _^_, _<_, compare, Ordering, Ordering·lt, compare·zero-suc}
+use native.Mathlib.Nat.{lt-irrefl, zero-mul, zero-div, zero-mod, one-mul, mul-pos}
+use lib.IntN.{ℤ, pos}
 use lib.Pow.{pow-pos}
-use lib.Ieee.{Float, nan, inf, fin, Format, binary64, prec, low, up, down, size, nearest, odd, units, round, mul, eq, ofBits, unlike}
+use lib.Ieee.{Float, nan, inf, fin, binary64, prec, low, up, down, size, odd, units, round, mul, eq, ofBits, unlike}
 use lib.Ieee.Fits.{core, round-is, down-pos}
 use Rattle.float.specs.Number.{finite, f0}
 

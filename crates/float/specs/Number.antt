@@ -1,5 +1,4 @@
 -- Numbers of binary64 and Rust's small functions on them, over the values of the logic's IEEE 754 (`lib.Ieee`). Definitions only.
-use Prim.Native.Nat.{ℕ}
 use mathlib.Core.Bool.{Bool, true, false, cond}
 use lib.Ieee.{Float, nan, inf, fin, binary64, ofBits, isNan, lt, neg}
 

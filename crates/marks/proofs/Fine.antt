@@ -1,15 +1,14 @@
 -- The line and the tangents: a run was fine exactly where the numbers that the code tests are finite. Assumes nothing.
-use mathlib.Core.Path.{_≡_, refl, sym, ap, _∙_}
+use mathlib.Core.Path.{_≡_, sym, ap, _∙_}
 use mathlib.Core.Bool.{Bool, true, false, _&&_}
 use mathlib.Core.List.{List}
 use Prim.Native.Nat.{_-_}
-use lib.Ieee.{Float, binary64}
+use lib.Ieee.{Float}
 use Rattle.float.specs.Number.{finite}
-use Rattle.float.specs.Calc.{Calc, _>>=_}
-use Rattle.float.specs.Answer.{Answer, ok, refused, unless, outcome}
+use Rattle.float.specs.Answer.{ok, refused, unless, outcome}
 use Rattle.float.proofs.Truth.{and-left, and-right, and-false, and-implied, both, same, is-so}
 use Rattle.float.proofs.Strict.{Fin}
-use Rattle.float.proofs.Answers.{Fine, granted, denied, outcome-ok, outcome-no, outcome-by}
+use Rattle.float.proofs.Answers.{Fine, outcome-ok, outcome-no}
 use Rattle.plane.specs.Plane.{plus, minus, times, magnitudeOf, unitBy, unitOf}
 use Rattle.plane.specs.Range.{pointFinite}
 use Rattle.plane.specs.declared.Point.{Point}

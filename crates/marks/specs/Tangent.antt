@@ -1,6 +1,6 @@
 -- start_tangent, end_tangent and tangent_between of fit.rs. Definitions only.
 use mathlib.Core.List.{List}
-use Prim.Native.Nat.{ℕ, _-_}
+use Prim.Native.Nat.{_-_}
 use lib.Ieee.{Float, binary64, ofBits}
 use Rattle.float.specs.Calc.{Calc, _>>=_}
 use Rattle.plane.specs.Plane.{plus, minus, times, unitOf}

@@ -1,18 +1,17 @@
 -- What the cutting wants of a part, on every input: its curve runs from the first mark to the last, with a parameter for each mark, and a cut
 -- falls between them. Assumes nothing.
 use mathlib.Core.Path.{_≡_, refl, sym, ap, _∙_, subst}
-use mathlib.Core.Bool.{Bool, true, false, _&&_, _||_, cond}
-use mathlib.Core.List.{List, [], _∷_}
+use mathlib.Core.Bool.{Bool, true, false, _||_, cond}
+use mathlib.Core.List.{List}
 use Prim.Native.Nat.{ℕ, zero, suc, _+_, _-_, _≤_, _<_}
 use native.Mathlib.Omega.{arith}
 use lib.ListN.{length, getD}
 use lib.Dec.{leb, eqb}
 use lib.Ieee.{Float, nan, binary64, lt, le, div}
-use borrow.Author.Tests.{leb-true, leb-false, eqb-false}
+use borrow.Author.Tests.{leb-true, eqb-false}
 use Rattle.float.specs.Calc.{Calc, give}
-use Rattle.float.specs.Answer.{Answer, ok, refused, unless, outcome}
+use Rattle.float.specs.Answer.{ok, unless, outcome}
 use Rattle.float.specs.Folds.{upto}
-use Rattle.float.proofs.Answers.{pick-val}
 use Rattle.float.proofs.Folds.{each-length}
 use Rattle.plane.specs.declared.Point.{Point}
 use Rattle.plane.specs.declared.Curve.{Curve}

@@ -1,8 +1,8 @@
 -- A part's rounds, by what the code's calls answer. Assumes nothing.
 use mathlib.Core.Path.{_≡_, refl, sym, ap, _∙_, subst}
-use mathlib.Core.Bool.{Bool, true, false, _&&_, _||_, cond}
+use mathlib.Core.Bool.{Bool, true, false, _||_, cond}
 use mathlib.Core.List.{List, [], _∷_}
-use Prim.Native.Nat.{ℕ, zero, suc, _-_, _*_, _/_, _≤_, _<_}
+use Prim.Native.Nat.{ℕ, suc, _-_, _*_, _/_, _≤_, _<_}
 use native.Mathlib.Omega.{arith}
 use borrow.Author.Tests.{le-leb, lt-leb}
 use lib.Dec.{eqb}
@@ -29,7 +29,7 @@ use Rattle.stages.specs.declared.worst.Far.{Far}
 use Rattle.stages.specs.declared.worst.Far.the-variants as far
 use Rattle.squares.specs.Squares.{generateOf}
 use Rattle.part.specs.Trial.{Trial, attempt, enough, improve, tried}
-use Rattle.part.specs.Part.{Part, fits, cuts, fails, pick, lined, judged, partOf}
+use Rattle.part.specs.Part.{fits, cuts, fails, pick, lined, judged, partOf}
 use Rattle.part.specs.Answers.{SolvesAs, Solves, trialOf, Did, pickTried, verdict}
 use Rattle.part.specs.declared.Solved.{Solved}
 use Rattle.part.specs.declared.Solution.{Solution}

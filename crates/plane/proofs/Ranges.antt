@@ -1,6 +1,6 @@
 -- The range of a number by one comparison. Assumes nothing.
 use mathlib.Core.Path.{_≡_, refl}
-use mathlib.Core.Bool.{Bool, true, false, _&&_}
+use mathlib.Core.Bool.{true}
 use lib.Ieee.{Float, nan, inf, fin, le, lt, eq}
 use Rattle.float.specs.Number.{finite, abs}
 use Rattle.float.proofs.Truth.{never}

@@ -1,15 +1,15 @@
 -- `sqrt` where it does not come to digits: by the two tests, x > 0 and x == 0, and by the pattern of an infinity. Assumes nothing.
 use mathlib.Core.Path.{_≡_, refl, sym, ap, _∙_, subst}
-use mathlib.Core.Logic.{_⊎_, inl, inr}
-use Prim.Native.Nat.{ℕ, zero, suc, _+_, _-_, _*_, _/_, _%_, _^_, _≤_, _<_}
-use native.Mathlib.Nat.{eq-zero-or-pos, lt-irrefl, zero-mul, mul-one, mul-pos, zero-lt-suc, mod-eq-of-lt}
+use mathlib.Core.Logic.{inl, inr}
+use Prim.Native.Nat.{ℕ, zero, suc, _+_, _*_, _/_, _%_, _^_, _≤_, _<_}
+use native.Mathlib.Nat.{eq-zero-or-pos, lt-irrefl, zero-mul, mul-one, mul-pos, zero-lt-suc}
 use native.Mathlib.Omega.{arith}
-use mathlib.Core.Bool.{Bool, true, false, not, _&&_, cond, true≢false, false≢true}
-use lib.IntN.{ℤ, pos, negsuc}
-use lib.Dec.{T, leb, ltb, eqb, leb→le, ltb→lt, lt→ltb, nltb→le, nleb→lt, le→leb, eqb→eq, eqb-refl}
+use mathlib.Core.Bool.{Bool, true, false, not, cond, true≢false, false≢true}
+use lib.IntN.{ℤ, pos}
+use lib.Dec.{T, leb, ltb, eqb, leb→le, lt→ltb, nleb→lt, le→leb, eqb→eq}
 use lib.Ieee.{Float, nan, inf, fin, binary64, up, down, fits, isNan, lt, eq, level, odd, ofFields, ofBits, toBits}
 use lib.Ieee.Fits.{up-pos, and-l}
-use lib.Ieee.Bits.{ofBits-toBits, toBits-lt, is-true, is-false}
+use lib.Ieee.Bits.{ofBits-toBits, is-true}
 use Rattle.root.specs.Root.{sqrt}
 
 abbrev pub zero! : Float

@@ -1,5 +1,5 @@
 -- The root of a * 2 ^ 54, digit by digit: one turn keeps the sum, and after 54 turns it is the root. Assumes nothing.
-use mathlib.Core.Path.{_≡_, refl, sym, ap, _∙_, subst}
+use mathlib.Core.Path.{_≡_, sym, ap, _∙_, subst}
 use Prim.Native.Nat.{ℕ, zero, suc, _+_, _-_, _*_, _/_, _%_, _^_, _≤_, _<_}
 use native.Mathlib.Nat.{lt-of-lt-of-le, pow-suc}
 use native.Mathlib.Numerals.{add-one}

@@ -1,9 +1,9 @@
 -- What a caller of `sqrt` may want: at a finite x that is not below zero the root is finite and not below zero, and a larger x has no
 -- smaller root. Assumes nothing.
 use mathlib.Core.Path.{_≡_, refl, sym, ap, _∙_, subst}
-use mathlib.Core.Logic.{_⊎_, inl, inr}
-use Prim.Native.Nat.{ℕ, zero, suc, _+_, _-_, _*_, _/_, _^_, _≤_, _<_, zero-le}
-use native.Mathlib.Nat.{le-trans, le-of-eq, lt-of-lt-of-le, lt-irrefl, eq-or-lt-of-le, mul-pos, mul-le-mul-right, zero-mul, zero-lt-suc, mul-right-comm}
+use mathlib.Core.Logic.{inl, inr}
+use Prim.Native.Nat.{ℕ, zero, suc, _+_, _*_, _/_, _^_, _≤_, _<_, zero-le}
+use native.Mathlib.Nat.{le-trans, le-of-eq, lt-irrefl, eq-or-lt-of-le, mul-pos, mul-le-mul-right, zero-mul, zero-lt-suc, mul-right-comm}
 use native.Mathlib.Omega.{arith}
 use mathlib.Core.Bool.{Bool, true, false, not, cond}
 use lib.Dec.{T, eqb, eqb→eq, T-not, lt→ltb}
@@ -21,7 +21,7 @@ use Rattle.float.proofs.Truth.{never}
 use Rattle.float.proofs.Strict.{Fin}
 use Rattle.float.proofs.Ranks.{Le, says, said}
 use Rattle.root.proofs.Root.{root-root, root-le}
-use Rattle.root.proofs.Nearest.{Result, result, value-plain}
+use Rattle.root.proofs.Nearest.{result, value-plain}
 use Rattle.root.proofs.Cases.{zero! }
 
 -- ---- signs

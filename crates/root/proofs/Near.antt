@@ -1,12 +1,12 @@
 -- What `is_root` finds, and what follows from it. Assumes nothing.
-use mathlib.Core.Path.{_≡_, refl, sym, ap, _∙_, subst}
-use Prim.Native.Nat.{ℕ, zero, suc, _+_, _-_, _*_, _/_, _%_, _^_, _≤_, _<_}
+use mathlib.Core.Path.{_≡_, sym, subst}
+use Prim.Native.Nat.{ℕ, suc, _+_, _-_, _*_, _/_, _%_, _^_, _≤_, _<_}
 use native.Mathlib.Nat.{le-of-lt, mul-le-mul}
 use native.Mathlib.Omega.{arith}
 use mathlib.Core.Bool.{false}
 use lib.Ieee.{Float, binary64, ofBits}
 use lib.Ieee.Exact.{HasValue}
-use Rattle.root.specs.Root.{IsRoot, IsNear, root, sqrt}
+use Rattle.root.specs.Root.{IsNear, root, sqrt}
 use Rattle.root.proofs.Root.{root-root, root-le}
 use Rattle.root.proofs.Whole.{of-root}
 

@@ -5,7 +5,6 @@ use native.Mathlib.Nat.{le-trans, le-of-eq, lt-of-lt-of-le, lt-of-le-of-lt, lt-o
 use native.Mathlib.Omega.{arith}
 use mathlib.Core.Bool.{Bool, true, false, not, cond, true≢false}
 use lib.Dec.{T, ltb, ltb→lt, lt→ltb, nltb→le, lit<}
-use lib.IntN.{ℤ}
 use lib.Pow.{pow-add, pow-pos}
 use lib.Ieee.{Float, nan, inf, fin, binary64, up, down, lt, fits, size, top, hid, ofBits, toBits}
 use lib.Ieee.Fits.{down-pos, round-fits}
@@ -17,7 +16,7 @@ use lib.Count.{leadingZeros}
 use Rattle.root.specs.Root.{IsRoot, root, twiceRoot, sqrt, plain, MiddleUnder, MiddleOver, Nearest}
 use Rattle.root.proofs.Root.{root-root}
 use Rattle.root.proofs.Pattern.{normal, low-value, normal-value}
-use Rattle.root.proofs.Low.{Moved, moved, shifted, few, low-places, normal-places}
+use Rattle.root.proofs.Low.{moved, shifted, few, low-places, normal-places}
 use Rattle.root.proofs.Whole.{digits-lo, digits-hi, lead, short, even-places, halves, odd-square, of-root}
 use Rattle.root.proofs.Cases.{zero!, above-pos, above-lt, top-is}
 use Rattle.root.proofs.Middles.{upper, lower, grid-above, grid-below, lt→cross, cross→units, under, over}

@@ -1,11 +1,10 @@
 -- The root of a value above zero, from the whole root of its digits: what the code computes is `sqrt`. Assumes nothing.
 use mathlib.Core.Path.{_≡_, refl, sym, ap, _∙_, subst}
 use Prim.Native.Nat.{ℕ, zero, suc, _+_, _-_, _*_, _/_, _%_, _^_, _≤_, _<_}
-use native.Mathlib.Nat.{le-trans, le-of-eq, lt-of-lt-of-le, lt-irrefl, zero-mul, mul-pos, mul-div-cancel, mul-mul-mul-comm, mul-comm, mul-assoc, eq-of-mul-eq-mul-right, mul-le-mul-right, mul-lt-mul-of-pos-right, mod-eq-of-lt}
+use native.Mathlib.Nat.{le-trans, le-of-eq, lt-of-lt-of-le, lt-irrefl, zero-mul, mul-pos, mul-div-cancel, mul-mul-mul-comm, mul-comm, mul-assoc, eq-of-mul-eq-mul-right, mul-le-mul-right, mod-eq-of-lt}
 use native.Mathlib.Omega.{arith}
-use mathlib.Core.Bool.{Bool, true, false, not, true≢false}
-use lib.Dec.{T, not-T, ltb→lt, lit≤, lit<}
-use lib.IntN.{ℤ}
+use mathlib.Core.Bool.{true, false, not, true≢false}
+use lib.Dec.{T, not-T, ltb→lt, lit<}
 use lib.Pow.{pow-add, pow-pos, pow-mono, shl-lt}
 use lib.Ieee.{Float, nan, inf, fin, binary64, up, down, units, round, ofBits, nanBits}
 use lib.Ieee.Bits.{nanBits-above}

@@ -33,7 +33,7 @@ use Rattle.roots.specs.Find.{half, Seen, nothing, root, halved, rootSeen, halve
 use Rattle.roots.specs.declared.find.Waiting.{Waiting}
 use Rattle.roots.proofs.Stack.{halved-low}
 use Rattle.sections.specs.Mid.{mid, upright}
-use Rattle.sections.proofs.Vary.{ch, changes}
+use Rattle.sections.proofs.Vary.{ch}
 use Rattle.sections.proofs.Tree.{Six, left, right, m2, m3, m4, vary, below, live, fine, FitSix, HalvedSix}
 use Rattle.sections.proofs.Tree.{halved as halved-six}
 use Rattle.sections.proofs.Ends.{fit-left, fit-right}

@@ -1,6 +1,6 @@
 -- The distance of a mark: fine exactly where it is finite, and never negative. Assumes nothing.
 use mathlib.Core.Path.{_≡_, refl, sym, ap, _∙_}
-use mathlib.Core.Bool.{Bool, true, false, _&&_}
+use mathlib.Core.Bool.{true, false}
 use mathlib.Core.List.{List}
 use lib.Ieee.{Float, binary64}
 use Rattle.float.specs.Number.{finite}
@@ -13,11 +13,10 @@ use Rattle.float.proofs.Signs.{negative}
 use Rattle.float.proofs.Answers.{Fine, outcome-then}
 use Rattle.root.specs.Root.{sqrt}
 use Rattle.root.specs.Operation.{sqrt! }
-use Rattle.plane.specs.Plane.{minus, dotOf}
+use Rattle.plane.specs.Plane.{minus}
 use Rattle.plane.specs.declared.Point.{Point}
 use Rattle.plane.specs.declared.Curve.{Curve}
 use Rattle.plane.proofs.Fine.{dot-fine, dot-bad, minus-fine, dot-sign}
-use Rattle.cubic.specs.Basis.{pointAt}
 use Rattle.cubic.proofs.Fine.{point-fine}
 use Rattle.stages.specs.Worst.{errorOf, worst, maxError}
 use Rattle.stages.specs.declared.worst.Worst.{Worst}

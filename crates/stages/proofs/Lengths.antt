@@ -4,17 +4,17 @@ use mathlib.Core.Bool.{Bool, true, _&&_}
 use mathlib.Core.List.{List, [], _∷_, _++_}
 use Prim.Native.Nat.{ℕ, zero, suc, _+_, _-_, _≤_, _<_}
 use native.Mathlib.Omega.{arith}
-use lib.ListN.{length, getD, set, drop, length-set}
+use lib.ListN.{length, getD, set, drop}
 use lib.Ieee.{Float, nan, binary64, add, ofBits}
 use Rattle.float.specs.Number.{f0, finite}
 use Rattle.float.specs.Calc.{Calc, give, _/!_}
 use Rattle.float.specs.Folds.{each}
-use Rattle.float.proofs.Truth.{and-left, and-right, both, same}
+use Rattle.float.proofs.Truth.{and-right, same}
 use Rattle.float.proofs.Strict.{Fin, add-finite}
 use Rattle.float.proofs.Answers.{Fine}
 use Rattle.float.proofs.Folds.{each-length}
 use Rattle.root.specs.Root.{sqrt}
-use Rattle.plane.specs.Plane.{minus, dotOf, magnitudeOf, distanceOf}
+use Rattle.plane.specs.Plane.{magnitudeOf, distanceOf}
 use Rattle.plane.proofs.Fine.{distance-fine}
 use Rattle.marks.specs.Marks.{markAt}
 use Rattle.stages.specs.Chords.{along, lengths, partAt, parts, squareAt, chordsOf}

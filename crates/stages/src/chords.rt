@@ -2,8 +2,6 @@
 ghost use mathlib.Core.Path.{_≡_};
 ghost use Prim.Native.Nat.{_+_, _-_, _*_, _<_};
 ghost use lib.ListN.{length};
-ghost use Rattle.plane.specs.Plane.{minus, dotOf};
-ghost use Rattle.marks.specs.Marks.{markAt};
 ghost use Rattle.stages.specs.Chords.{along, lengths, parts, chordsOf, squareAt};
 
 // The square of the distance from the mark before mark k to mark k.

@@ -1,6 +1,6 @@
 -- The definitions compute to the worked cases. Assumes nothing.
-use mathlib.Core.Path.{_≡_, refl}
-use lib.Ieee.{Float, binary64, ofBits, add, sub, mul, lt, le, eq, neg, round, size}
+use mathlib.Core.Path.{refl}
+use lib.Ieee.{ofBits, add, sub, mul, lt, le, eq, neg, round, size}
 use Rattle.float.specs.Number.{finite}
 use Rattle.root.specs.Root.{sqrt, rootIn, root, twiceRoot}
 use Rattle.plane.specs.Plane.{plus, minus, times}

@@ -6,7 +6,6 @@ use Rattle.float.specs.Number.{f0, f1, f2}
 use Rattle.float.specs.Calc.{give}
 use Rattle.root.specs.Root.{sqrt}
 use Rattle.plane.specs.Plane.{at}
-use Rattle.plane.specs.declared.Point.{Point}
 use Rattle.plane.specs.declared.Curve.{Curve}
 use Rattle.marks.specs.Block.{blockSize}
 use Rattle.marks.specs.Line.{lineOf}

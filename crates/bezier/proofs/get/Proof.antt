@@ -1,7 +1,6 @@
 -- `bezier::get` meets its contract. Assumes nothing.
 use mathlib.Core.Path.{_≡_, refl, sym, ap}
 use Prim.Native.Nat.{ℕ, zero, suc}
-use lib.Ieee.{Float}
 use Rattle.plane.specs.declared.Point.{Point}
 use Rattle.bezier.specs.Calls.{coordinateOf}
 use Rattle.bezier.proofs.get.Statement.{statement}

@@ -1,6 +1,5 @@
 -- `blocks::shared` meets its contract. Assumes nothing.
 use borrow.Author.Needs.{needs}
-use mathlib.Core.Path.{refl}
 use Rattle.blocks.specs.Blocks.{over}
 use Rattle.blocks.proofs.shared.Statement.{statement}
 use Rattle.blocks.proofs.shared.Tie as tie

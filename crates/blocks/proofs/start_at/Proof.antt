@@ -1,7 +1,6 @@
 -- `blocks::start_at` meets its contract. Assumes nothing.
 use borrow.Author.Needs.{needs}
 use native.Mathlib.Omega.{arith}
-use mathlib.Core.Path.{refl}
 use borrow.Author.Tests.{le-leb, lt-leb}
 use Rattle.blocks.specs.Blocks.{startAt}
 use Rattle.blocks.proofs.start_at.Statement.{statement}

@@ -1,8 +1,6 @@
 -- `blocks::ways_of`: each tangent taken out first. Assumes nothing.
 use borrow.Author.Needs.{needs}
 use native.Mathlib.Omega.{arith}
-use Prim.Native.Nat.{ℕ, _≤_, _<_, _-_, _+_, _*_}
-use mathlib.Core.Path.{_≡_, refl, sym, ap, _∙_}
 use lib.ListN.{length, length-take, length-drop}
 use Rattle.cut.specs.Lent.{turnAnswer}
 use Rattle.blocks.proofs.Tangents.{start-low, end-within, no-start, no-end, both-ways}

@@ -1,8 +1,8 @@
 -- The cycle {cut_part, fit_part} ends and keeps its promises. The measure is the length of the marks, and one more at fit_part, which hands cut_part the same marks.
 -- Each answer hands what is known at its place to one law of Cut: `call` is cut_part's entry, `half` what is known once the left side is done. Assumes nothing.
-use Prim.Native.Nat.{ℕ, _<_, _+_, _-_, _*_}
+use Prim.Native.Nat.{ℕ, _<_, _+_}
 use native.Mathlib.Omega.{arith}
-use mathlib.Core.Path.{_≡_, refl, _∙_}
+use mathlib.Core.Path.{_∙_}
 use lib.ListN.{length, length-take}
 use borrow.Author.Needs.{needs}
 use Rattle.cut.proofs.Cut as laws

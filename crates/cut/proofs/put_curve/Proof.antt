@@ -1,8 +1,7 @@
 -- `cut::put_curve` meets its contract: eight stores from index 0 on. Assumes nothing.
 use native.Mathlib.Omega.{arith}
-use mathlib.Core.Path.{_≡_, refl}
 use lib.ListN.{length, length-set}
-use lib.Seq.{sets-eq, length-sets}
+use lib.Seq.{sets-eq}
 use borrow.Author.Needs.{needs}
 use Rattle.cut.specs.Run.{flat}
 use Rattle.cut.proofs.put_curve.Statement.{statement}

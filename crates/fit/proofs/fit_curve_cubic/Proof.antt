@@ -1,7 +1,7 @@
 -- `fit::fit_curve_cubic`: the gate, then the run, then zeros if it is refused. Assumes nothing.
 use borrow.Author.Needs.{needs}
 use native.Mathlib.Omega.{arith}
-use mathlib.Core.Path.{sym, _∙_}
+use mathlib.Core.Path.{_∙_}
 use lib.ListN.{length, length-take}
 use Rattle.marks.specs.Marks.{count}
 use Rattle.cut.specs.Run.{runOf}

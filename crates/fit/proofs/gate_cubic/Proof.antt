@@ -1,6 +1,5 @@
 -- `fit::gate_cubic`: each return is decided by the tests before it. Assumes nothing.
 use borrow.Author.Needs.{needs}
-use mathlib.Core.Path.{refl}
 use borrow.Author.Tests.{eq-eqb, ne-eqb, not-true, not-false}
 use Rattle.fit.specs.Fit.{cubicGate}
 use Rattle.fit.proofs.gate_cubic.Statement.{statement}

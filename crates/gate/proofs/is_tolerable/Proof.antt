@@ -1,6 +1,5 @@
 -- `gate::is_tolerable` meets its contract. Assumes nothing.
 use borrow.Author.Needs.{needs}
-use mathlib.Core.Path.{refl}
 use Rattle.gate.specs.Gate.{tolerable}
 use Rattle.gate.proofs.is_tolerable.Statement.{statement}
 use Rattle.gate.proofs.is_tolerable.Tie as tie

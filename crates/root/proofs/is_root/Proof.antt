@@ -1,7 +1,6 @@
 -- `root::is_root` meets its contract, by `checked` of `proofs/Near.antt`. Assumes nothing.
 use borrow.Author.Needs.{needs}
-use borrow.Author.Tests.{ltb-true}
-use Prim.Native.Nat.{ℕ, _+_, _-_, _*_, _/_, _%_, _^_, _≤_, _<_}
+use Prim.Native.Nat.{_-_, _*_, _/_, _%_, _^_, _≤_}
 use mathlib.Core.Path.{sym, subst}
 use mathlib.Core.Bool.{false≢true}
 use native.Mathlib.Omega.{arith}
@@ -9,8 +8,6 @@ use lib.Dec.{T, ltb→lt}
 use Rattle.root.proofs.Near.{halves, products, checked}
 use Rattle.root.proofs.is_root.Statement.{statement}
 use Rattle.root.proofs.is_root.Tie as tie
-use Rattle.root.proofs.is_root.Reads as reads
-use Rattle.root.proofs.is_root.Lts as lts
 
 -- the products of the halves fit
 small : (c : tie.Start) →

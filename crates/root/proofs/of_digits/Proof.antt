@@ -1,15 +1,13 @@
 -- `root::of_digits` meets its contract: a candidate that passed its test by `of-near`, and any other by `of-root`. Assumes nothing.
 use borrow.Author.Needs.{needs}
-use Prim.Native.Nat.{ℕ, _*_, _%_, _^_, _≤_, _<_, _-_}
-use mathlib.Core.Path.{subst, sym}
+use Prim.Native.Nat.{ℕ, _*_, _%_, _^_, _≤_, _-_}
+use mathlib.Core.Path.{subst}
 use native.Mathlib.Omega.{arith}
 use Rattle.root.specs.Root.{IsRoot, IsNear}
 use Rattle.root.proofs.Whole.{shifted, shifted-top, root-top, no-nan, of-root}
 use Rattle.root.proofs.Near.{of-near}
 use Rattle.root.proofs.of_digits.Statement.{statement}
 use Rattle.root.proofs.of_digits.Tie as tie
-use Rattle.root.proofs.of_digits.Reads as reads
-use Rattle.root.proofs.of_digits.Lts as lts
 
 shl-a : tie.Need-shl-a
 shl-a c = search needs

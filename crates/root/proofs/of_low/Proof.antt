@@ -1,6 +1,6 @@
 -- `root::of_low` meets its contract. Assumes nothing.
 use borrow.Author.Needs.{needs}
-use Prim.Native.Nat.{ℕ, _+_, _*_, _/_, _%_, _^_, _≤_, _<_, _-_}
+use Prim.Native.Nat.{ℕ, _*_, _%_, _^_, _≤_, _<_, _-_}
 use mathlib.Core.Path.{subst, sym}
 use native.Mathlib.Omega.{arith}
 use lib.Count.{leadingZeros}

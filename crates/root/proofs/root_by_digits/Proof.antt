@@ -1,13 +1,10 @@
 -- `root::root_by_digits` meets its contract: the loop's invariant is `Digits`. Assumes nothing.
-use Prim.Native.Nat.{_-_, _^_, _≤_, _<_}
-use mathlib.Core.Path.{subst, sym}
+use Prim.Native.Nat.{_-_, _^_, _<_}
 use native.Mathlib.Omega.{arith}
 use mathlib.Core.Logic.{⊎-elim}
 use Rattle.root.proofs.Digits.{Digits, top, start, turn-one, turn-zero, done, moved}
 use Rattle.root.proofs.root_by_digits.Statement.{statement}
 use Rattle.root.proofs.root_by_digits.Tie as tie
-use Rattle.root.proofs.root_by_digits.Reads as reads
-use Rattle.root.proofs.root_by_digits.Lts as lts
 
 abbrev Inv-loop : tie.InvT-loop
 Inv-loop a root₀ rest₀ left₀ i₀ root rest left i = Digits a root rest left i

@@ -1,5 +1,4 @@
 -- `marks::block::max_points_to_fit` meets its contract. Assumes nothing.
-use borrow.Author.Needs.{needs}
 use native.Mathlib.Omega.{arith}
 use Rattle.marks.proofs.Sizes.{Down, small, start, found, next, end}
 use Rattle.marks.proofs.block.max_points_to_fit.Statement.{statement}

@@ -1,6 +1,5 @@
 -- `marks::tangent::end_tangent` meets its contract. Assumes nothing.
 use mathlib.Core.Path.{sym, _∙_}
-use native.Mathlib.Omega.{arith}
 use Rattle.marks.proofs.Fine.{end-is}
 use borrow.Author.Needs.{needs}
 use Rattle.marks.proofs.tangent.end_tangent.Statement.{statement}

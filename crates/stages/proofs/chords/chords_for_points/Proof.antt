@@ -1,7 +1,6 @@
 -- `stages::chords::chords_for_points` meets its contract. Assumes nothing.
 use borrow.Author.Needs.{needs}
-use mathlib.Core.Path.{_≡_, sym, _∙_}
-use native.Mathlib.Omega.{arith}
+use mathlib.Core.Path.{_≡_}
 use lib.ListN.{length}
 use Rattle.stages.proofs.Lengths.{chords-are}
 use Rattle.stages.proofs.chords.chords_for_points.Statement.{statement}

@@ -1,11 +1,9 @@
 -- `stages::chords::sum_distances` meets its contract: the lengths stand up to the mark before k. Assumes nothing.
 use borrow.Author.Needs.{needs}
 use mathlib.Core.Path.{_≡_, ap, _∙_}
-use mathlib.Core.List.{List}
 use Prim.Native.Nat.{ℕ, _-_}
 use native.Mathlib.Omega.{arith}
 use lib.ListN.{length, set, length-set}
-use lib.Ieee.{Float}
 use Rattle.float.specs.Number.{f0}
 use Rattle.stages.specs.Chords.{along, lengths}
 use Rattle.stages.proofs.Lengths.{Summed, first, count, next, summed}
