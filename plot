@@ -279,7 +279,9 @@ def draw(name, tolerance, marks, firsts, curves):
         y0 += step
     head = (f'<svg xmlns="http://www.w3.org/2000/svg" width="{num(page_w)}mm" height="{num(page_h)}mm" viewBox="0 0 {num(page_w)} {num(page_h)}" '
             f'font-family="DejaVu Sans Condensed, Liberation Sans, Arial, Helvetica, sans-serif">')
-    return '\n'.join([head, f'<title>{notes[0].replace("&", "&amp;").replace("<", "&lt;")}</title>',
+    # a browser that prints makes its page of the drawing's own size
+    page_size = f'<style>@page {{ size: {num(page_w)}mm {num(page_h)}mm; margin: 0 }}</style>'
+    return '\n'.join([head, page_size, f'<title>{notes[0].replace("&", "&amp;").replace("<", "&lt;")}</title>',
                       '<rect width="100%" height="100%" fill="#ffffff"/>', *sheet.parts, '</svg>', ''])
 
 
