@@ -211,7 +211,9 @@ def draw(name, tolerance, marks, firsts, curves):
     column = max(100, 52 * WIDE * caption) + 3 * caption    # bar and signs; the notes stand beside them if the sheet is wide enough
     beside = field >= column + WIDE * caption * max(map(len, notes))
     band = 9 + 6.5 * caption + (0 if beside else (len(notes) + 0.5) * step)
-    page_w, page_h = field + 2 * edge, tall + 2 * edge + band
+    # 6.35 mm are 24 pixels and 18 points: a page of whole ones is rounded by no browser, which would stretch the drawing
+    page_w, page_h = (math.ceil(v / 6.35) * 6.35 for v in (field + 2 * edge, tall + 2 * edge + band))
+    field = page_w - 2 * edge
     ox, oy = edge + (field - wide) / 2 - left, edge + high
 
     def put(p):
