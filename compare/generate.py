@@ -250,7 +250,9 @@ def nonsense():
     yield 'source'
     yield 'direct 3FF0000000000000 0000000000000000'
     yield 'coefficients 3FF0000000000000 ' + ' '.join(['0000000000000000'] * 8)
+    yield 'coefficients 01 ' + ' '.join(['0000000000000000'] * 8)
     yield 'basis ' + ' '.join(['0000000000000000'] * 8)
+    yield 'sqrt  3FF0000000000000'
     yield 'check 3FF0000000000000 2 0000000000000000 0000000000000000'
 
 

@@ -63,7 +63,9 @@ fn number(w: &str) -> Option<f64> {
     let fair = w.len() == 16 && w.bytes().all(|b| b.is_ascii_digit() || (b'A'..=b'F').contains(&b));
     if fair { u64::from_str_radix(w, 16).ok().map(f64::from_bits) } else { None }
 }
-fn whole(w: &str) -> Option<usize> { if w.bytes().all(|b| b.is_ascii_digit()) { w.parse().ok() } else { None } }
+fn whole(w: &str) -> Option<usize> {
+    if w.bytes().all(|b| b.is_ascii_digit()) && (w == "0" || !w.starts_with('0')) { w.parse().ok() } else { None }
+}
 fn numbers(w: &[&str]) -> Option<Vec<f64>> { w.iter().map(|w| number(w)).collect() }
 
 /// The size of a block: `max_points_to_fit`, which the crate keeps to itself. Only the joined fit, which the crate has not, wants it here.
