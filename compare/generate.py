@@ -1,0 +1,263 @@
+#!/usr/bin/env python3
+"""generate.py [SEED]: prints cases for replay and for the Rust, one a line; the same seed gives the same lines.
+
+Single curves, nearest points, outlines (smooth, noisy, long, damaged), lists for the checker, and both sides of every limit.
+"""
+import math
+import random
+import struct
+import sys
+
+BIG, NAN, INF, LEAST = 1e6, math.nan, math.inf, 5e-324
+
+
+def hx(v):
+    return '7FF8000000000000' if v != v else '%016X' % struct.unpack('<Q', struct.pack('<d', v))
+
+
+def line(kind, *words):
+    flat = []
+    for w in words:
+        flat += [hx(v) for v in w] if isinstance(w, (list, tuple)) else [str(w) if isinstance(w, int) else hx(w)]
+    return ' '.join([kind] + flat)
+
+
+def above(v):
+    return math.nextafter(v, INF)
+
+
+# ---- outlines: count marks of a shape, x and y in turn
+
+def flat(points):
+    return [float(v) for p in points for v in p]
+
+
+def circle(n, r):
+    return flat((r * math.cos(5.6 * i / n), r * math.sin(5.6 * i / n)) for i in range(n))
+
+
+def luff(n, r):
+    return flat((10 * r * i / n, 0.2 * r * math.sin(math.pi * (i / n) ** 0.9)) for i in range(n))
+
+
+def wave(n, r):
+    return flat((r * 0.05 * i, r * math.sin(0.13 * i) * math.cos(0.041 * i)) for i in range(n))
+
+
+def noisy(n, r):
+    return [v + hand.gauss(0, 0.002 * r) for v in wave(n, r)]
+
+
+def corner(n, r):
+    return flat((r * min(i, n // 2) / n, r * max(0, i - n // 2) / n) for i in range(n))
+
+
+def foldback(n, r):
+    return flat((r * (i if i < n // 2 else n - i) / n, 0.0) for i in range(n))
+
+
+def resting(n, r):
+    """Each third mark three times over."""
+    return [v for i in range((n + 2) // 3) for v in wave(i + 1, r)[-2:] * 3][:2 * n]
+
+
+def cloud(n, r):
+    return [hand.uniform(-r, r) for _ in range(2 * n)]
+
+
+def equal(n, r):
+    return [r, -r] * n
+
+
+def straight(n, r):
+    return flat((r * i / n, 2 * r * i / n) for i in range(n))
+
+
+SHAPES = (circle, luff, wave, noisy, corner, foldback, resting, cloud, equal, straight)
+
+
+def turned(marks, at_end):
+    """A unit tangent from an outline's own first or last two marks, or some direction where they are equal."""
+    (x, y), (u, v) = (marks[-2:], marks[-4:-2]) if at_end else (marks[:2], marks[2:4])
+    far = math.hypot(u - x, v - y)
+    return [(u - x) / far, (v - y) / far] if far else [1.0, 0.0]
+
+
+def fits(marks, tolerance):
+    """The four fits of one outline; direct takes the outline's own tangents."""
+    yield line('direct', tolerance, turned(marks, False), turned(marks, True), marks)
+    for kind in ('source', 'loop', 'joined'):
+        yield line(kind, tolerance, marks)
+
+
+def outlines():
+    for shape in SHAPES:
+        for n in (2, 3, 4, 7, 20, 60):
+            for r, tolerance in ((100.0, 0.5), (hand.uniform(1, 2000), hand.choice([0.0, 0.05, 1.0, 20.0]))):
+                yield from fits(shape(n, r), tolerance)
+    for shape in (circle, noisy, luff):
+        for n in (199, 200, 201, 249, 250, 400, 511, 512, 513):
+            yield from fits(shape(n, 1500.0), 2.0)
+    for n in (1000, 4096, 4097):
+        for kind in ('source', 'loop', 'joined'):
+            yield line(kind, 1.0, luff(n, 5000.0))
+            yield line(kind, 3.0, noisy(n, 800.0))
+    # sizes at the ends of the range
+    for r in (1e-300, 1e-160, 1e-9, BIG / 10):
+        for shape in (circle, cloud, corner):
+            yield from fits(shape(9, r), r / 100)
+
+
+def limits():
+    good = circle(6, 50.0)
+    for bad in (NAN, INF, -INF, BIG, -BIG, above(BIG), -above(BIG), -0.0, LEAST):
+        for place in (0, 5, 11):
+            yield from fits(good[:place] + [bad] + good[place + 1:], 0.5)
+        yield line('direct', 0.5, [bad, 0.0], [1.0, 0.0], good)
+        yield from fits(good, bad)
+    for tangent in (0.0, 2.0, above(2.0), -2.0, -above(2.0)):
+        yield line('direct', 0.5, [tangent, 0.5], [0.5, tangent], good)
+    for tolerance in (0.0, -LEAST, LEAST, -1.0, 1e300):
+        yield from fits(good, tolerance)
+    for kind in ('source', 'loop', 'joined', 'direct'):
+        ways = [1.0, 0.0, 1.0, 0.0] if kind == 'direct' else []
+        for marks in ([], [1.0], [1.0, 2.0], [1.0, 2.0, 3.0], [NAN], [NAN, 2.0], good[:-1], [1.0, 1.0] * 2, [1.0, 1.0] * 3, [1.0, NAN, 3.0]):
+            yield line(kind, 0.5, ways, marks)
+            yield line(kind, NAN, ways, marks)
+
+
+# ---- single curves
+
+def curves():
+    for i in range(40):
+        r = hand.choice([1.0, 30.0, 4000.0, BIG])
+        c = [hand.uniform(-r, r) for _ in range(8)]
+        yield [round(v) * 1.0 for v in c] if i % 3 == 0 else c
+    yield [0.0, 0.0, 0.0, 1.0, 1.0, 1.0, 1.0, 0.0]
+    yield [-0.0] * 8
+    yield [BIG, -BIG] * 4
+    yield [above(BIG)] + [0.0] * 7
+    yield [0.0] * 7 + [NAN]
+    yield [0.0] * 3 + [INF] + [0.0] * 4
+
+
+def single():
+    for c in curves():
+        for t in (0.0, 1.0, 0.5, hand.random(), hand.uniform(-3, 3), hand.choice([-0.0, LEAST, 1e87, 1e150, -1e160, 1e308, NAN, INF])):
+            yield line('basis', t, c)
+            yield line('de_casteljau4', t, c)
+            yield line('de_casteljau3', t, c[:6])
+            yield line('de_casteljau2', t, c[:4])
+            yield line('subdivide4', t, c)
+        for d in (0, 1, 2, 4294967295):
+            yield line('coefficients', d, c)
+        q = [hand.uniform(-50, 50), hand.uniform(-50, 50)]
+        for t, rounds in ((hand.random(), 12), (0.0, 1), (-0.0, 0), (1.5, 0), (-0.5, 2), (0.5, 64), (0.5, 65), (1e87, 1), (-1e120, 3), (1e200, 12), (NAN, 1)):
+            yield line('refine', c, q, t, rounds)
+        yield line('refine', c, [above(BIG), 0.0], 0.5, 3)
+    for v in (0.0, -0.0, 1.0, 2.0, 0.25, LEAST, -LEAST, above(1.0), 1e308, INF, -INF, NAN, -1.0, *(hand.uniform(0, 1e9) for _ in range(200))):
+        yield line('sqrt', v)
+
+
+def near():
+    for c in curves():
+        yield line('nearest', c, [hand.uniform(-50, 50), hand.uniform(-50, 50)])
+        yield line('nearest', c, c[2:4])
+        yield line('nearest', c, c[0:2])
+    for _ in range(400):
+        r = hand.choice([3, 9, 100])
+        yield line('nearest', [float(hand.randint(-r, r)) for _ in range(8)], [float(hand.randint(-r, r)) for _ in range(2)])
+    for _ in range(400):
+        r = 10 ** hand.uniform(-2, 6)
+        yield line('nearest', [hand.uniform(-r, r) for _ in range(8)], [hand.uniform(-r, r) for _ in range(2)])
+    yield line('nearest', [1.0, 2.0, 1.0, 2.0, 2.0, 2.0, 1.0, 0.0], [1.0, 0.0])      # the Rust never ends
+    yield line('nearest', [10.0, 0.0, -10.0, 0.0, 0.0, 0.0, 40.0, 0.0], [0.0, 0.0])  # the Rust drops the root
+    yield line('nearest', [0.0] * 8, [NAN, 0.0])
+
+
+# ---- lists for the checker: curves drawn first, and marks laid on them
+
+def point(t, c):
+    """basis.rs, operation by operation, so that a mark laid at t is at distance 0."""
+    s = 1.0 - t
+    t2, s2 = t * t, s * s
+    t3, s3 = t2 * t, s2 * s
+    return [c[i] * s3 + c[i + 2] * 3.0 * s2 * t + c[i + 4] * 3.0 * s * t2 + c[i + 6] * t3 for i in (0, 1)]
+
+
+def drawn(count):
+    """Curves that meet, with 2 to 6 marks each: marks, first marks, curves, parameters."""
+    marks, firsts, curves_, at = [], [], [], []
+    here = [hand.uniform(-100, 100), hand.uniform(-100, 100)]
+    for _ in range(count):
+        end = [hand.uniform(-100, 100), hand.uniform(-100, 100)]
+        c = here + [hand.uniform(-100, 100) for _ in range(4)] + end
+        firsts.append(len(marks) // 2)
+        curves_.append(c)
+        marks += here
+        at.append(hand.choice([0.0, -0.0]))
+        for t in sorted(hand.random() for _ in range(hand.randint(0, 4))):
+            marks += point(t, c)
+            at.append(t)
+        here = end
+    return marks + here, firsts, curves_, at + [1.0]
+
+
+def check(tolerance, marks, firsts, curves_, at):
+    words = [w for f, c in zip(firsts, curves_) for w in (f, c)]
+    return line('check', tolerance, len(marks) // 2, marks, len(curves_), *words, at)
+
+
+def lists():
+    for count in (1, 2, 3, 8, 20):
+        for _ in range(6):
+            marks, firsts, curves_, at = drawn(count)
+            n = len(marks) // 2
+            k = hand.randrange(count)
+            yield check(1e-9, marks, firsts, curves_, at)
+            yield check(0.0, marks, firsts, curves_, at)
+
+            def with_first(v):
+                return check(1e-9, marks, firsts[:k] + [v] + firsts[k + 1:], curves_, at)
+            for v in (0, firsts[k] + 1, n - 2, n - 1, n, 4294967295):
+                yield with_first(v)
+            for place in range(8):
+                c = curves_[k]
+                for v in (math.nextafter(c[place], INF), c[place] + 3.0, NAN, INF, -0.0):
+                    yield check(1e-9, marks, firsts, curves_[:k] + [c[:place] + [v] + c[place + 1:]] + curves_[k + 1:], at)
+            for i in {0, firsts[k], n - 1, hand.randrange(n)}:
+                for v in (0.0, 1.0, 0.5, LEAST, -LEAST, above(1.0), NAN, INF):
+                    yield check(1e-9, marks, firsts, curves_, at[:i] + [v] + at[i + 1:])
+                yield check(1e-9, marks[:2 * i] + [marks[2 * i] + 0.25] + marks[2 * i + 1:], firsts, curves_, at)
+                yield check(0.3, marks[:2 * i] + [marks[2 * i] + 0.25] + marks[2 * i + 1:], firsts, curves_, at)
+                yield check(1e-9, marks[:2 * i] + [above(BIG)] + marks[2 * i + 1:], firsts, curves_, at)
+            for tolerance in (-0.0, -LEAST, NAN, INF):
+                yield check(tolerance, marks, firsts, curves_, at)
+            yield check(1e-9, marks, [], [], at)
+            yield check(1e-9, marks, list(range(n)), [curves_[0]] * n, at)
+    yield check(0.5, [], [], [], [])
+    yield check(0.5, [1.0, 2.0], [], [], [0.0])
+    yield check(0.5, [0.0] * 8194, [0], [[0.0] * 8], [0.0] * 4096 + [1.0])
+    yield check(0.5, [0.0] * 8192, [0], [[0.0] * 8], [0.0] * 4095 + [1.0])
+
+
+def nonsense():
+    yield 'bezier 3FF0000000000000'
+    yield 'sqrt'
+    yield 'sqrt 3ff0000000000000'
+    yield 'sqrt 3FF000000000000'
+    yield 'sqrt 3FF0000000000000 3FF0000000000000'
+    yield 'source'
+    yield 'direct 3FF0000000000000 0000000000000000'
+    yield 'coefficients 3FF0000000000000 ' + ' '.join(['0000000000000000'] * 8)
+    yield 'coefficients 01 ' + ' '.join(['0000000000000000'] * 8)
+    yield 'basis ' + ' '.join(['0000000000000000'] * 8)
+    yield 'sqrt  3FF0000000000000'
+    yield 'check 3FF0000000000000 2 0000000000000000 0000000000000000'
+
+
+if __name__ == '__main__':
+    hand = random.Random(int(sys.argv[1]) if len(sys.argv) > 1 else 1)
+    for part in (single, near, outlines, limits, lists, nonsense):
+        for case in part():
+            print(case)

@@ -1,0 +1,265 @@
+//! Answers the lines of `replay` (compare/README.md lists them) with the functions of flo_curves, one line of answer for each.
+//! It refuses only where the crate can't be asked: an odd number of coordinates (3), fewer than two marks (1), a tolerance that is NaN
+//! or below zero (5), a dimension above 1 (5). A panic of the crate is PANIC, a nearest search that does not end is ENDLESS.
+//! After a tab may follow what the comparison wants to know: `lost` where an operation on the way was not finite, `depth D` of a search.
+use flo_curves::bezier::*;
+use flo_curves::line::*;
+use std::cell::{Cell, RefCell};
+use std::io::*;
+use std::ops::*;
+use std::rc::Rc;
+
+thread_local! { static LOST: Cell<bool> = Cell::new(false); }
+/// Passes a number on, and notes one that is not finite.
+fn watch(v: f64) -> f64 { if !v.is_finite() { LOST.with(|l| l.set(true)); } v }
+
+/// A point that knows which mark it is, and notes operations that are not finite; its arithmetic is Coord2's own.
+#[derive(Clone, Copy, Debug)]
+struct Mark(Coord2, Option<usize>);
+fn seen(p: Coord2) -> Mark { Mark(Coord2(watch(p.0), watch(p.1)), None) }
+impl PartialEq for Mark { fn eq(&self, o: &Mark) -> bool { self.0 == o.0 } }
+impl Add for Mark { type Output = Mark; fn add(self, o: Mark) -> Mark { seen(self.0 + o.0) } }
+impl Sub for Mark { type Output = Mark; fn sub(self, o: Mark) -> Mark { seen(self.0 - o.0) } }
+impl Mul<f64> for Mark { type Output = Mark; fn mul(self, k: f64) -> Mark { seen(self.0 * k) } }
+impl Coordinate2D for Mark { fn x(&self) -> f64 { self.0.0 } fn y(&self) -> f64 { self.0.1 } }
+impl Coordinate for Mark {
+    fn from_components(c: &[f64]) -> Mark { Mark(Coord2::from_components(c), None) }
+    fn origin() -> Mark { Mark(Coord2::origin(), None) }
+    fn len() -> usize { Coord2::len() }
+    fn get(&self, i: usize) -> f64 { self.0.get(i) }
+    fn from_biggest_components(p: Mark, q: Mark) -> Mark { Mark(Coord2::from_biggest_components(p.0, q.0), None) }
+    fn from_smallest_components(p: Mark, q: Mark) -> Mark { Mark(Coord2::from_smallest_components(p.0, q.0), None) }
+    fn distance_to(&self, o: &Mark) -> f64 { watch(Coordinate::distance_to(&self.0, &o.0)) }
+    fn dot(&self, o: &Mark) -> f64 { watch(self.0.dot(&o.0)) }
+}
+
+/// A curve that keeps each parameter at which it is asked for a point. The last to measure a curve is `max_error_for_curve`, once
+/// for every mark: so the parameters that an accepted curve has kept are those of its marks. Nothing is asked of a two-mark line.
+#[derive(Clone)]
+struct Kept { start: Mark, controls: (Mark, Mark), end: Mark, asked: Rc<RefCell<Vec<f64>>> }
+impl Geo for Kept { type Point = Mark; }
+impl BezierCurveFactory for Kept {
+    fn from_points(start: Mark, controls: (Mark, Mark), end: Mark) -> Kept { Kept { start, controls, end, asked: Rc::default() } }
+}
+impl BezierCurve for Kept {
+    fn start_point(&self) -> Mark { self.start }
+    fn end_point(&self) -> Mark { self.end }
+    fn control_points(&self) -> (Mark, Mark) { self.controls }
+    fn point_at_pos(&self, t: f64) -> Mark {
+        self.asked.borrow_mut().push(t);
+        basis(t, self.start, self.controls.0, self.controls.1, self.end)
+    }
+}
+
+type Plain = Curve<Coord2>;
+fn eight<C: BezierCurve>(c: &C) -> [f64; 8] where C::Point: Coordinate2D {
+    let (s, (a, b), e) = c.all_points();
+    [s.x(), s.y(), a.x(), a.y(), b.x(), b.y(), e.x(), e.y()]
+}
+fn bits(v: f64) -> u64 { if v.is_nan() { 0x7FF8_0000_0000_0000 } else { v.to_bits() } }
+fn hex(v: &[f64]) -> String { v.iter().map(|x| format!(" {:016X}", bits(*x))).collect() }
+fn points(v: &[f64]) -> Vec<Coord2> { v.chunks(2).map(|c| Coord2(c[0], c[1])).collect() }
+fn number(w: &str) -> Option<f64> {
+    let fair = w.len() == 16 && w.bytes().all(|b| b.is_ascii_digit() || (b'A'..=b'F').contains(&b));
+    if fair { u64::from_str_radix(w, 16).ok().map(f64::from_bits) } else { None }
+}
+fn whole(w: &str) -> Option<usize> {
+    if w.bytes().all(|b| b.is_ascii_digit()) && (w == "0" || !w.starts_with('0')) { w.parse().ok() } else { None }
+}
+fn numbers(w: &[&str]) -> Option<Vec<f64>> { w.iter().map(|w| number(w)).collect() }
+
+/// The size of a block: `max_points_to_fit`, which the crate keeps to itself. Only the joined fit, which the crate has not, wants it here.
+fn block_size(n: usize) -> usize {
+    if n < 200 { 200 } else { (51..=200).rev().find(|size| n % size >= 50).unwrap_or(50) }
+}
+/// The joined fit: block k from mark k·size to mark (k+1)·size, both included, each by the crate's `fit_curve_cubic`.
+fn joined<C: BezierCurveFactory>(p: &[C::Point], tolerance: f64) -> Vec<C> {
+    let (size, last) = (block_size(p.len()), p.len() - 1);
+    (0..).map(|k| k * size).take_while(|start| *start < last).flat_map(|start| {
+        let block = &p[start..=(start + size).min(last)];
+        let end = block.len() - 1;
+        fit_curve_cubic(block, &(block[1] - block[0]).to_unit_vector(), &(block[end - 1] - block[end]).to_unit_vector(), tolerance)
+    }).collect()
+}
+fn fit<C: BezierCurveFactory>(kind: &str, tolerance: f64, tangents: Option<(C::Point, C::Point)>, p: &[C::Point]) -> Vec<C> {
+    match (kind, tangents) {
+        ("source", _) => fit_curve(p, tolerance).expect("two marks"),
+        ("loop", _) => fit_curve_loop(p, tolerance).expect("two marks"),
+        ("direct", Some((s, e))) => fit_curve_cubic(p, &s, &e, tolerance),
+        _ => joined(p, tolerance),
+    }
+}
+/// Count, first marks, curves and parameters of a fit; the plain run's curves and the watched run's must be the same bits.
+fn fitted(kind: &str, tolerance: f64, tangents: Option<(Coord2, Coord2)>, p: &[Coord2]) -> String {
+    let marks: Vec<Mark> = p.iter().enumerate().map(|(i, c)| Mark(*c, Some(i))).collect();
+    let plain: Vec<Plain> = fit(kind, tolerance, tangents, p);
+    let kept: Vec<Kept> = fit(kind, tolerance, tangents.map(|(s, e)| (Mark(s, None), Mark(e, None))), &marks);
+    let mut at = vec![0.0; p.len()];
+    let mut out = format!("0 {}", plain.len());
+    if plain.len() != kept.len() { return "UNLIKE".into(); }
+    for (c, k) in plain.iter().zip(&kept) {
+        if eight(c).map(bits) != eight(k).map(bits) { return "UNLIKE".into(); }
+        let (first, last, asked) = (k.start.1.unwrap(), k.end.1.unwrap(), k.asked.borrow());
+        if last - first == 1 { at[first] = 0.0; at[last] = 1.0; }
+        else if asked.len() == last - first + 1 { at[first..=last].copy_from_slice(&asked); }
+        else { return "UNLIKE".into(); }
+        out += &format!(" {}{}", first, hex(&eight(c)));
+    }
+    out + &hex(&at)
+}
+
+/// Newton refinement once more, with the numbers watched that the crate's own call lets pass unseen.
+fn refine_watched(p: &[Mark], q: Mark, mut t: f64, rounds: usize) -> f64 {
+    let (n1, n2, n3) = ((p[1] - p[0]) * 3.0, (p[2] - p[1]) * 3.0, (p[3] - p[2]) * 3.0);
+    let (m1, m2) = ((n2 - n1) * 2.0, (n3 - n2) * 2.0);
+    for _ in 0..rounds {
+        watch(1.0 - t);
+        let (c, d1, d2) = (de_casteljau4(t, p[0], p[1], p[2], p[3]), de_casteljau3(t, n1, n2, n3), de_casteljau2(t, m1, m2));
+        let top = (c - q).dot(&d1);
+        let bottom = watch(d1.dot(&d1) + (c - q).dot(&d2));
+        if top.abs() < 1e-8 || bottom == 0.0 { break; }
+        t = watch(t - watch(top / bottom));
+    }
+    t.max(0.0).min(1.0)
+}
+
+/// The depth of the crate's own nearest search, or None where 100,000 sections don't end it: then the crate's call would run
+/// until the memory is full. The steps are those of find_roots.rs, with the crate's own halving and line coefficients.
+fn search_depth(p: &[Coord2], q: Coord2) -> Option<usize> {
+    const Z: [[f64; 4]; 3] = [[1.0, 0.6, 0.3, 0.1], [0.4, 0.6, 0.6, 0.4], [0.1, 0.3, 0.6, 1.0]];
+    let mut whole = [0, 1, 2, 3, 4, 5].map(|k| Coord2(k as f64 / 5.0, 0.0));
+    for k in 0..6usize {
+        for i in k.saturating_sub(2)..=k.min(3) {
+            let next = (p[k - i + 1] - p[k - i]) * 3.0;
+            whole[k].1 += next.dot(&(p[i] - q)) * Z[k - i][i];
+        }
+    }
+    let (mut open, mut taken, mut deepest) = (vec![(whole, 0)], 0, 0);
+    while let Some((s, depth)) = open.pop() {
+        taken += 1;
+        deepest = deepest.max(depth);
+        if taken > 100_000 { return None; }
+        let crossings = s.windows(2).filter(|w| (w[0].1 < 0.0 && w[1].1 >= 0.0) || (w[0].1 >= 0.0 && w[1].1 < 0.0)).count();
+        let rising: Vec<f64> = s.windows(2).map(|w| (w[1].1 - w[0].1).signum()).collect();
+        let line = (s[0], s[5]).coefficients();
+        let flat = rising.iter().all(|r| *r == rising[0]) && s.iter().fold(0.0f64, |m, p| m.max(line.distance_to(p))) <= 0.1;
+        if crossings == 0 || (crossings == 1 && flat) { continue; }
+        let (left, right) = subdivide_n(0.5, s);
+        open.push((right, depth + 1));
+        open.push((left, depth + 1));
+    }
+    Some(deepest)
+}
+
+/// The list checker by the document's rules; the crate has none. Points and distances are the crate's.
+fn check(tolerance: f64, marks: &[Coord2], firsts: &[usize], curves: &[[f64; 8]], at: &[f64]) -> String {
+    let (n, count) = (marks.len(), curves.len());
+    let wild = |v: f64| !(v.abs() <= 1_000_000.0);
+    if n < 2 { return "1".into(); }
+    if n > 4096 { return "2".into(); }
+    if marks.iter().any(|m| wild(m.0) || wild(m.1)) || !(tolerance >= 0.0 && tolerance.is_finite()) { return "5".into(); }
+    if count < 1 || count > n - 1 { return "FAULT A 0 0".into(); }
+    for k in 0..count {
+        if firsts[k] >= n - 1 || (if k == 0 { firsts[0] != 0 } else { firsts[k] <= firsts[k - 1] }) { return format!("FAULT A {} 0", k); }
+    }
+    let same = |v: &[f64], m: Coord2| v[0].to_bits() == m.0.to_bits() && v[1].to_bits() == m.1.to_bits();
+    for k in 0..count {
+        let (c, first, next) = (&curves[k], firsts[k], if k + 1 < count { firsts[k + 1] } else { n - 1 });
+        if c.iter().any(|v| !v.is_finite()) || !same(&c[0..2], marks[first]) || !same(&c[6..8], marks[next]) { return format!("FAULT B {} {}", k, first); }
+        let p = points(c);
+        for i in first..(if k + 1 < count { next } else { n }) {
+            let t = at[i];
+            let placed = if i == first { t == 0.0 } else if i == n - 1 { t == 1.0 } else { (0.0..=1.0).contains(&t) };
+            if !placed { return format!("FAULT C {} {}", k, i); }
+            let off = marks[i] - basis(t, p[0], p[1], p[2], p[3]);
+            let far = f64::sqrt(off.dot(&off));
+            if !(far.is_finite() && far <= tolerance) { return format!("FAULT D {} {}", k, i); }
+        }
+    }
+    "0".into()
+}
+fn check_line(w: &[&str]) -> Option<String> {
+    let n = whole(w.get(1)?)?;
+    let count_at = n.checked_mul(2)?.checked_add(2)?;
+    let k = whole(w.get(count_at)?)?;
+    if w.len() != count_at + 1 + k.checked_mul(9)? + n { return None; }
+    let (mut firsts, mut curves) = (vec![], vec![]);
+    for c in w[count_at + 1..count_at + 1 + 9 * k].chunks(9) {
+        firsts.push(whole(c[0])?);
+        curves.push(<[f64; 8]>::try_from(numbers(&c[1..])?).ok()?);
+    }
+    Some(check(number(w[0])?, &points(&numbers(&w[2..count_at])?), &firsts, &curves, &numbers(&w[count_at + 1 + 9 * k..])?))
+}
+
+/// One line's answer; None for a line that is none of replay's.
+fn answer(line: &str) -> Option<String> {
+    let w: Vec<&str> = line.split(' ').collect();
+    let (kind, w) = (w[0], &w[1..]);
+    let marks = |v: &[f64]| -> Vec<Mark> { points(v).into_iter().map(|c| Mark(c, None)).collect() };
+    let show = |v: &[Mark]| -> String { let f: Vec<f64> = v.iter().flat_map(|m| [m.0.0, m.0.1]).collect(); format!("0{}", hex(&f)) };
+    let wanted = match kind {
+        "sqrt" => 1, "basis" | "de_casteljau4" | "subdivide4" | "coefficients" => 9, "de_casteljau3" => 7, "de_casteljau2" => 5, "refine" => 12, "nearest" => 10,
+        "direct" => w.len().max(5), "source" | "loop" | "joined" | "check" => w.len().max(1), _ => return None,
+    };
+    if w.len() != wanted { return None; }
+    Some(match kind {
+        "sqrt" => format!("0{}", hex(&[number(w[0])?.sqrt()])),
+        "coefficients" => {
+            let (d, v) = (whole(w[0])?, numbers(&w[1..])?);
+            if d > 1 { return Some("5".into()); }
+            let p = points(&v);
+            let r = bezier_coefficients(d, &p[0], &p[1], &p[2], &p[3]);
+            format!("0{}", hex(&[r.0, r.1, r.2, r.3]))
+        }
+        "basis" | "de_casteljau4" | "de_casteljau3" | "de_casteljau2" | "subdivide4" => {
+            let (t, p) = (number(w[0])?, marks(&numbers(&w[1..])?));
+            match kind {
+                "basis" => show(&[basis(t, p[0], p[1], p[2], p[3])]),
+                "de_casteljau4" => show(&[de_casteljau4(t, p[0], p[1], p[2], p[3])]),
+                "de_casteljau3" => show(&[de_casteljau3(t, p[0], p[1], p[2])]),
+                "de_casteljau2" => show(&[de_casteljau2(t, p[0], p[1])]),
+                _ => { let (l, r) = subdivide4(t, p[0], p[1], p[2], p[3]); show(&[l.0, l.1, l.2, l.3, r.0, r.1, r.2, r.3]) }
+            }
+        }
+        "refine" => {
+            let (v, rounds) = (numbers(&w[..11])?, whole(w[11])?);
+            let p = points(&v[..10]);
+            let t = nearest_point_on_curve_newton_raphson_with_estimate(&Plain::from_points(p[0], (p[1], p[2]), p[3]), &p[4], v[10], rounds);
+            let m = marks(&v[..10]);
+            if bits(refine_watched(&m, m[4], v[10], rounds)) != bits(t) { return Some("UNLIKE".into()); }
+            format!("0{}", hex(&[t]))
+        }
+        "nearest" => {
+            let p = points(&numbers(w)?);
+            let curve = Plain::from_points(p[0], (p[1], p[2]), p[3]);
+            let Some(depth) = search_depth(&p, p[4]) else { return Some("ENDLESS".into()) };
+            let t = nearest_point_on_curve(&curve, &p[4]);
+            let off = curve.point_at_pos(t) - p[4];
+            format!("0{}\tdepth {}", hex(&[t, off.dot(&off)]), depth)
+        }
+        "check" => check_line(w)?,
+        _ => {
+            let v = numbers(w)?;
+            let (tolerance, rest) = (v[0], &v[if kind == "direct" { 5 } else { 1 }..]);
+            let tangents = if kind == "direct" { Some((Coord2(v[1], v[2]), Coord2(v[3], v[4]))) } else { None };
+            if rest.len() % 2 == 1 { "3".into() } else if rest.len() < 4 { "1".into() } else if !(tolerance >= 0.0) { "5".into() }
+            else { fitted(kind, tolerance, tangents, &points(rest)) }
+        }
+    })
+}
+
+fn all() {
+    std::panic::set_hook(Box::new(|_| {}));
+    let mut out = BufWriter::new(stdout().lock());
+    for line in stdin().lock().lines() {
+        let line = line.expect("a line of text");
+        LOST.with(|l| l.set(false));
+        let said = std::panic::catch_unwind(|| answer(&line).unwrap_or("BAD".into())).unwrap_or("PANIC".into());
+        let lost = LOST.with(|l| l.get()) && !said.contains('\t');
+        writeln!(out, "{}{}", said, if lost { "\tlost" } else { "" }).expect("standard output");
+    }
+}
+fn main() {
+    // a cut calls itself; an outline of some thousand marks, all cut, wants more than the usual stack
+    std::thread::Builder::new().stack_size(1 << 29).spawn(all).expect("a thread").join().expect("an end");
+}

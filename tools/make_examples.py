@@ -1,0 +1,164 @@
+#!/usr/bin/env python3
+"""make_examples.py: writes the house files of examples/, the same bytes on every run.
+
+Shapes are drawn by formula, walked at a given spacing, shaken by a seeded hand where the outline is traced by hand, and put on the
+grid of a digitising table (0.05 mm). Units are millimetres.
+"""
+import math
+import os
+import random
+import struct
+
+GRID = 20  # marks are whole twentieths of a millimetre
+
+
+def house(tolerance, marks):
+    """A house file of kinds 1 and 2: tolerance and marks."""
+    body = b''.join(struct.pack('<2d', x, y) for x, y in marks)
+    return struct.pack('<IHd', 10, 1, tolerance) + struct.pack('<IH', 2 + len(body), 2) + body
+
+
+def grid(marks):
+    return [(round(x * GRID) / GRID, round(y * GRID) / GRID) for x, y in marks]
+
+
+def walk(shape, spacing, fine=20000):
+    """Marks along shape(0..1), spacing(u) apart, with both ends."""
+    marks, last, gone = [shape(0.0)], shape(0.0), 0.0
+    for i in range(1, fine + 1):
+        here = shape(i / fine)
+        gone += math.dist(last, here)
+        last = here
+        if gone >= spacing(i / fine):
+            marks.append(here)
+            gone = 0.0
+    if marks[-1] != shape(1.0):
+        marks[-1 if gone < spacing(1.0) / 2 else len(marks):] = [shape(1.0)]
+    return marks
+
+
+def even(shape, count, fine=40000):
+    """count marks along shape(0..1), evenly apart."""
+    points = [shape(i / fine) for i in range(fine + 1)]
+    far = [0.0]
+    for a, b in zip(points, points[1:]):
+        far.append(far[-1] + math.dist(a, b))
+    marks, i = [], 0
+    for k in range(count):
+        want = far[-1] * k / (count - 1)
+        while i < fine and far[i] < want:
+            i += 1
+        marks.append(points[i])
+    return marks
+
+
+def shake(marks, by, hand):
+    """A hand that is off by some `by` millimetres; the two ends stay."""
+    def off():
+        return by * (sum(hand.random() for _ in range(12)) - 6.0)
+    return marks[:1] + [(x + off(), y + off()) for x, y in marks[1:-1]] + marks[-1:]
+
+
+def chain(*pieces):
+    """One shape of several, each (share of 0..1, shape)."""
+    total = sum(share for share, _ in pieces)
+
+    def shape(u):
+        left = u * total
+        for share, piece in pieces:
+            if left <= share:
+                return piece(left / share)
+            left -= share
+        return pieces[-1][1](1.0)
+    return shape
+
+
+def cover():
+    """A dinghy's cover from above, from the bow round the transom and back."""
+    def half(x):
+        return 660 * (1 - (x / 3000) ** 2.4) ** 0.8 * (0.88 + 0.12 * math.sin(math.pi / 2 * min(x / 1500, 1)))
+    r = 90.0
+    y0 = half(r)
+
+    def side(u):
+        x = r + (3000 - r) * (1 - u * u * (3 - 2 * u))
+        return x, half(x)
+
+    def corner(u):
+        a = math.pi / 2 * (1 + u)
+        return r + r * math.cos(a), y0 - r + r * math.sin(a)
+
+    def transom(u):
+        y = (y0 - r) * (1 - 2 * u)
+        return -25 * (1 - (y / (y0 - r)) ** 2), y
+
+    def mirror(piece):
+        def turned(u):
+            x, y = piece(1 - u)
+            return x, -y
+        return turned
+    shape = chain((4, side), (1, corner), (2, transom), (1, mirror(corner)), (4, mirror(side)))
+    return house(1.0, grid(walk(shape, lambda u: 14 if 4 / 12 <= u <= 5 / 12 or 7 / 12 <= u <= 8 / 12 else 58)))
+
+
+def luff():
+    """A mainsail's luff: straight but for 85 mm of round, 0.45 of the way up; it hollows towards the head."""
+    hand = random.Random(2)
+
+    def shape(u):
+        round_ = 85 * math.sin(math.pi * u ** 0.87) - 14 * math.sin(math.pi * max(0, u - 0.7) / 0.3) ** 2
+        return 5200 * u, round_
+    marks = [shape(min(1, max(0, (k + hand.uniform(-0.15, 0.15)) / 52))) for k in range(53)]
+    return house(0.5, grid([shape(0.0)] + marks[1:-1] + [shape(1.0)]))
+
+
+def window():
+    """A window of a spray hood, traced by hand round a cardboard piece: 180 marks, each off by some 0.2 mm."""
+    hand = random.Random(3)
+
+    def shape(u):
+        a = 2 * math.pi * u
+        c, s = math.cos(a), math.sin(a)
+        return (150 * math.copysign(abs(c) ** 0.62, c) + 12 * s, 95 * math.copysign(abs(s) ** 0.62, s) - 10 * c * c)
+    return house(0.8, grid(shake(even(shape, 180), 0.2, hand)))
+
+
+def hood():
+    """A spray hood's side panel at the table's full rate: 500 marks, so three blocks."""
+    hand = random.Random(4)
+
+    def bay(u):
+        return 2400 * u, 300 * math.sin(math.pi * u) ** 0.8 + 120 * u + 26 * math.sin(7 * math.pi * u)
+
+    def front(u):
+        return 2400 - 260 * u + 40 * math.sin(math.pi * u), 120 - 700 * u
+
+    def foot(u):
+        return 2140 - 2140 * u, -580 + 250 * u + 60 * math.sin(2.5 * math.pi * u) ** 2
+
+    def back(u):
+        return -60 * math.sin(math.pi * u), -270 + 270 * u
+    shape = chain((5, bay), (1.4, front), (4.5, foot), (0.8, back))
+    return house(0.6, grid(shake(even(shape, 500), 0.08, hand)))
+
+
+def lost():
+    """A foot tape whose puck lost the table at mark 11."""
+    marks = grid([(80.0 * k, 40 * math.sin(0.28 * k)) for k in range(24)])
+    marks[11] = (math.nan, marks[11][1])
+    return house(0.5, marks)
+
+
+def rested():
+    """The button pressed three times with the puck at rest."""
+    return house(0.5, [(412.35, 118.6)] * 3)
+
+
+if __name__ == '__main__':
+    folder = os.path.join(os.path.dirname(os.path.abspath(__file__)), '..', 'examples')
+    os.makedirs(folder, exist_ok=True)
+    for make in (cover, luff, window, hood, lost, rested):
+        data = make()
+        with open(os.path.join(folder, make.__name__ + '.house'), 'wb') as out:
+            out.write(data)
+        print(f'{make.__name__}.house: {len(data)} bytes, {(len(data) - 20) // 16} marks')
