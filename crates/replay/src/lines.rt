@@ -108,13 +108,23 @@ fn take_chunks(chunk: &mut [u8], line: &mut [u8], out: &mut [u8]) -> Reading {
 }
 
 // All lines; a last one without a newline counts.
-pub fn run() {
-    let mut chunk = [0u8; 65536];
-    let mut line = [0u8; 1048576];
-    let mut out = [0u8; 65536];
-    let last = take_chunks(&mut chunk, &mut line, &mut out);
+fn take_lines(chunk: &mut [u8], line: &mut [u8], out: &mut [u8]) {
+    let last = take_chunks(chunk, line, out);
     if (last.len > 0) | last.long {
-        let done = end_line(&line, last, &mut out);
-        flush(&out, done.waiting);
+        let done = end_line(line, last, out);
+        flush(out, done.waiting);
     }
+}
+
+// The room for a chunk and for the answers. The line's room comes as an array by its type, so that no proof counts its bytes.
+fn run_with(line: &mut [u8; 1048576]) {
+    let mut chunk = [0u8; 65536];
+    let mut out = [0u8; 65536];
+    take_lines(&mut chunk, line, &mut out);
+}
+
+// A `check` line with 4,200 marks and as many curves has some 832,000 bytes.
+pub fn run() {
+    let mut line = [0u8; 1048576];
+    run_with(&mut line);
 }

@@ -1,17 +1,21 @@
 -- `replay::lines::take_chunks` meets its contract: it ends, and stays inside its slices. Assumes nothing.
 use borrow.Author.Needs.{needs}
 use native.Mathlib.Omega.{arith}
+use Prim.Native.Nat.{_-_}
+use mathlib.Core.Path.{_≡_}
+use lib.ListN.{length}
 use Rattle.replay.proofs.lines.take_chunks.Statement.{statement}
 use Rattle.replay.proofs.lines.take_chunks.Tie as tie
 
 abbrev Inv-loop : tie.InvT-loop
-Inv-loop chunk₀ line₀ out₀ reading₀ turns₀ chunk line out reading turns = ?
+Inv-loop chunk₀ line₀ out₀ reading₀ turns₀ chunk line out reading turns =
+    (length chunk ≡ length chunk₀) × (length line ≡ length line₀) × (length out ≡ length out₀)
 
 abbrev μ-loop : tie.MeasureT-loop
-μ-loop chunk₀ line₀ out₀ reading₀ turns₀ chunk line out reading turns = ?
+μ-loop chunk₀ line₀ out₀ reading₀ turns₀ chunk line out reading turns = 281474976710655 - turns
 
 loop-holds : tie.Need-loop-holds Inv-loop μ-loop
-loop-holds c = omega arith
+loop-holds c = search needs
 
 take-chunk-requires : tie.Need-take-chunk-requires Inv-loop μ-loop
 take-chunk-requires c κs = search needs
@@ -23,13 +27,13 @@ enum-told : tie.Need-enum-told Inv-loop μ-loop
 enum-told c = search needs
 
 same-length : tie.Need-same-length Inv-loop μ-loop
-same-length c = omega arith
+same-length c = search needs
 
 same-length-2 : tie.Need-same-length-2 Inv-loop μ-loop
-same-length-2 c = omega arith
+same-length-2 c = search needs
 
 same-length-3 : tie.Need-same-length-3 Inv-loop μ-loop
-same-length-3 c = omega arith
+same-length-3 c = search needs
 
 returns : tie.Need-returns Inv-loop μ-loop
 returns c = search needs
@@ -41,16 +45,16 @@ loop-less : tie.Need-loop-less Inv-loop μ-loop
 loop-less c = omega arith
 
 loop-again : tie.Need-loop-again Inv-loop μ-loop
-loop-again c = omega arith
+loop-again c = search needs
 
 same-length-4 : tie.Need-same-length-4 Inv-loop μ-loop
-same-length-4 c = omega arith
+same-length-4 c = search needs
 
 same-length-5 : tie.Need-same-length-5 Inv-loop μ-loop
-same-length-5 c = omega arith
+same-length-5 c = search needs
 
 same-length-6 : tie.Need-same-length-6 Inv-loop μ-loop
-same-length-6 c = omega arith
+same-length-6 c = search needs
 
 returns-2 : tie.Need-returns-2 Inv-loop μ-loop
 returns-2 c = search needs

@@ -1,17 +1,20 @@
 -- `replay::listing::take_curves` meets its contract: it ends, and stays inside its slices. Assumes nothing.
 use borrow.Author.Needs.{needs}
 use native.Mathlib.Omega.{arith}
+use Prim.Native.Nat.{_-_, _≤_}
+use mathlib.Core.Path.{_≡_}
+use lib.ListN.{length}
 use Rattle.replay.proofs.listing.take_curves.Statement.{statement}
 use Rattle.replay.proofs.listing.take_curves.Tie as tie
 
 abbrev Inv-loop : tie.InvT-loop
-Inv-loop line at count firsts₀ curves₀ place₀ i₀ firsts curves place i = ?
+Inv-loop line at count firsts₀ curves₀ place₀ i₀ firsts curves place i = (i ≤ count) × (length firsts ≡ length firsts₀) × (length curves ≡ length curves₀)
 
 abbrev μ-loop : tie.MeasureT-loop
-μ-loop line at count firsts₀ curves₀ place₀ i₀ firsts curves place i = ?
+μ-loop line at count firsts₀ curves₀ place₀ i₀ firsts curves place i = count - i
 
 loop-holds : tie.Need-loop-holds Inv-loop μ-loop
-loop-holds c = omega arith
+loop-holds c = search needs
 
 take-one-requires : tie.Need-take-one-requires Inv-loop μ-loop
 take-one-requires c κs = search needs
@@ -23,10 +26,10 @@ enum-told : tie.Need-enum-told Inv-loop μ-loop
 enum-told c = search needs
 
 same-length : tie.Need-same-length Inv-loop μ-loop
-same-length c = omega arith
+same-length c = search needs
 
 same-length-2 : tie.Need-same-length-2 Inv-loop μ-loop
-same-length-2 c = omega arith
+same-length-2 c = search needs
 
 returns : tie.Need-returns Inv-loop μ-loop
 returns c = search needs
@@ -38,13 +41,13 @@ loop-less : tie.Need-loop-less Inv-loop μ-loop
 loop-less c = omega arith
 
 loop-again : tie.Need-loop-again Inv-loop μ-loop
-loop-again c = omega arith
+loop-again c = search needs
 
 same-length-3 : tie.Need-same-length-3 Inv-loop μ-loop
-same-length-3 c = omega arith
+same-length-3 c = search needs
 
 same-length-4 : tie.Need-same-length-4 Inv-loop μ-loop
-same-length-4 c = omega arith
+same-length-4 c = search needs
 
 returns-2 : tie.Need-returns-2 Inv-loop μ-loop
 returns-2 c = search needs
