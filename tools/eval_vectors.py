@@ -75,4 +75,4 @@ def main(path, oracle):
     open('crates/eval_cases/stdout', 'w').write(''.join(text(op, e, n) + '\n' for op, _, e, n in rows))
     print(len(rows), 'records:', {e: sum(r[2] == e for r in rows) for e in '056'})
 
-main(*sys.argv[1:])
+if __name__ == '__main__': main(*sys.argv[1:])

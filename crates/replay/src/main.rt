@@ -1,0 +1,27 @@
+// Cases on standard input, one a line, and one line of answer for each on standard output: so that the calls can be tried on any numbers, and
+// beside another implementation. Words are separated by one blank; an f64 is its bits in 16 upper-case hex digits, a whole number is decimal.
+//
+//     sqrt X
+//     basis T C8, de_casteljau4 T C8, coefficients D C8, subdivide4 T C8     C8: eight numbers, start, controls, end
+//     de_casteljau3 T P6, de_casteljau2 T P4                                 three points; two points
+//     refine C8 PX PY T R                                                    Newton refinement, R rounds
+//     nearest C8 PX PY
+//     direct TOL SX SY EX EY X0 Y0 X1 Y1 ..
+//     source TOL X0 Y0 .., loop TOL X0 Y0 .., joined TOL X0 Y0 ..
+//     check TOL N X0 Y0 .. K F0 C8 F1 C8 .. T0 .. T(N-1)
+//
+// An accepted case answers 0 and its numbers: the root; x y; a b c d; both halves; t; t and squared distance; for a fit K, then for each curve its
+// first mark and eight numbers, then every parameter. A refused case answers its number alone. `check` answers 0, `FAULT A 3 0` (kind, curve, mark),
+// or the refusal. A line that is none of these answers BAD, and the next is taken.
+mod cursor;
+mod dispatch;
+mod kind;
+mod lines;
+mod listing;
+mod outline;
+mod put;
+mod single;
+
+fn main() {
+    lines::run();
+}
