@@ -5,6 +5,7 @@ VECTORS is the folder of outlines with the Rust's lists. What the checker has to
 document's text and shares nothing with the port: binary64 arithmetic is Python's, whose square root is correctly rounded. `pick` says which
 lists are kept and of which damaged copies are made. With `all` every list is written, without damaged copies, to the two files named."""
 import math, struct, sys
+sys.dont_write_bytecode = True
 from fit_vectors import read
 
 bits = lambda x: struct.unpack('<Q', struct.pack('<d', x))[0]
@@ -152,7 +153,7 @@ def pick(cases):
             if c.n < 3 or short.get((c.shape, c.kind), 0) >= 2: continue
             short[c.shape, c.kind] = short.get((c.shape, c.kind), 0) + 1
             yield of_case(c, short[c.shape, c.kind] == 1)
-        elif c.n <= 512 and ((c.kind, c.n) not in seen or c.kind in ('source', 'loop') and c.n > 200 and of_case(c).answer()[0] == PASSED):
+        elif c.n <= 512 and ((c.kind, c.n) not in seen or c.kind in ('source', 'loop') and c.n >= 200 and of_case(c).answer()[0] == PASSED):
             seen.add((c.kind, c.n))
             yield of_case(c, c.n in (17, 201))
 

@@ -372,7 +372,7 @@ fn step() -> bool {
         tolerance: cases::number(&head, 48),
     };
     let n = marks + curves + params;
-    let mut all = [0.0; 16384];
+    let mut all = [0.0; 45056];
     let mut firsts = [0u32; 4096];
     cases::read_floats(&mut all, n);
     if firsts_len > firsts.len() {
