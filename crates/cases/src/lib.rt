@@ -1,5 +1,6 @@
 // What the programs over kept vectors share: numbers out of little-endian bytes, and numbers as lines of hex digits on standard output.
 ghost use Prim.Native.Nat.{_<_};
+use libc::STDIN_FILENO;
 use libc::STDOUT_FILENO;
 
 // A byte as a number.
@@ -50,4 +51,41 @@ pub fn print_count(n: u64) {
 // Ends the line.
 pub fn end_line() {
     io::write_all(STDOUT_FILENO, b"\n");
+}
+
+// Writes a blank and then a whole number in decimal.
+pub fn print_next_count(n: u64) {
+    io::write_all(STDOUT_FILENO, b" ");
+    print_count(n);
+}
+
+// The next number from standard input.
+fn read_float() -> f64 {
+    let mut bytes = [0u8; 8];
+    io::read_full(STDIN_FILENO, &mut bytes);
+    number(&bytes, 0)
+}
+
+// The next n numbers, as far as the slice has room for them.
+pub fn read_floats(out: &mut [f64], n: usize) {
+    let mut i: usize = 0;
+    while i < n {
+        if i >= out.len() {
+            return;
+        }
+        out[i] = read_float();
+        i += 1;
+    }
+}
+
+const TOP: u64 = 0x8000_0000_0000_0000;
+
+// The word turned by one bit.
+fn turn(h: u64) -> u64 {
+    std::num::wrapping_add_u64(std::num::wrapping_add_u64(h, h), h / TOP)
+}
+
+// The digest turned by five bits, and a word added to it.
+pub fn mix(h: u64, w: u64) -> u64 {
+    std::num::wrapping_add_u64(turn(turn(turn(turn(turn(h))))), w)
 }

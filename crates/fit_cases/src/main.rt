@@ -16,26 +16,9 @@ const BEFORE: u64 = 0x401E_0000_0000_0000;
 
 const BEFORE_FIRST: u64 = 7;
 
-const TOP: u64 = 0x8000_0000_0000_0000;
-
-// The word turned by one bit.
-fn turn(h: u64) -> u64 {
-    std::num::wrapping_add_u64(std::num::wrapping_add_u64(h, h), h / TOP)
-}
-
-// The digest turned by five bits, and a word added to it.
-fn mix(h: u64, w: u64) -> u64 {
-    std::num::wrapping_add_u64(turn(turn(turn(turn(turn(h))))), w)
-}
-
-fn print_next_count(n: u64) {
-    io::write_all(STDOUT_FILENO, b" ");
-    cases::print_count(n);
-}
-
 fn print_state(before: u64, zeros: u64, digest: u64) {
-    print_next_count(before);
-    print_next_count(zeros);
+    cases::print_next_count(before);
+    cases::print_next_count(zeros);
     io::write_all(STDOUT_FILENO, b" ");
     io::print_hex(STDOUT_FILENO, digest, 16);
 }
@@ -57,7 +40,7 @@ fn print_floats_left(xs: &[f64]) {
         let w = float::to_bits(xs[i]);
         before += same(w, BEFORE);
         zeros += same(w, 0);
-        digest = mix(digest, w);
+        digest = cases::mix(digest, w);
         i += 1;
     }
     print_state(before, zeros, digest);
@@ -77,7 +60,7 @@ fn print_firsts_left(xs: &[u32]) {
         let w = wide(xs[i]);
         before += same(w, BEFORE_FIRST);
         zeros += same(w, 0);
-        digest = mix(digest, w);
+        digest = cases::mix(digest, w);
         i += 1;
     }
     print_state(before, zeros, digest);
@@ -107,25 +90,6 @@ fn print_curves(n: usize, curves: &[f64], firsts: &[u32]) {
         cases::print_count(wide(firsts[i]));
         print_floats(&curves[from..to]);
         cases::end_line();
-        i += 1;
-    }
-}
-
-// The next number from standard input.
-fn read_float() -> f64 {
-    let mut bytes = [0u8; 8];
-    io::read_full(STDIN_FILENO, &mut bytes);
-    cases::number(&bytes, 0)
-}
-
-// The next n numbers, as far as the slice has room for them.
-fn read_floats(out: &mut [f64], n: usize) {
-    let mut i: usize = 0;
-    while i < n {
-        if i >= out.len() {
-            return;
-        }
-        out[i] = read_float();
         i += 1;
     }
 }
@@ -169,7 +133,7 @@ fn answer(
     match fitted {
         Fitted::Curves(n) => {
             cases::print_count(0);
-            print_next_count(n as u64);
+            cases::print_next_count(n as u64);
             print_left(curves, firsts, params);
             if lists == 1 {
                 print_lists(n, curves, firsts, params, marks.len() / 2);
@@ -244,7 +208,7 @@ fn step() -> bool {
     let mut curves = [7.5; 32768];
     let mut firsts = [7u32; 4096];
     let mut params = [7.5; 4097];
-    read_floats(&mut marks, cases::word(&head, 8) as usize);
+    cases::read_floats(&mut marks, cases::word(&head, 8) as usize);
     record(&head, &marks, &mut curves, &mut firsts, &mut params)
 }
 

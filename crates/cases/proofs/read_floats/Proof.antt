@@ -1,11 +1,11 @@
--- `fit_cases::read_floats` meets its contract: it ends, and stays inside its slices. Assumes nothing.
+-- `cases::read_floats` meets its contract: it ends, and stays inside its slices. Assumes nothing.
 use borrow.Author.Needs.{needs}
 use native.Mathlib.Omega.{arith}
 use Prim.Native.Nat.{_-_}
 use mathlib.Core.Path.{_≡_}
 use lib.ListN.{length}
-use Rattle.fit_cases.proofs.read_floats.Statement.{statement}
-use Rattle.fit_cases.proofs.read_floats.Tie as tie
+use Rattle.cases.proofs.read_floats.Statement.{statement}
+use Rattle.cases.proofs.read_floats.Tie as tie
 
 abbrev Inv-loop : tie.InvT-loop
 Inv-loop out₀ n i₀ out i = length out ≡ length out₀
