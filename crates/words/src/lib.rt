@@ -1,5 +1,5 @@
-// Words of a line as numbers: 16 upper-case hex digits, or a decimal number with no needless zero in front. A word that is anything else is
-// bad; no word has two readings, and no number two words of a kind.
+// Words of a line as numbers: 16 upper-case hex digits, or a decimal number with no needless zero in front, so that what `text` writes is read
+// back and nothing looser is taken. A word that is anything else is bad.
 ghost use mathlib.Core.Path.{_≡_};
 ghost use Prim.Native.Nat.{_<_};
 ghost use Rattle.words.specs.Words.{digitOf, numberFrom, hexOf, plainOf, decimalOf};
