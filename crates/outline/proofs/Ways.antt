@@ -1,0 +1,56 @@
+-- What each way through the listing shows. Assumes nothing.
+use mathlib.Core.Path.{_≡_, refl, sym, ap, _∙_}
+use mathlib.Core.Bool.{true, false}
+use mathlib.Core.List.{List}
+use Prim.Native.Nat.{ℕ, _*_, _/_, _<_, _≤_}
+use native.Mathlib.Omega.{arith}
+use borrow.Author.Tests.{le-leb, lt-leb}
+use lib.Dec.{leb}
+use lib.ListN.{length, take}
+use Rattle.float.specs.Answer.{Answer, ok, refused, unless}
+use Rattle.fit.specs.Fit.{Ending}
+use Rattle.lines.specs.Lines.{outlineLines, refusalLine}
+use Rattle.house.specs.Held.{fileAt, fileOf}
+use Rattle.house.proofs.Rows.{length-words}
+use Rattle.grammar.proofs.Laid.{laid-candidate}
+use Rattle.heads.specs.Layout.{layoutOf}
+use Rattle.heads.specs.declared.Layout.the-variants as layout
+use Rattle.heads.proofs.Ways.{Told, untold}
+use Rattle.file_fit.specs.FileFit.{fileFit}
+use Rattle.outline.specs.Outline.{fitLines, roomyFit, linesOf, shown, listingOf}
+
+-- ---- refusals before the fit
+
+pub list-long : (b : List ℕ) → 65536 < length b → listingOf b ≡ refusalLine 9
+unfolding linesOf
+list-long b h = rw (lt-leb (length b) 65536 h)
+
+pub list-broken : (b : List ℕ) → length b ≤ 65536 → layoutOf b ≡ layout.Broken → listingOf b ≡ refusalLine 9
+unfolding linesOf fileOf
+list-broken b h e = rw (le-leb (length b) 65536 h, untold b e)
+
+module _ {b : List ℕ} {n k : ℕ} (h : length b ≤ 65536) (t : Told b n k) where
+  lines-at : linesOf b ≡ unless 1 (leb 2 n) (unless 2 (leb n 512) (fitLines n (roomyFit (fileAt b n 0))))
+  unfolding linesOf fileOf roomyFit fileFit
+  lines-at =
+      let half : 2 * n / 2 ≡ n = omega arith in
+      simp (le-leb (length b) 65536 h, t .file, laid-candidate (t .laid), length-words, half)
+
+  pub list-few : n < 2 → listingOf b ≡ refusalLine 1
+  list-few f = rw (lines-at, lt-leb 2 n f)
+
+  pub list-many : 512 < n → listingOf b ≡ refusalLine 2
+  list-many m = rw (lines-at, le-leb 2 n (omega arith), lt-leb n 512 m)
+
+  pub list-fit : 2 ≤ n → n ≤ 512 → listingOf b ≡ shown (fitLines n (roomyFit (fileAt b n 0)))
+  list-fit f m = rw (lines-at, le-leb 2 n f, le-leb n 512 m)
+
+-- ---- what a fit shows
+
+pub fit-done : (n : ℕ) (E : Ending) (k : ℕ) → E .answer ≡ ok k → shown (fitLines n E) ≡ outlineLines n (take k (E .firsts)) (E .curves)
+unfolding fitLines
+fit-done n E k e = rw e
+
+pub fit-refused : (n : ℕ) (E : Ending) (q : ℕ) → E .answer ≡ refused q → shown (fitLines n E) ≡ refusalLine q
+unfolding fitLines
+fit-refused n E q e = rw e
