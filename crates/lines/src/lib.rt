@@ -49,7 +49,7 @@ fn put_piece(out: &mut [u8], at: usize, first: u32, curve: &[f64]) -> usize
 // A line for each of the first k curves.
 fn put_pieces(out: &mut [u8], at: usize, firsts: &[u32], curves: &[f64], k: usize) -> usize
     requires { ⌜ (at + 153 * k ≤ length (now out)) × ((k ≤ length (now firsts)) × (8 * k ≤ length (now curves))) ⌝ }
-    ensures { λ r. ⌜ Put (now (out .entry)) at (pieceLines (take k (now (firsts .entry))) (now (curves .entry))) (now (out .exit)) r ⌝ }
+    ensures { λ r. ⌜ (r ≤ at + 153 * k) × Put (now (out .entry)) at (pieceLines (take k (now (firsts .entry))) (now (curves .entry))) (now (out .exit)) r ⌝ }
 {
     let mut end = at;
     let mut i = 0;
@@ -76,7 +76,7 @@ fn put_first(out: &mut [u8], n: u64, k: u64) -> usize
 // An outline of n marks with its first k curves.
 pub fn put_outline(out: &mut [u8], n: usize, firsts: &[u32], curves: &[f64], k: usize) -> usize
     requires { ⌜ (50 + 153 * k ≤ length (now out)) × ((k ≤ length (now firsts)) × (8 * k ≤ length (now curves))) ⌝ }
-    ensures { λ r. ⌜ Put (now (out .entry)) 0 (outlineLines n (take k (now (firsts .entry))) (now (curves .entry))) (now (out .exit)) r ⌝ }
+    ensures { λ r. ⌜ (r ≤ 50 + 153 * k) × Put (now (out .entry)) 0 (outlineLines n (take k (now (firsts .entry))) (now (curves .entry))) (now (out .exit)) r ⌝ }
 {
     let pieces = put_first(out, n as u64, k as u64);
     put_pieces(out, pieces, firsts, curves, k)
@@ -85,7 +85,7 @@ pub fn put_outline(out: &mut [u8], n: usize, firsts: &[u32], curves: &[f64], k: 
 // The line of a refusal.
 pub fn put_refusal(out: &mut [u8], q: u32) -> usize
     requires { ⌜ 19 ≤ length (now out) ⌝ }
-    ensures { λ r. ⌜ Put (now (out .entry)) 0 (refusalLine q) (now (out .exit)) r ⌝ }
+    ensures { λ r. ⌜ (r ≤ 19) × Put (now (out .entry)) 0 (refusalLine q) (now (out .exit)) r ⌝ }
 {
     let number = put_bytes(out, 0, b"REFUSED ");
     let end = put_decimal(out, number, q as u64);

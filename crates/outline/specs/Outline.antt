@@ -28,7 +28,9 @@ mostListed = 512
 
 -- the lines of a fit of n marks that ends as E, or the fit's refusal
 unfoldable pub fitLines : ℕ → Ending → Answer (List ℕ)
-fitLines n E = E .answer >>= (λ k. ok (outlineLines n (take k (E .firsts)) (E .curves)))
+fitLines n E = do
+  k ← E .answer
+  ok (outlineLines n (take k (E .firsts)) (E .curves))
 
 -- so many zeros, for first marks
 unfoldable pub noMarks : ℕ → List ℕ

@@ -55,7 +55,7 @@ fn text_room() -> [u8; 78233]
 // The text for a file of n marks that is well formed.
 fn put_fit(file: &[u8], n: usize, text: &mut [u8]) -> usize
     requires { ⌜ (marksAt + markBytes * n ≤ length (now file)) × ((n ≤ 512) × (78233 ≤ length (now text))) ⌝ }
-    ensures { λ r. ⌜ Put (now (text .entry)) 0 (shown (fitLines n (roomyFit (fileAt (now (file .entry)) n 0)))) (now (text .exit)) r ⌝ }
+    ensures { λ r. ⌜ (r ≤ 78233) × Put (now (text .entry)) 0 (shown (fitLines n (roomyFit (fileAt (now (file .entry)) n 0)))) (now (text .exit)) r ⌝ }
 {
     let mut curves = curve_room();
     let mut firsts = first_room();
@@ -69,7 +69,7 @@ fn put_fit(file: &[u8], n: usize, text: &mut [u8]) -> usize
 // The text for any bytes. It has at most 50 bytes, and 153 for each of at most 511 curves.
 fn put_listing(file: &[u8], text: &mut [u8]) -> usize
     requires { ⌜ 78233 ≤ length (now text) ⌝ }
-    ensures { λ r. ⌜ Put (now (text .entry)) 0 (listingOf (now (file .entry))) (now (text .exit)) r ⌝ }
+    ensures { λ r. ⌜ (r ≤ 78233) × Put (now (text .entry)) 0 (listingOf (now (file .entry))) (now (text .exit)) r ⌝ }
 {
     if file.len() > MOST_BYTES {
         return put_refusal(text, BADLY_FORMED);

@@ -20,7 +20,7 @@ returns : tie.Need-returns
 unfolding outlineLines
 returns c =
     let a = c .before .before .before .before .before .before .before .before .before .before .before .args in
-    rw (length-take-le (a .k) (a .firsts .now) (omega arith)) (next (c .before .before .before .before .before .before .put-first .ensures .1) (c .before .before .put-pieces .ensures))
+    (omega arith, rw (length-take-le (a .k) (a .firsts .now) (omega arith)) (next (c .before .before .before .before .before .before .put-first .ensures .1) (c .before .before .put-pieces .ensures .1)))
 
 pub put-outline-spec : {M : Type 1} → statement M
 put-outline-spec =

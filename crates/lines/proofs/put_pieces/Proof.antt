@@ -67,7 +67,7 @@ returns : tie.Need-returns Inv-loop μ-loop
 returns c =
     let l = c .before .loop in
     let e : l .i ≡ c .before .before .before .before .before .args .k = omega arith in
-    rw e at (l .inv .2)
+    (omega arith, rw e at (l .inv .2))
 
 pub put-pieces-spec : {M : Type 1} → statement M
 put-pieces-spec =

@@ -29,8 +29,8 @@ same-length c = search needs
 returns : tie.Need-returns
 unfolding refusalLine
 returns c =
-    let a = c .before .before .before .before .before .before .before .before .before .before .before .before .before .before .before .args in
-    next (next (one (a .out .now) 0 refusedWord (c .before .before .before .before .before .before .before .before .before .before .before .put-bytes .ensures)) (one _ _ (decimal (a .q)) (c .before .before .before .before .before .before .before .put-decimal .ensures))) (one _ _ newline (c .before .before .put-bytes2 .ensures))
+    let s = c .before .before .before .before .before .before .before .before .before .before .before .before .before .before .before in
+    (omega (arith, decimal-u32 (s .args .q) (s .fits .q .fits)), next (next (one (s .args .out .now) 0 refusedWord (c .before .before .before .before .before .before .before .before .before .before .before .put-bytes .ensures)) (one _ _ (decimal (s .args .q)) (c .before .before .before .before .before .before .before .put-decimal .ensures))) (one _ _ newline (c .before .before .put-bytes2 .ensures)))
 
 pub put-refusal-spec : {M : Type 1} → statement M
 put-refusal-spec =
