@@ -13,15 +13,15 @@ use Rattle.house.proofs.Numbers.{length-le}
 use Rattle.house.proofs.Rows.{length-words, length-les, words-suc, les-append}
 
 -- a store that makes a front one longer
-pub front-suc : (xs l : List ℕ) (x i : ℕ) → length xs ≡ i → i < length l → set (xs ++ drop i l) i x ≡ (xs ++ (x ∷ [])) ++ drop (i + 1) l
-front-suc xs l x i e h = rw (drop-cons l i 0, set-at xs _ _ x i, append-snoc, add-one)
+pub front-suc : {A : Type 0} (d : A) (xs l : List A) (x : A) (i : ℕ) → length xs ≡ i → i < length l → set (xs ++ drop i l) i x ≡ (xs ++ (x ∷ [])) ++ drop (i + 1) l
+front-suc d xs l x i e h = rw (drop-cons l i d, set-at xs _ _ x i, append-snoc, add-one)
 
 -- one more number read
 pub words-turn : (b : List ℕ) (at : ℕ) (l : List ℕ) (i : ℕ) → i < length l
     → set (words i (drop at b) ++ drop i l) i (num 8 b (at + 8 * i)) ≡ words (i + 1) (drop at b) ++ drop (i + 1) l
 words-turn b at l i h =
     let e : words (i + 1) (drop at b) ≡ words i (drop at b) ++ (num 8 b (at + 8 * i) ∷ []) = rw (add-one i, words-suc, drop-drop) in
-    front-suc (words i (drop at b)) l (num 8 b (at + 8 * i)) i (length-words i (drop at b)) h
+    front-suc 0 (words i (drop at b)) l (num 8 b (at + 8 * i)) i (length-words i (drop at b)) h
     ∙ ap (λ (r : List ℕ). r ++ drop (i + 1) l) (sym e)
 
 -- a number's bytes, and its halves

@@ -33,7 +33,7 @@ pub firsts-turn : (b : List ℕ) (at : ℕ) (l : List ℕ) (i : ℕ) → i < len
 firsts-turn b at l i h =
     let p : at + (72 * i + 6) ≡ at + 72 * i + 6 = omega arith in
     let e : firstsOf (i + 1) (drop at b) ≡ firstsOf i (drop at b) ++ (num 2 b (at + 72 * i + 6) ∷ []) = rw (add-one i, firsts-suc, drop-drop, p) in
-    front-suc (firstsOf i (drop at b)) l (num 2 b (at + 72 * i + 6)) i (length-firsts i (drop at b)) h
+    front-suc 0 (firstsOf i (drop at b)) l (num 2 b (at + 72 * i + 6)) i (length-firsts i (drop at b)) h
     ∙ ap (λ (r : List ℕ). r ++ drop (i + 1) l) (sym e)
 
 -- the front as it is, and eight more numbers

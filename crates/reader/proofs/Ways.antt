@@ -1,6 +1,6 @@
 -- What each way through the reader answers. Assumes nothing.
-use mathlib.Core.Path.{_≡_, refl}
-use mathlib.Core.Bool.{Bool, true, false, _&&_, cond}
+use mathlib.Core.Path.{_≡_}
+use mathlib.Core.Bool.{true, false, _&&_}
 use mathlib.Core.List.{List}
 use Prim.Native.Nat.{ℕ, _*_, _/_, _<_, _≤_}
 use native.Mathlib.Omega.{arith}
@@ -10,7 +10,7 @@ use lib.ListN.{length}
 use Rattle.float.specs.Answer.{ok, refused, unless}
 use Rattle.heads.specs.declared.Layout.the-variants as layout
 use Rattle.house.specs.Bytes.{num}
-use Rattle.house.specs.Held.{marksHeld, curvesHeld, fileAt, isFile, fileOf}
+use Rattle.house.specs.Held.{fileAt, fileOf}
 use Rattle.house.specs.Slices.{room}
 use Rattle.reader.specs.Reader.{judged, outcome, readOf}
 use Rattle.heads.specs.Layout.{layoutOf}
@@ -19,35 +19,7 @@ use Rattle.house.proofs.Rows.{length-words}
 use Rattle.grammar.proofs.Curves.{length-firsts}
 use Rattle.grammar.proofs.Laid.{Laid, plain, full, laid-candidate}
 use Rattle.grammar.proofs.Rooms.{size-none, size-some, places}
-use Rattle.grammar.proofs.Candidate.{file-laid}
-
--- ---- the layout
-
--- what a layout that was found tells
-pub record Told (b : List ℕ) (n k : ℕ) : Type 0 where
-  pub file : isFile b ≡ true
-  pub laid : Laid b n k
-
-pub told : (b : List ℕ) (n k : ℕ) → layoutOf b ≡ layout.Counts n k → Told b n k
-unfolding layoutOf
-told b n k e = go (isFile b) refl e
-  where
-    go : (t : Bool) → isFile b ≡ t → cond t (layout.Counts (marksHeld b) (curvesHeld b (marksHeld b))) layout.Broken ≡ layout.Counts n k → Told b n k
-    go true h q =
-        let en : marksHeld b ≡ n = cc in
-        let ek : curvesHeld b (marksHeld b) ≡ k = cc in
-        record { file = h; laid = rw (ek, en) at (file-laid h) }
-    go false h q = let z : _≡_ {A = ℕ} 0 1 = cc in absurd (omega arith)
-
-untold : (b : List ℕ) → layoutOf b ≡ layout.Broken → isFile b ≡ false
-unfolding layoutOf
-untold b e = go (isFile b) refl e
-  where
-    go : (t : Bool) → isFile b ≡ t → cond t (layout.Counts (marksHeld b) (curvesHeld b (marksHeld b))) layout.Broken ≡ layout.Broken → isFile b ≡ false
-    go true h q = let z : _≡_ {A = ℕ} 0 1 = cc in absurd (omega arith)
-    go false h q = h
-
--- ---- the answer
+use Rattle.heads.proofs.Ways.{Told, untold}
 
 pub read-broken : (b : List ℕ) {M P C Q : List ℕ} → layoutOf b ≡ layout.Broken → outcome (refused 9) M P C Q ≡ readOf b M P C Q
 unfolding readOf judged fileOf

@@ -9,7 +9,8 @@ use borrow.Author.Tests.{ltb-true, ltb-false, lt-ltb, le-ltb}
 use lib.Dec.{ltb}
 use lib.ListN.{length, set, length-append}
 use lib.Seq.{sets}
-use Rattle.text.specs.Text.{digitChar, lastDigits, decimal, hex}
+use Rattle.text.specs.Text.{digitChar, lastDigits, decimal, hex, hex16}
+use Rattle.text.specs.Put.{Put}
 use Rattle.text.proofs.Stores.{sets-append, set-sets}
 
 -- ---- decimal
@@ -57,6 +58,13 @@ decimal-length (suc k) n h = go (ltb n 10) refl (λ a. decimal-length k (n / 10)
         let s = r (omega arith) in
         omega (arith, length-more n m)
 
+-- of a u64, and of a u32
+pub decimal-u64 : (n : ℕ) → n < 2 ^ 64 → length (decimal n) ≤ 20
+decimal-u64 n h = decimal-length 19 n (omega arith)
+
+pub decimal-u32 : (n : ℕ) → n < 2 ^ 32 → length (decimal n) ≤ 10
+decimal-u32 n h = decimal-length 9 n (omega arith)
+
 -- what two calls put, one behind the other
 pub put-more : (l : List ℕ) (at n e : ℕ) → 10 ≤ n → e ≡ at + length (decimal (n / 10)) → set (sets l at (decimal (n / 10))) e (digitChar (n % 10)) ≡ sets l at (decimal n)
 put-more l at n e h q = rw (decimal-more n h, q) (sym (sets-append (decimal (n / 10)) (digitChar (n % 10) ∷ []) l at))
@@ -67,6 +75,10 @@ pub length-hex : (k x : ℕ) → length (hex k x) ≡ k
 unfolding hex
 length-hex zero x = refl
 length-hex (suc k) x = ap suc (length-hex k x)
+
+-- sixteen digits, as a text that was put
+pub one-hex : (l : List ℕ) (at x : ℕ) {m : List ℕ} {e : ℕ} → (e ≡ at + 16) × (m ≡ sets l at (hex16 x)) → Put l at (hex16 x) m e
+one-hex l at x h = record { end = rw (length-hex 16 x) (h .0); out = h .1 }
 
 -- one more digit, in front of those that are there
 pub hex-turn : (l : List ℕ) (at x i : ℕ) → 0 < i → i ≤ 16

@@ -5,9 +5,10 @@ use Prim.Native.Nat.{ℕ, suc, _+_, _<_, _≤_}
 use native.Mathlib.Nat.{add-zero}
 use native.Mathlib.Numerals.{add-one}
 use native.Mathlib.Omega.{arith}
-use lib.ListN.{length, take, set, getD}
-use lib.Seq.{set-comm, take-suc, length-take-le, sets, sets-eq}
+use lib.ListN.{length, take, set, getD, length-append}
+use lib.Seq.{set-comm, take-suc, length-take-le, sets, sets-eq, length-sets}
 use Rattle.float.specs.Slices.{written}
+use Rattle.text.specs.Put.{Put}
 
 -- two runs of stores, the second behind the first, are one
 pub sets-append : (xs ys l : List ℕ) (i : ℕ) → sets l i (xs ++ ys) ≡ sets (sets l i xs) (i + length xs) ys
@@ -32,3 +33,17 @@ sets-suc l xs at i h =
 -- a run of stores from the front on
 pub written-sets : (xs l : List ℕ) → length xs ≤ length l → sets l 0 xs ≡ written xs l
 written-sets xs l h = let z : 0 + length xs ≡ length xs = omega arith in rw (sets-eq xs l 0 (omega arith), z)
+
+-- ---- texts put one behind the other
+
+pub one : (l : List ℕ) (at : ℕ) (xs : List ℕ) {m : List ℕ} {e : ℕ} → (e ≡ at + length xs) × (m ≡ sets l at xs) → Put l at xs m e
+one l at xs h = record { end = h .0; out = h .1 }
+
+pub next : {l : List ℕ} {at : ℕ} {xs m : List ℕ} {e : ℕ} {ys m′ : List ℕ} {e′ : ℕ} → Put l at xs m e → Put m e ys m′ e′ → Put l at (xs ++ ys) m′ e′
+next {l} {at} {xs} {m} {e} {ys} p q = record {
+  end = simp length-append (omega (arith, p .end, q .end));
+  out = q .out ∙ rw (p .out, p .end) (sym (sets-append xs ys l at));
+}
+
+pub put-length : {l : List ℕ} {at : ℕ} {xs m : List ℕ} {e : ℕ} → Put l at xs m e → length m ≡ length l
+put-length {l} {at} {xs} p = ap length (p .out) ∙ length-sets l at xs

@@ -3,7 +3,8 @@ use mathlib.Core.Path.{sym, _∙_}
 use native.Mathlib.Omega.{arith}
 use borrow.Author.Needs.{needs}
 use Rattle.grammar.proofs.Laid.{laid-started}
-use Rattle.reader.proofs.Ways.{Told, told, told-room, read-broken, read-many, read-few, read-short, read-given}
+use Rattle.heads.proofs.Ways.{Told, told}
+use Rattle.reader.proofs.Ways.{told-room, read-broken, read-many, read-few, read-short, read-given}
 use Rattle.reader.proofs.read_file.Statement.{statement}
 use Rattle.reader.proofs.read_file.Tie as tie
 

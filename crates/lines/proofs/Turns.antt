@@ -1,0 +1,44 @@
+-- Laws of the listing's lines: one more number, one more curve. Assumes nothing.
+use mathlib.Core.Path.{_≡_, refl, sym, ap, _∙_}
+use mathlib.Core.List.{List, [], _∷_, _++_, append-nil, append-assoc}
+use Prim.Native.Nat.{ℕ, zero, suc, _+_, _-_, _*_, _<_, _≤_}
+use native.Mathlib.Numerals.{add-one}
+use native.Mathlib.Omega.{arith}
+use lib.ListN.{length, take, drop, getD, length-append}
+use lib.Seq.{take-suc, take-take, drop-drop}
+use lib.Ieee.{Float, nan}
+use Rattle.text.specs.Put.{Put}
+use Rattle.text.proofs.Digits.{length-hex}
+use Rattle.lines.specs.Lines.{numbers, pieceLine, pieceLines}
+
+pub length-numbers : (xs : List Float) → length (numbers xs) ≡ 17 * length xs
+unfolding numbers
+length-numbers [] = refl
+length-numbers (x ∷ xs) = simp (length-append, length-hex, length-numbers xs) (omega arith)
+
+numbers-append : (xs ys : List Float) → numbers (xs ++ ys) ≡ numbers xs ++ numbers ys
+unfolding numbers
+numbers-append [] ys = refl
+numbers-append (x ∷ xs) ys = rw (numbers-append xs ys) (simp append-assoc)
+
+-- one more number
+pub numbers-suc : (xs : List Float) (i : ℕ) → i < length xs → numbers (take i xs) ++ numbers (getD xs i nan ∷ []) ≡ numbers (take (i + 1) xs)
+numbers-suc xs i h = sym (rw (add-one i, take-suc xs i nan, numbers-append))
+
+-- one more curve
+pieces-next : (P : List ℕ) (C : List Float) (i : ℕ) → i < length P → pieceLines (take i P) C ++ pieceLine (getD P i 0) (take 8 (drop (8 * i) C)) ≡ pieceLines (take (suc i) P) C
+unfolding pieceLines
+pieces-next [] C i h = absurd (omega arith)
+pieces-next (p ∷ P) C zero h = sym (append-nil (pieceLine p (take 8 C)))
+pieces-next (p ∷ P) C (suc i) h =
+    let e : 8 + 8 * i ≡ 8 * suc i = omega arith in
+    let s = rw (drop-drop, e) at (pieces-next P (drop 8 C) i (omega arith)) in
+    append-assoc (pieceLine p (take 8 C)) (pieceLines (take i P) (drop 8 C)) (pieceLine (getD P i 0) (take 8 (drop (8 * suc i) C))) ∙ rw s
+
+pub pieces-suc : (P : List ℕ) (C : List Float) (i : ℕ) → i < length P
+    → pieceLines (take i P) C ++ pieceLine (getD P i 0) (take 8 (drop (8 * i) C)) ≡ pieceLines (take (i + 1) P) C
+pieces-suc P C i h = rw (add-one i) (pieces-next P C i h)
+
+-- the curve that was lent as all numbers from 8 * i on
+pub piece-part : (C : List Float) (i : ℕ) → 8 * i + 8 ≤ length C → take 8 (take (length C - 8 * i) (drop (8 * i) C)) ≡ take 8 (drop (8 * i) C)
+piece-part C i h = take-take 8 (length C - 8 * i) (drop (8 * i) C) (omega arith)

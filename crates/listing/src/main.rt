@@ -1,0 +1,20 @@
+// Lists the outline of a house file: the file on standard input, its listing on standard output.
+use libc::STDIN_FILENO;
+use libc::STDOUT_FILENO;
+use outline::Listed;
+use outline::list_outline;
+
+// One byte more is read than is listed, so that too long a file is seen. What is lent holds the longest text, so the call is not refused.
+fn main() {
+    let mut file = [0u8; 65537];
+    let mut out = [0u8; 78233];
+    let got = io::read_full(STDIN_FILENO, &mut file);
+    let listed = list_outline(&file[..got], &mut out);
+    let Listed::Bytes(n) = listed else {
+        return;
+    };
+    if n > out.len() {
+        return;
+    }
+    io::write_all(STDOUT_FILENO, &out[..n]);
+}

@@ -1,0 +1,3 @@
+mod Counts
+mod Ways
+pub mod Agree

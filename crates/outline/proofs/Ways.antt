@@ -1,0 +1,113 @@
+-- What each way through the listing shows. Assumes nothing.
+use mathlib.Core.Path.{_≡_, refl, sym, ap, ap₂, _∙_}
+use mathlib.Core.Bool.{true, false}
+use mathlib.Core.List.{List}
+use Prim.Native.Nat.{ℕ, _+_, _*_, _/_, _<_, _≤_}
+use native.Mathlib.Omega.{arith}
+use borrow.Author.Tests.{le-leb, lt-leb}
+use lib.Dec.{leb}
+use lib.ListN.{length, take, drop}
+use lib.Seq.{sets, take-at}
+use Rattle.float.specs.Answer.{Answer, ok, refused, unless}
+use Rattle.float.specs.Slices.{written}
+use lib.Ieee.{Float}
+use Rattle.cut.specs.declared.Fitted.{Fitted}
+use Rattle.cut.specs.declared.Fitted.the-variants.{Curves, Refused}
+use Rattle.fit.specs.Fit.{Ending, fittedAnswer}
+use Rattle.lines.specs.Lines.{outlineLines, refusalLine}
+use Rattle.house.specs.Held.{fileAt, fileOf}
+use Rattle.house.proofs.Rows.{length-words}
+use Rattle.text.specs.Put.{Put}
+use Rattle.text.proofs.Stores.{written-sets}
+use Rattle.grammar.proofs.Laid.{Laid, plain, full, laid-candidate}
+use Rattle.heads.specs.Layout.{layoutOf}
+use Rattle.heads.specs.declared.Layout.the-variants as layout
+use Rattle.heads.proofs.Ways.{Told, untold}
+use Rattle.file_fit.specs.FileFit.{zeros, fileFit, Left}
+use Rattle.outline.specs.Outline.{noMarks, fitLines, roomyFit, linesOf, shown, listingOf, listing, listOf}
+use Rattle.outline.proofs.Counts.{fit-count}
+
+-- ---- refusals before the fit
+
+pub list-long : (b : List ℕ) → 65536 < length b → listingOf b ≡ refusalLine 9
+unfolding linesOf
+list-long b h = rw (lt-leb (length b) 65536 h)
+
+pub list-broken : (b : List ℕ) → length b ≤ 65536 → layoutOf b ≡ layout.Broken → listingOf b ≡ refusalLine 9
+unfolding linesOf fileOf
+list-broken b h e = rw (le-leb (length b) 65536 h, untold b e)
+
+module _ {b : List ℕ} {n k : ℕ} (h : length b ≤ 65536) (t : Told b n k) where
+  lines-at : linesOf b ≡ unless 1 (leb 2 n) (unless 2 (leb n 512) (fitLines n (roomyFit (fileAt b n 0))))
+  unfolding linesOf fileOf roomyFit fileFit
+  lines-at =
+      let half : 2 * n / 2 ≡ n = omega arith in
+      simp (le-leb (length b) 65536 h, t .file, laid-candidate (t .laid), length-words, half)
+
+  pub list-few : n < 2 → listingOf b ≡ refusalLine 1
+  list-few f = rw (lines-at, lt-leb 2 n f)
+
+  pub list-many : 512 < n → listingOf b ≡ refusalLine 2
+  list-many m = rw (lines-at, le-leb 2 n (omega arith), lt-leb n 512 m)
+
+  pub list-fit : 2 ≤ n → n ≤ 512 → listingOf b ≡ shown (fitLines n (roomyFit (fileAt b n 0)))
+  list-fit f m = rw (lines-at, le-leb 2 n f, le-leb n 512 m)
+
+-- ---- what a fit shows
+
+pub fit-done : (n : ℕ) (E : Ending) (k : ℕ) → E .answer ≡ ok k → shown (fitLines n E) ≡ outlineLines n (take k (E .firsts)) (E .curves)
+unfolding fitLines
+fit-done n E k e = rw e
+
+pub fit-refused : (n : ℕ) (E : Ending) (q : ℕ) → E .answer ≡ refused q → shown (fitLines n E) ≡ refusalLine q
+unfolding fitLines
+fit-refused n E q e = rw e
+
+module _ (b : List ℕ) (n : ℕ) (C : List Float) (P : List ℕ) where
+  same-fit : C ≡ zeros 4088 → P ≡ noMarks 511 → fileFit (fileAt b n 0) C P (zeros 512) ≡ roomyFit (fileAt b n 0)
+  unfolding roomyFit
+  same-fit eC eP = rw (eC, eP)
+
+  module _ {C′ : List Float} {P′ : List ℕ} (r : Fitted) {k : ℕ} (l : Left (fileFit (fileAt b n 0) C P (zeros 512)) (fittedAnswer r) C′ P′) where
+    done-answer : r ≡ Curves k → fileFit (fileAt b n 0) C P (zeros 512) .answer ≡ ok k
+    unfolding fittedAnswer
+    done-answer e = sym (l .answer) ∙ ap fittedAnswer e
+
+    refused-answer : r ≡ Refused k → fileFit (fileAt b n 0) C P (zeros 512) .answer ≡ refused k
+    unfolding fittedAnswer
+    refused-answer e = sym (l .answer) ∙ ap fittedAnswer e
+
+    -- there are no more curves than places
+    pub done-count : r ≡ Curves k → k ≤ length P′
+    done-count e = rw (l .firsts) (fit-count (fileAt b n 0) C P (zeros 512) k (done-answer e))
+
+    pub done-lines : C ≡ zeros 4088 → P ≡ noMarks 511 → r ≡ Curves k → shown (fitLines n (roomyFit (fileAt b n 0))) ≡ outlineLines n (take k P′) C′
+    done-lines eC eP e = rw (← same-fit eC eP, l .firsts, l .curves) (fit-done n (fileFit (fileAt b n 0) C P (zeros 512)) k (done-answer e))
+
+    pub refused-lines : C ≡ zeros 4088 → P ≡ noMarks 511 → r ≡ Refused k → shown (fitLines n (roomyFit (fileAt b n 0))) ≡ refusalLine k
+    refused-lines eC eP e = rw (← same-fit eC eP) (fit-refused n (fileFit (fileAt b n 0) C P (zeros 512)) k (refused-answer e))
+
+-- ---- the entry
+
+-- the marks are within the bytes
+pub marks-in : {b : List ℕ} {n k : ℕ} → Laid b n k → 20 + 16 * n ≤ length b
+marks-in (plain s z x) = omega arith
+marks-in (full s d) = omega (arith, d .size)
+
+-- from the text in bytes of the call's own to the answer
+module _ (b O : List ℕ) {T T′ : List ℕ} {s : ℕ} (p : Put T 0 (listingOf b) T′ s) where
+  pub list-short : length O < s → listing (refused 4) O ≡ listOf b O
+  unfolding listOf
+  list-short h = rw (lt-leb (length (listingOf b)) (length O) (omega (arith, p .end)))
+
+  pub text-front : s ≤ length T → take s T′ ≡ listingOf b
+  text-front h =
+      let z : length (listingOf b) ≡ s = omega (arith, p .end) in
+      rw (p .out, written-sets (listingOf b) T (rw z h)) (take-at (listingOf b) (drop (length (listingOf b)) T) s z)
+
+  pub list-done : (O′ : List ℕ) → s ≤ length T → s ≤ length O → O′ ≡ sets O 0 (take s T′) → listing (ok s) O′ ≡ listOf b O
+  unfolding listOf
+  list-done O′ h g e =
+      let z : length (listingOf b) ≡ s = omega (arith, p .end) in
+      let w : O′ ≡ written (listingOf b) O = e ∙ rw (text-front h) (written-sets (listingOf b) O (rw z g)) in
+      rw (le-leb (length (listingOf b)) (length O) (rw z g)) (ap₂ listing (ap ok (sym z)) w)

@@ -1,0 +1,12 @@
+-- `outline::first_room` meets its contract. Assumes nothing.
+use mathlib.Core.Path.{refl}
+use Rattle.outline.specs.Outline.{noMarks}
+use Rattle.outline.proofs.first_room.Statement.{statement}
+use Rattle.outline.proofs.first_room.Tie as tie
+
+returns : tie.Need-returns
+unfolding noMarks
+returns c = (refl, refl)
+
+pub first-room-spec : {M : Type 1} → statement M
+first-room-spec = tie.close (tie.spec returns)

@@ -1,0 +1,106 @@
+// The listing of an outline: a house file's bytes in, the whole text out.
+ghost use mathlib.Core.Path.{_≡_};
+ghost use Prim.Native.Nat.{_+_, _*_, _≤_};
+ghost use lib.ListN.{length};
+ghost use Rattle.text.specs.Put.{Put};
+ghost use Rattle.house.specs.Limits.{markBytes, marksAt};
+ghost use Rattle.house.specs.Held.{fileAt};
+ghost use Rattle.file_fit.specs.FileFit.{zeros};
+ghost use Rattle.outline.specs.Outline.{noMarks, fitLines, roomyFit, shown, listingOf, listing, listedAnswer, listOf};
+use cut::Fitted;
+use file_fit::fit_file;
+use float::refusal::BADLY_FORMED;
+use float::refusal::NO_ROOM;
+use float::refusal::TOO_FEW;
+use float::refusal::TOO_MANY;
+use heads::Layout;
+use heads::find_layout;
+use lines::put_outline;
+use lines::put_refusal;
+use text::put_bytes;
+
+// The most bytes that a listed file has.
+pub const MOST_BYTES: usize = 65536;
+
+// The most marks that are listed.
+const MOST_LISTED: usize = 512;
+
+// How many bytes of text were written; or why none were.
+pub enum Listed {
+    Bytes(usize),
+    Refused(u32),
+}
+
+// Zeros for 511 curves. A function hides from its callers' proofs how the array is made.
+fn curve_room() -> [f64; 4088]
+    ensures { λ r. ⌜ (4088 ≡ length r) × (r ≡ zeros 4088) ⌝ }
+{
+    [0.0; 4088]
+}
+
+// Zeros for 511 first marks.
+fn first_room() -> [u32; 511]
+    ensures { λ r. ⌜ (511 ≡ length r) × (r ≡ noMarks 511) ⌝ }
+{
+    [0; 511]
+}
+
+// Room for the longest text.
+fn text_room() -> [u8; 78233]
+    ensures { λ r. ⌜ 78233 ≡ length r ⌝ }
+{
+    [0; 78233]
+}
+
+// The text for a file of n marks that is well formed.
+fn put_fit(file: &[u8], n: usize, text: &mut [u8]) -> usize
+    requires { ⌜ (marksAt + markBytes * n ≤ length (now file)) × ((n ≤ 512) × (78233 ≤ length (now text))) ⌝ }
+    ensures { λ r. ⌜ (r ≤ 78233) × Put (now (text .entry)) 0 (shown (fitLines n (roomyFit (fileAt (now (file .entry)) n 0)))) (now (text .exit)) r ⌝ }
+{
+    let mut curves = curve_room();
+    let mut firsts = first_room();
+    let fitted = fit_file(file, n, &mut curves, &mut firsts);
+    match fitted {
+        Fitted::Curves(k) => put_outline(text, n, &firsts, &curves, k),
+        Fitted::Refused(q) => put_refusal(text, q),
+    }
+}
+
+// The text for any bytes. It has at most 50 bytes, and 153 for each of at most 511 curves.
+fn put_listing(file: &[u8], text: &mut [u8]) -> usize
+    requires { ⌜ 78233 ≤ length (now text) ⌝ }
+    ensures { λ r. ⌜ (r ≤ 78233) × Put (now (text .entry)) 0 (listingOf (now (file .entry))) (now (text .exit)) r ⌝ }
+{
+    if file.len() > MOST_BYTES {
+        return put_refusal(text, BADLY_FORMED);
+    }
+    let layout = find_layout(file);
+    let Layout::Counts {
+        marks: n,
+        curves: _,
+    } = layout
+    else {
+        return put_refusal(text, BADLY_FORMED);
+    };
+    if n < 2 {
+        return put_refusal(text, TOO_FEW);
+    }
+    if n > MOST_LISTED {
+        return put_refusal(text, TOO_MANY);
+    }
+    put_fit(file, n, text)
+}
+
+// Lists the outline of a house file in the first bytes of `out`: a line for the counts and one for each curve, or one line that names a
+// refusal. Where `out` is too short for the text the call itself is refused, and `out` stays as it is.
+pub fn list_outline(file: &[u8], out: &mut [u8]) -> Listed
+    ensures { λ r. ⌜ listing (listedAnswer r) (now (out .exit)) ≡ listOf (now (file .entry)) (now (out .entry)) ⌝ }
+{
+    let mut text = text_room();
+    let size = put_listing(file, &mut text);
+    if out.len() < size {
+        return Listed::Refused(NO_ROOM);
+    }
+    put_bytes(out, 0, &text[..size]);
+    Listed::Bytes(size)
+}
