@@ -1,5 +1,5 @@
 -- The loop over the marks' numbers, and what a passed gate says. Assumes nothing.
-use Prim.Native.Nat.{ℕ, suc, _+_, _-_, _*_, _%_, _≤_, _<_}
+use Prim.Native.Nat.{ℕ, suc, _+_, _-_, _*_, _/_, _%_, _≤_, _<_}
 use native.Mathlib.Omega.{arith}
 use native.Mathlib.Numerals.{add-one}
 use mathlib.Core.Path.{_≡_, refl, sym, _∙_}
@@ -9,10 +9,10 @@ use lib.ListN.{length, drop, getD, drop-of-length-le}
 use lib.Seq.{drop-cons}
 use lib.Dec.{ltb, eqb}
 use lib.Ieee.{Float, nan}
-use borrow.Author.Tests.{ltb-false, eqb-true, not-false}
+use borrow.Author.Tests.{ltb-false, eqb-true, eq-eqb, le-ltb, not-false}
 use Rattle.plane.specs.Range.{coordinate}
 use Rattle.marks.specs.Marks.{count}
-use Rattle.gate.specs.Gate.{inRange, tolerable, refuse, gateOf}
+use Rattle.gate.specs.Gate.{inRange, tolerable, refuse, gateFor}
 
 module _ (ms : List Float) (i : ℕ) (inv : inRange (drop i ms) ≡ inRange ms) where
   next : i < length ms → inRange (drop i ms) ≡ coordinate (getD ms i nan) && inRange (drop (i + 1) ms)
@@ -34,28 +34,35 @@ past : (b : Bool) (q n : ℕ) → refuse b (suc q) n ≡ 0 → (b ≡ false) × 
 past true q n h = absurd (omega arith)
 past false q n h = (refl, h)
 
--- what a gate that gave 0 has tested
-pub record Passed (top : ℕ) (ms : List Float) (tol : Float) (c f p : ℕ) : Type 0 where
+-- room for eight numbers a curve, by a division
+pub room-short : (k c : ℕ) → c / 8 < k → c < 8 * k
+room-short k c h = omega arith
+
+pub room-enough : (k c : ℕ) → k ≤ c / 8 → 8 * k ≤ c
+room-enough k c h = omega arith
+
+-- what a gate that gave 0 has tested, with room for k curves
+pub record PassedFor (top k : ℕ) (ms : List Float) (tol : Float) (c f p : ℕ) : Type 0 where
   pub even : length ms % 2 ≡ 0
   pub two : 2 ≤ count ms
   pub most : count ms ≤ top
-  pub curves : 8 * (count ms - 1) ≤ c
-  pub firsts : count ms - 1 ≤ f
+  pub curves : 8 * k ≤ c
+  pub firsts : k ≤ f
   pub params : count ms ≤ p
   pub near : inRange ms ≡ true
   pub usable : tolerable tol ≡ true
 
-pub passed : (top : ℕ) (ms : List Float) (tol : Float) (c f p : ℕ) → gateOf top ms tol c f p ≡ 0 → Passed top ms tol c f p
-unfolding gateOf
-passed top ms tol c f p h =
+pub passed-for : (top k : ℕ) (ms : List Float) (tol : Float) (c f p : ℕ) → gateFor top k ms tol c f p ≡ 0 → PassedFor top k ms tol c f p
+unfolding gateFor
+passed-for top k ms tol c f p h =
     let a = past (not (eqb (length ms % 2) 0)) 2 _ h in
     let b = past (ltb (count ms) 2) 0 _ (a .1) in
     let d = past (ltb top (count ms)) 1 _ (b .1) in
-    let e = past (ltb c (8 * (count ms - 1))) 3 _ (d .1) in
-    let g = past (ltb f (count ms - 1)) 3 _ (e .1) in
+    let e = past (ltb c (8 * k)) 3 _ (d .1) in
+    let g = past (ltb f k) 3 _ (e .1) in
     let i = past (ltb p (count ms)) 3 _ (g .1) in
     let j = past (not (inRange ms)) 4 _ (i .1) in
-    let k = past (not (tolerable tol)) 4 0 (j .1) in
+    let l = past (not (tolerable tol)) 4 0 (j .1) in
     record {
       even = eqb-true _ _ (not-false _ (a .0));
       two = ltb-false _ _ (b .0);
@@ -64,5 +71,18 @@ passed top ms tol c f p h =
       firsts = ltb-false _ _ (g .0);
       params = ltb-false _ _ (i .0);
       near = not-false _ (j .0);
-      usable = not-false _ (k .0);
+      usable = not-false _ (l .0);
     }
+
+-- and nothing else is tested
+pub passes : (top k : ℕ) (ms : List Float) (tol : Float) (c f p : ℕ) → PassedFor top k ms tol c f p → gateFor top k ms tol c f p ≡ 0
+unfolding gateFor
+passes top k ms tol c f p h =
+    simp (eq-eqb (length ms % 2) 0 (h .even), le-ltb (count ms) 2 (h .two), le-ltb top (count ms) (h .most), le-ltb c (8 * k) (h .curves), le-ltb f k (h .firsts), le-ltb p (count ms) (h .params), h .near, h .usable)
+
+-- a fit's gate, with room for as many curves as there can be
+abbrev pub Passed : ℕ → List Float → Float → ℕ → ℕ → ℕ → Type 0
+Passed top ms tol c f p = PassedFor top (count ms - 1) ms tol c f p
+
+pub passed : (top : ℕ) (ms : List Float) (tol : Float) (c f p : ℕ) → gateFor top (count ms - 1) ms tol c f p ≡ 0 → Passed top ms tol c f p
+passed top ms tol c f p h = passed-for top (count ms - 1) ms tol c f p h

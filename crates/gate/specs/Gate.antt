@@ -23,14 +23,18 @@ abbrev pub refuse : Bool → ℕ → ℕ → ℕ
 refuse true q n = q
 refuse false q n = n
 
--- at most `top` marks; room for c numbers of curves, f first marks and p parameters; 0 if all tests pass
-unfoldable pub gateOf : ℕ → List Float → Float → ℕ → ℕ → ℕ → ℕ
-gateOf top ms tol c f p =
+-- at most `top` marks; room for k curves in c numbers of curves and f first marks, and for every mark in p parameters; 0 if all tests pass
+unfoldable pub gateFor : ℕ → ℕ → List Float → Float → ℕ → ℕ → ℕ → ℕ
+gateFor top k ms tol c f p =
     refuse (not (eqb (length ms % 2) 0)) 3
     (refuse (ltb (count ms) 2) 1
     (refuse (ltb top (count ms)) 2
-    (refuse (ltb c (8 * (count ms - 1))) 4
-    (refuse (ltb f (count ms - 1)) 4
+    (refuse (ltb c (8 * k)) 4
+    (refuse (ltb f k) 4
     (refuse (ltb p (count ms)) 4
     (refuse (not (inRange ms)) 5
     (refuse (not (tolerable tol)) 5 0)))))))
+
+-- a fit wants room for as many curves as there can be, one fewer than the marks
+abbrev pub gateOf : ℕ → List Float → Float → ℕ → ℕ → ℕ → ℕ
+gateOf top ms tol c f p = gateFor top (count ms - 1) ms tol c f p

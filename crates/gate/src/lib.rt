@@ -2,7 +2,7 @@
 ghost use mathlib.Core.Path.{_≡_};
 ghost use lib.ListN.{length, replicate};
 ghost use Rattle.float.specs.Number.{f0};
-ghost use Rattle.gate.specs.Gate.{inRange, tolerable, gateOf};
+ghost use Rattle.gate.specs.Gate.{inRange, tolerable, gateFor, gateOf};
 use float::refusal::NO_ROOM;
 use float::refusal::ODD;
 use float::refusal::OUT_OF_RANGE;
@@ -31,17 +31,18 @@ pub fn is_tolerable(x: f64) -> bool
     float::finite(x) & (0.0 <= x)
 }
 
-// The refusal before a run over these marks, at most `top` of them, with room for so many numbers of curves, first marks and
-// parameters; 0 if there is none.
-pub fn gate(
+// The refusal before a run over these marks, at most `top` of them, with so many numbers of curves, first marks and parameters, where room for
+// `wanted` curves is asked; 0 if there is none. Eight times `wanted` may be no `usize`, so the room is divided.
+pub fn gate_for(
     marks: &[f64],
     tolerance: f64,
     top: usize,
+    wanted: usize,
     curves: usize,
     firsts: usize,
     params: usize,
 ) -> u32
-    ensures { λ r. ⌜ r ≡ gateOf «top» (now (marks .entry)) tolerance «curves» «firsts» «params» ⌝ }
+    ensures { λ r. ⌜ r ≡ gateFor «top» «wanted» (now (marks .entry)) tolerance «curves» «firsts» «params» ⌝ }
 {
     let len = marks.len();
     if len % 2 != 0 {
@@ -54,10 +55,10 @@ pub fn gate(
     if n > top {
         return TOO_MANY;
     }
-    if curves < 8 * (n - 1) {
+    if curves / 8 < wanted {
         return NO_ROOM;
     }
-    if firsts < n - 1 {
+    if firsts < wanted {
         return NO_ROOM;
     }
     if params < n {
@@ -70,6 +71,24 @@ pub fn gate(
         return OUT_OF_RANGE;
     }
     0
+}
+
+// The same with room for as many curves as these marks can have: the refusal before a fit.
+pub fn gate(
+    marks: &[f64],
+    tolerance: f64,
+    top: usize,
+    curves: usize,
+    firsts: usize,
+    params: usize,
+) -> u32
+    ensures { λ r. ⌜ r ≡ gateOf «top» (now (marks .entry)) tolerance «curves» «firsts» «params» ⌝ }
+{
+    let n = marks.len() / 2;
+    if n == 0 {
+        return gate_for(marks, tolerance, top, 0, curves, firsts, params);
+    }
+    gate_for(marks, tolerance, top, n - 1, curves, firsts, params)
 }
 
 // Every number plus zero.

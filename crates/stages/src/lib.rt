@@ -8,4 +8,5 @@ pub use chords::chords_for_points;
 pub use newton::reparameterize;
 pub use worst::Far;
 pub use worst::Worst;
+pub use worst::error_at;
 pub use worst::max_error_for_curve;

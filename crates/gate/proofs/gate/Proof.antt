@@ -1,80 +1,29 @@
--- `gate::gate`: each return is decided by the tests before it. Assumes nothing.
+-- `gate::gate`: for no marks, one fewer is none too. Assumes nothing.
 use borrow.Author.Needs.{needs}
-use Prim.Native.Nat.{_-_, _*_, _%_}
-use mathlib.Core.Path.{refl}
-use lib.ListN.{length}
-use borrow.Author.Tests.{lt-ltb, le-ltb, eq-eqb, ne-eqb, not-true, not-false}
+use Prim.Native.Nat.{_-_}
+use native.Mathlib.Omega.{arith}
+use mathlib.Core.Path.{_≡_}
 use Rattle.marks.specs.Marks.{count}
-use Rattle.gate.specs.Gate.{gateOf}
 use Rattle.gate.proofs.gate.Statement.{statement}
 use Rattle.gate.proofs.gate.Tie as tie
 
+gate-for-requires : tie.Need-gate-for-requires
+gate-for-requires c κs = search needs
+
 returns : tie.Need-returns
-unfolding gateOf
-returns c = rw (ne-eqb (length (c .before .before .args .marks .now) % 2) 0 (c .if1 .taken))
+returns c =
+    let none : count (c .before .before .before .args .marks .now) - 1 ≡ 0 = omega arith in
+    rw none (c .gate-for .ensures)
+
+sub-gate-for : tie.Need-sub-gate-for
+sub-gate-for c = search needs
+
+gate-for-requires-2 : tie.Need-gate-for-requires-2
+gate-for-requires-2 c κs = search needs
 
 returns-2 : tie.Need-returns-2
-unfolding gateOf
-returns-2 c = rw (eq-eqb (length (c .before .before .before .args .marks .now) % 2) 0 (c .before .if1 .left), lt-ltb (count (c .before .before .before .args .marks .now)) 2 (c .if2 .taken))
-
-returns-3 : tie.Need-returns-3
-unfolding gateOf
-returns-3 c = rw (eq-eqb (length (c .before .before .before .before .args .marks .now) % 2) 0 (c .before .before .if1 .left), le-ltb (count (c .before .before .before .before .args .marks .now)) 2 (c .before .if2 .left), lt-ltb (c .before .before .before .before .args .top) (count (c .before .before .before .before .args .marks .now)) (c .if3 .taken))
-
-sub-if4 : tie.Need-sub-if4
-sub-if4 c = search needs
-
-mul-if4 : tie.Need-mul-if4
-mul-if4 c = search needs
-
-returns-4 : tie.Need-returns-4
-unfolding gateOf
-returns-4 c = rw (eq-eqb (length (c .before .before .before .before .before .args .marks .now) % 2) 0 (c .before .before .before .if1 .left), le-ltb (count (c .before .before .before .before .before .args .marks .now)) 2 (c .before .before .if2 .left), le-ltb (c .before .before .before .before .before .args .top) (count (c .before .before .before .before .before .args .marks .now)) (c .before .if3 .left), lt-ltb (c .before .before .before .before .before .args .curves) (8 * (count (c .before .before .before .before .before .args .marks .now) - 1)) (c .if4 .taken))
-
-sub-if5 : tie.Need-sub-if5
-sub-if5 c = search needs
-
-returns-5 : tie.Need-returns-5
-unfolding gateOf
-returns-5 c = rw (eq-eqb (length (c .before .before .before .before .before .before .args .marks .now) % 2) 0 (c .before .before .before .before .if1 .left), le-ltb (count (c .before .before .before .before .before .before .args .marks .now)) 2 (c .before .before .before .if2 .left), le-ltb (c .before .before .before .before .before .before .args .top) (count (c .before .before .before .before .before .before .args .marks .now)) (c .before .before .if3 .left), le-ltb (c .before .before .before .before .before .before .args .curves) (8 * (count (c .before .before .before .before .before .before .args .marks .now) - 1)) (c .before .if4 .left), lt-ltb (c .before .before .before .before .before .before .args .firsts) (count (c .before .before .before .before .before .before .args .marks .now) - 1) (c .if5 .taken))
-
-returns-6 : tie.Need-returns-6
-unfolding gateOf
-returns-6 c = rw (eq-eqb (length (c .before .before .before .before .before .before .before .args .marks .now) % 2) 0 (c .before .before .before .before .before .if1 .left), le-ltb (count (c .before .before .before .before .before .before .before .args .marks .now)) 2 (c .before .before .before .before .if2 .left), le-ltb (c .before .before .before .before .before .before .before .args .top) (count (c .before .before .before .before .before .before .before .args .marks .now)) (c .before .before .before .if3 .left), le-ltb (c .before .before .before .before .before .before .before .args .curves) (8 * (count (c .before .before .before .before .before .before .before .args .marks .now) - 1)) (c .before .before .if4 .left), le-ltb (c .before .before .before .before .before .before .before .args .firsts) (count (c .before .before .before .before .before .before .before .args .marks .now) - 1) (c .before .if5 .left), lt-ltb (c .before .before .before .before .before .before .before .args .params) (count (c .before .before .before .before .before .before .before .args .marks .now)) (c .if6 .taken))
-
-all-in-range-requires : tie.Need-all-in-range-requires
-all-in-range-requires c κs = search needs
-
-returns-7 : tie.Need-returns-7
-unfolding gateOf
-returns-7 c = rw (eq-eqb (length (c .before .before .before .before .before .before .before .before .before .args .marks .now) % 2) 0 (c .before .before .before .before .before .before .before .if1 .left), le-ltb (count (c .before .before .before .before .before .before .before .before .before .args .marks .now)) 2 (c .before .before .before .before .before .before .if2 .left), le-ltb (c .before .before .before .before .before .before .before .before .before .args .top) (count (c .before .before .before .before .before .before .before .before .before .args .marks .now)) (c .before .before .before .before .before .if3 .left), le-ltb (c .before .before .before .before .before .before .before .before .before .args .curves) (8 * (count (c .before .before .before .before .before .before .before .before .before .args .marks .now) - 1)) (c .before .before .before .before .if4 .left), le-ltb (c .before .before .before .before .before .before .before .before .before .args .firsts) (count (c .before .before .before .before .before .before .before .before .before .args .marks .now) - 1) (c .before .before .before .if5 .left), le-ltb (c .before .before .before .before .before .before .before .before .before .args .params) (count (c .before .before .before .before .before .before .before .before .before .args .marks .now)) (c .before .before .if6 .left), ← c .before .all-in-range .ensures, not-true (c .before .all-in-range .result) (c .if7 .taken))
-
-is-tolerable-requires : tie.Need-is-tolerable-requires
-is-tolerable-requires c κs = search needs
-
-returns-8 : tie.Need-returns-8
-unfolding gateOf
-returns-8 c = rw (eq-eqb (length (c .before .before .before .before .before .before .before .before .before .before .before .args .marks .now) % 2) 0 (c .before .before .before .before .before .before .before .before .before .if1 .left), le-ltb (count (c .before .before .before .before .before .before .before .before .before .before .before .args .marks .now)) 2 (c .before .before .before .before .before .before .before .before .if2 .left), le-ltb (c .before .before .before .before .before .before .before .before .before .before .before .args .top) (count (c .before .before .before .before .before .before .before .before .before .before .before .args .marks .now)) (c .before .before .before .before .before .before .before .if3 .left), le-ltb (c .before .before .before .before .before .before .before .before .before .before .before .args .curves) (8 * (count (c .before .before .before .before .before .before .before .before .before .before .before .args .marks .now) - 1)) (c .before .before .before .before .before .before .if4 .left), le-ltb (c .before .before .before .before .before .before .before .before .before .before .before .args .firsts) (count (c .before .before .before .before .before .before .before .before .before .before .before .args .marks .now) - 1) (c .before .before .before .before .before .if5 .left), le-ltb (c .before .before .before .before .before .before .before .before .before .before .before .args .params) (count (c .before .before .before .before .before .before .before .before .before .before .before .args .marks .now)) (c .before .before .before .before .if6 .left), ← c .before .before .before .all-in-range .ensures, not-false (c .before .before .before .all-in-range .result) (c .before .before .if7 .left), ← c .before .is-tolerable .ensures, not-true (c .before .is-tolerable .result) (c .if8 .taken))
-
-returns-9 : tie.Need-returns-9
-unfolding gateOf
-returns-9 c = rw (eq-eqb (length (c .before .before .before .before .before .before .before .before .before .before .before .args .marks .now) % 2) 0 (c .before .before .before .before .before .before .before .before .before .if1 .left), le-ltb (count (c .before .before .before .before .before .before .before .before .before .before .before .args .marks .now)) 2 (c .before .before .before .before .before .before .before .before .if2 .left), le-ltb (c .before .before .before .before .before .before .before .before .before .before .before .args .top) (count (c .before .before .before .before .before .before .before .before .before .before .before .args .marks .now)) (c .before .before .before .before .before .before .before .if3 .left), le-ltb (c .before .before .before .before .before .before .before .before .before .before .before .args .curves) (8 * (count (c .before .before .before .before .before .before .before .before .before .before .before .args .marks .now) - 1)) (c .before .before .before .before .before .before .if4 .left), le-ltb (c .before .before .before .before .before .before .before .before .before .before .before .args .firsts) (count (c .before .before .before .before .before .before .before .before .before .before .before .args .marks .now) - 1) (c .before .before .before .before .before .if5 .left), le-ltb (c .before .before .before .before .before .before .before .before .before .before .before .args .params) (count (c .before .before .before .before .before .before .before .before .before .before .before .args .marks .now)) (c .before .before .before .before .if6 .left), ← c .before .before .before .all-in-range .ensures, not-false (c .before .before .before .all-in-range .result) (c .before .before .if7 .left), ← c .before .is-tolerable .ensures, not-false (c .before .is-tolerable .result) (c .if8 .left))
+returns-2 c = c .gate-for2 .ensures
 
 pub gate-spec : {M : Type 1} → statement M
 gate-spec =
-    tie.close
-    (tie.spec
-    returns
-    returns-2
-    returns-3
-    sub-if4
-    mul-if4
-    returns-4
-    sub-if5
-    returns-5
-    returns-6
-    all-in-range-requires
-    returns-7
-    is-tolerable-requires
-    returns-8
-    returns-9)
+    tie.close (tie.spec gate-for-requires returns sub-gate-for gate-for-requires-2 returns-2)

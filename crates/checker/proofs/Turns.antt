@@ -1,0 +1,58 @@
+-- Tests in turn: all of them pass exactly when each does, and the first that fails is the answer. Assumes nothing.
+use Prim.Native.Nat.{ℕ, zero, suc, _+_, _≤_, _<_}
+use native.Mathlib.Nat.{eq-or-lt-of-le}
+use native.Mathlib.Numerals.{add-one}
+use native.Mathlib.Omega.{arith}
+use mathlib.Core.Path.{_≡_, refl}
+use mathlib.Core.Logic.{_⊎_, inl, inr}
+use mathlib.Core.Bool.{Bool, true, false}
+use Rattle.checker.specs.declared.Fault.{Fault}
+use Rattle.checker.specs.Check.{Verdict, passed, fault, must, _then_, inTurn}
+
+never-fault : {f : Fault} {A : Type 0} → fault f ≡ passed → A
+never-fault e = let z : _≡_ {A = ℕ} 0 1 = cc in absurd (omega arith)
+
+pub must-true : (f : Fault) (b : Bool) → must f b ≡ passed → b ≡ true
+must-true f true h = refl
+must-true f false h = never-fault h
+
+pub both-pass : (v w : Verdict) → v then w ≡ passed → (v ≡ passed) × (w ≡ passed)
+both-pass passed w h = (refl, h)
+both-pass (fault f) w h = never-fault h
+
+module _ (f : ℕ → Verdict) where
+  pub turn-next : (n : ℕ) → inTurn n f ≡ passed → f n ≡ passed → inTurn (n + 1) f ≡ passed
+  unfolding inTurn
+  turn-next n h g = rw (add-one, h) g
+
+  pub turn-stop : (n j : ℕ) (x : Fault) → j < n → inTurn j f ≡ passed → f j ≡ fault x → inTurn n f ≡ fault x
+  unfolding inTurn
+  turn-stop zero j x l h g = absurd (omega arith)
+  turn-stop (suc n) j x l h g = let m : j ≤ n = omega arith in go (eq-or-lt-of-le m) (λ k. turn-stop n j x k h g)
+    where
+      go : (j ≡ n) ⊎ (j < n) → (j < n → inTurn n f ≡ fault x) → inTurn n f then f n ≡ fault x
+      go (inl e) before = rw (← e, h) g
+      go (inr k) before = rw (before k)
+
+  pub turn-each : (n : ℕ) → inTurn n f ≡ passed → (i : ℕ) → i < n → f i ≡ passed
+  unfolding inTurn
+  turn-each zero h i l = absurd (omega arith)
+  turn-each (suc n) h i l =
+      let b = both-pass (inTurn n f) (f n) h in
+      let m : i ≤ n = omega arith in
+      go (eq-or-lt-of-le m) (λ k. turn-each n (b .0) i k) (b .1)
+    where
+      go : (i ≡ n) ⊎ (i < n) → (i < n → f i ≡ passed) → f n ≡ passed → f i ≡ passed
+      go (inl e) before last = rw e last
+      go (inr k) before last = before k
+
+  pub turn-all : (n : ℕ) → ((i : ℕ) → i < n → f i ≡ passed) → inTurn n f ≡ passed
+  unfolding inTurn
+  turn-all zero h = refl
+  turn-all (suc n) h = rw (turn-all n (λ i l. h i (omega arith))) (h n (omega arith))
+
+-- the same tests, the same verdict
+pub turn-same : (f g : ℕ → Verdict) (n : ℕ) → ((i : ℕ) → i < n → f i ≡ g i) → inTurn n f ≡ inTurn n g
+unfolding inTurn
+turn-same f g zero h = refl
+turn-same f g (suc n) h = rw (turn-same f g n (λ i l. h i (omega arith)), h n (omega arith))

@@ -1,0 +1,77 @@
+-- `checker::check_marks` meets its contract. Assumes nothing.
+use Prim.Native.Nat.{_-_}
+use native.Mathlib.Omega.{arith}
+use mathlib.Core.Path.{refl, ap}
+use borrow.Author.Needs.{needs}
+use borrow.Author.Tests.{not-true, not-false}
+use lib.ListN.{length}
+use Rattle.float.specs.Answer.{ok}
+use Rattle.checker.specs.Check.{checkedAnswer, inTurn}
+use Rattle.checker.proofs.Under.{Faultless, fault-c, fault-d, faultless, faultless-end}
+use Rattle.checker.proofs.check_marks.Statement.{statement}
+use Rattle.checker.proofs.check_marks.Tie as tie
+
+abbrev Inv-loop : tie.InvT-loop
+Inv-loop under params n j first c tolerance i₀ i = Faultless tolerance n j first c under params i
+
+abbrev μ-loop : tie.MeasureT-loop
+μ-loop under params n j first c tolerance i₀ i = length params - i
+
+loop-holds : tie.Need-loop-holds Inv-loop μ-loop
+unfolding inTurn
+loop-holds c = (omega arith, refl)
+
+mul-t : tie.Need-mul-t Inv-loop μ-loop
+mul-t c = search needs
+
+shared-slice-read-t : tie.Need-shared-slice-read-t Inv-loop μ-loop
+shared-slice-read-t c = search needs
+
+add-mark : tie.Need-add-mark Inv-loop μ-loop
+add-mark c = omega arith
+
+is-timed-requires : tie.Need-is-timed-requires Inv-loop μ-loop
+is-timed-requires c κs = omega arith
+
+returns : tie.Need-returns Inv-loop μ-loop
+unfolding checkedAnswer
+returns c = ap ok (fault-c (c .before .before .before .before .before .before .before .args .tolerance) (c .before .before .before .before .before .before .before .args .n) (c .before .before .before .before .before .before .before .args .j) (c .before .before .before .before .before .before .before .args .first) (c .before .before .before .before .before .before .before .args .c) (c .before .before .before .before .before .before .before .args .under .now) (c .before .before .before .before .before .before .before .args .params .now) (c .before .before .before .before .loop .i) (c .before .before .before .before .loop .inv) (c .before .before .before .loop-test .taken) (c .before .is-timed .result) (c .before .is-timed .ensures) (not-true _ (c .if1 .taken)))
+
+is-near-requires : tie.Need-is-near-requires Inv-loop μ-loop
+is-near-requires c κs = omega arith
+
+returns-2 : tie.Need-returns-2 Inv-loop μ-loop
+unfolding checkedAnswer
+returns-2 c = ap ok (fault-d (c .before .before .before .before .before .before .before .before .before .args .tolerance) (c .before .before .before .before .before .before .before .before .before .args .n) (c .before .before .before .before .before .before .before .before .before .args .j) (c .before .before .before .before .before .before .before .before .before .args .first) (c .before .before .before .before .before .before .before .before .before .args .c) (c .before .before .before .before .before .before .before .before .before .args .under .now) (c .before .before .before .before .before .before .before .before .before .args .params .now) (c .before .before .before .before .before .before .loop .i) (c .before .before .before .before .before .before .loop .inv) (c .before .before .before .before .before .loop-test .taken) (c .before .before .before .is-timed .result) (c .before .before .before .is-timed .ensures) (not-false _ (c .before .before .if1 .left)) (c .before .is-near .result) (c .before .is-near .ensures) (not-true _ (c .if2 .taken)))
+
+add-i : tie.Need-add-i Inv-loop μ-loop
+add-i c = omega arith
+
+loop-less : tie.Need-loop-less Inv-loop μ-loop
+loop-less c = omega arith
+
+loop-again : tie.Need-loop-again Inv-loop μ-loop
+loop-again c = faultless (c .before .before .before .before .before .before .before .before .before .args .tolerance) (c .before .before .before .before .before .before .before .before .before .args .n) (c .before .before .before .before .before .before .before .before .before .args .j) (c .before .before .before .before .before .before .before .before .before .args .first) (c .before .before .before .before .before .before .before .before .before .args .c) (c .before .before .before .before .before .before .before .before .before .args .under .now) (c .before .before .before .before .before .before .before .before .before .args .params .now) (c .before .before .before .before .before .before .loop .i) (c .before .before .before .before .before .before .loop .inv) (c .before .before .before .before .before .loop-test .taken) (c .before .before .before .is-timed .result) (c .before .before .before .is-timed .ensures) (not-false _ (c .before .before .if1 .left)) (c .before .is-near .result) (c .before .is-near .ensures) (not-false _ (c .if2 .left))
+
+returns-3 : tie.Need-returns-3 Inv-loop μ-loop
+unfolding checkedAnswer
+returns-3 c = ap ok (faultless-end (c .before .before .before .before .args .tolerance) (c .before .before .before .before .args .n) (c .before .before .before .before .args .j) (c .before .before .before .before .args .first) (c .before .before .before .before .args .c) (c .before .before .before .before .args .under .now) (c .before .before .before .before .args .params .now) (c .before .loop .i) (c .before .loop .inv) (c .loop-test .left))
+
+pub check-marks-spec : {M : Type 1} → statement M
+check-marks-spec =
+    tie.close
+    (tie.spec
+    Inv-loop
+    μ-loop
+    loop-holds
+    mul-t
+    shared-slice-read-t
+    add-mark
+    is-timed-requires
+    returns
+    is-near-requires
+    returns-2
+    add-i
+    loop-less
+    loop-again
+    returns-3)

@@ -1,0 +1,23 @@
+-- Words of the inner contracts. Definitions only.
+use Prim.Native.Nat.{ℕ, _+_, _*_, _%_, _≤_}
+use mathlib.Core.Path.{_≡_}
+use mathlib.Core.List.{List}
+use lib.ListN.{length, getD}
+use lib.Ieee.{Float, nan}
+use Rattle.plane.specs.declared.Curve.{Curve}
+use Rattle.marks.specs.Marks.{count, markAt}
+use Rattle.checker.specs.declared.Fault.the-variants.{C, D}
+use Rattle.checker.specs.Check.{Verdict, passed, place, must, _then_, listed, timed, near}
+
+-- C and D at mark i of the part us that lies under a curve c, number j, whose first mark is mark `first` of n; ts are the part's parameters
+unfoldable pub underChecked : Float → ℕ → ℕ → ℕ → Curve → List Float → List Float → ℕ → Verdict
+underChecked tol n j first c us ts i =
+    must (C (place j (first + i))) (timed n first (first + i) (getD ts i nan)) then must (D (place j (first + i))) (near tol (markAt us i) c (getD ts i nan))
+
+-- a list that the gate lets through and that has no fault A
+pub record Listed (ms : List Float) (k : ℕ) (cs : List Float) (fs : List ℕ) (ps : List Float) : Type 0 where
+  pub even : length ms % 2 ≡ 0
+  pub curves : 8 * k ≤ length cs
+  pub firsts : k ≤ length fs
+  pub params : count ms ≤ length ps
+  pub rising : listed (count ms) k fs ≡ passed

@@ -1,0 +1,5 @@
+pub mod Unit
+pub mod Under
+pub mod Passes
+pub mod Sound
+pub mod Agree

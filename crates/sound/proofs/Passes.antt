@@ -1,0 +1,89 @@
+-- What a passed curve and a passed mark are, and back. Assumes nothing.
+use Prim.Native.Nat.{ℕ, _+_, _-_, _≤_, _<_}
+use native.Mathlib.Omega.{arith}
+use mathlib.Core.Path.{_≡_}
+use mathlib.Core.Bool.{Bool, true}
+use mathlib.Core.List.{List}
+use lib.ListN.{getD}
+use lib.Dec.{eqb}
+use lib.Ieee.{Float, nan, binary64, toBits, le}
+use borrow.Author.Tests.{eqb-true, eq-eqb}
+use Rattle.float.specs.Number.{finite}
+use Rattle.float.proofs.Truth.{and-left, and-right, both}
+use Rattle.plane.specs.declared.Point.{Point}
+use Rattle.marks.specs.Marks.{count, markAt}
+use Rattle.checker.specs.declared.Fault.the-variants.{B, C, D}
+use Rattle.checker.specs.Check.{Verdict, passed, place, must, inTurn, firstAt, curveAt, lastAt, stopAt, same, curveFinite, runs, timed, near, distanceAt, markChecked, curveChecked}
+use Rattle.checker.specs.Sound.{SamePoint}
+use Rattle.checker.proofs.Turns.{must-true, both-pass, turn-each, turn-all}
+
+same-is : (p q : Point) → same p q ≡ true → SamePoint p q
+unfolding same
+same-is p q h = (eqb-true _ _ (and-left (eqb (toBits binary64 (p .x)) (toBits binary64 (q .x))) _ h), eqb-true _ _ (and-right (eqb (toBits binary64 (p .x)) (toBits binary64 (q .x))) _ h))
+
+is-same : (p q : Point) → SamePoint p q → same p q ≡ true
+unfolding same
+is-same p q h = both _ _ (eq-eqb _ _ (h .0)) (eq-eqb _ _ (h .1))
+
+module _ (ms : List Float) (tol : Float) (k : ℕ) (cs : List Float) (fs : List ℕ) (ps : List Float) (j : ℕ) where
+  -- curve j has no fault
+  pub record Clear : Type 0 where
+    pub numbers : curveFinite (curveAt cs j) ≡ true
+    pub begins : SamePoint (curveAt cs j .start) (markAt ms (firstAt fs j))
+    pub ends : SamePoint (curveAt cs j .end) (markAt ms (lastAt (count ms) k fs j))
+    pub times : (i : ℕ) → firstAt fs j ≤ i → i < stopAt (count ms) k fs j → timed (count ms) (firstAt fs j) i (getD ps i nan) ≡ true
+    pub nears : (i : ℕ) → firstAt fs j ≤ i → i < stopAt (count ms) k fs j
+        → (finite (distanceAt (markAt ms i) (curveAt cs j) (getD ps i nan)) ≡ true) × (le (distanceAt (markAt ms i) (curveAt cs j) (getD ps i nan)) tol ≡ true)
+
+  abbrev time : ℕ → Bool
+  time i = timed (count ms) (firstAt fs j) i (getD ps i nan)
+
+  abbrev close : ℕ → Bool
+  close i = near tol (markAt ms i) (curveAt cs j) (getD ps i nan)
+
+  mark-passed : (i : ℕ) → markChecked ms tol k cs fs ps j i ≡ passed → (time i ≡ true) × (close i ≡ true)
+  unfolding markChecked
+  mark-passed i h =
+      let b = both-pass (must (C (place j i)) (time i)) (must (D (place j i)) (close i)) h in
+      (must-true (C (place j i)) (time i) (b .0), must-true (D (place j i)) (close i) (b .1))
+
+  near-is : (i : ℕ) → close i ≡ true
+      → (finite (distanceAt (markAt ms i) (curveAt cs j) (getD ps i nan)) ≡ true) × (le (distanceAt (markAt ms i) (curveAt cs j) (getD ps i nan)) tol ≡ true)
+  unfolding near
+  near-is i h = (and-left (finite (distanceAt (markAt ms i) (curveAt cs j) (getD ps i nan))) _ h, and-right (finite (distanceAt (markAt ms i) (curveAt cs j) (getD ps i nan))) _ h)
+
+  abbrev run : Bool
+  run = runs (curveAt cs j) (markAt ms (firstAt fs j)) (markAt ms (lastAt (count ms) k fs j))
+
+  abbrev marks : ℕ → Verdict
+  marks i = markChecked ms tol k cs fs ps j (firstAt fs j + i)
+
+  pub clear : curveChecked ms tol k cs fs ps j ≡ passed → Clear
+  unfolding curveChecked runs
+  clear h =
+      let b = both-pass (must (B (place j (firstAt fs j))) run) (inTurn (stopAt (count ms) k fs j - firstAt fs j) marks) h in
+      let r : run ≡ true = must-true (B (place j (firstAt fs j))) run (b .0) in
+      let e = and-right (curveFinite (curveAt cs j)) _ r in
+      record {
+        numbers = and-left (curveFinite (curveAt cs j)) _ r;
+        begins = same-is _ _ (and-left (same (curveAt cs j .start) (markAt ms (firstAt fs j))) _ e);
+        ends = same-is _ _ (and-right (same (curveAt cs j .start) (markAt ms (firstAt fs j))) _ e);
+        times = λ i l u. one (b .1) i l u .0;
+        nears = λ i l u. near-is i (one (b .1) i l u .1);
+      }
+    where
+      one : inTurn (stopAt (count ms) k fs j - firstAt fs j) marks ≡ passed → (i : ℕ) → firstAt fs j ≤ i → i < stopAt (count ms) k fs j → (time i ≡ true) × (close i ≡ true)
+      one all i l u =
+          let e : firstAt fs j + (i - firstAt fs j) ≡ i = omega arith in
+          mark-passed i (rw e at (turn-each marks (stopAt (count ms) k fs j - firstAt fs j) all (i - firstAt fs j) (omega arith)))
+
+  pub clear-passes : Clear → firstAt fs j ≤ stopAt (count ms) k fs j → curveChecked ms tol k cs fs ps j ≡ passed
+  unfolding curveChecked runs markChecked near
+  clear-passes c o =
+      let r : run ≡ true = both _ _ (c .numbers) (both _ _ (is-same _ _ (c .begins)) (is-same _ _ (c .ends))) in
+      rw r (turn-all marks (stopAt (count ms) k fs j - firstAt fs j) one)
+    where
+      one : (i : ℕ) → i < stopAt (count ms) k fs j - firstAt fs j → marks i ≡ passed
+      one i l =
+          let n = c .nears (firstAt fs j + i) (omega arith) (omega arith) in
+          simp (c .times (firstAt fs j + i) (omega arith) (omega arith), n .0, n .1)

@@ -1,0 +1,81 @@
+-- A list that is not refused passes exactly when it is sound. Assumes nothing.
+use Prim.Native.Nat.{ℕ, _-_, _<_}
+use native.Mathlib.Omega.{arith}
+use mathlib.Core.Path.{_≡_, refl, sym, ap, _∙_}
+use mathlib.Core.Bool.{Bool, true, false, cond}
+use mathlib.Core.List.{List}
+use lib.ListN.{length, getD}
+use lib.Dec.{eqb}
+use lib.Ieee.{Float, nan}
+use borrow.Author.Tests.{eqb-true, eq-eqb}
+use Rattle.float.specs.Answer.{ok, refused}
+use Rattle.marks.specs.Marks.{count}
+use Rattle.gate.specs.Gate.{gateFor}
+use Rattle.checker.specs.Check.{Verdict, passed, inTurn, firstAt, listed, curveChecked, listChecked, checkOf}
+use Rattle.checker.specs.Sound.{Sound}
+use Rattle.checker.proofs.Turns.{both-pass, turn-each, turn-all}
+use Rattle.checker.proofs.Firsts.{Risen, risen, listed-of, ending}
+use Rattle.checker.proofs.Curves.{span}
+use Rattle.sound.proofs.Unit.{timed-unit, timed-first, timed-last, timed-of}
+use Rattle.sound.proofs.Under.{home, risen-of}
+use Rattle.sound.proofs.Passes.{Clear, clear, clear-passes}
+
+module _ (ms : List Float) (tol : Float) (k : ℕ) (cs : List Float) (fs : List ℕ) (ps : List Float) where
+  abbrev gate : ℕ
+  gate = gateFor 4096 k ms tol (length cs) (length fs) (length ps)
+
+  -- a verdict is given exactly where the gate gives 0
+  pub judged : (v : Verdict) → checkOf ms tol k cs fs ps ≡ ok v → (gate ≡ 0) × (listChecked ms tol k cs fs ps ≡ v)
+  unfolding checkOf
+  judged v h = go (eqb gate 0) refl h
+    where
+      go : (b : Bool) → eqb gate 0 ≡ b → cond b (ok (listChecked ms tol k cs fs ps)) (refused gate) ≡ ok v → (gate ≡ 0) × (listChecked ms tol k cs fs ps ≡ v)
+      go true e h = (eqb-true gate 0 e, cc)
+      go false e h = let z : _≡_ {A = ℕ} 0 1 = cc in absurd (omega arith)
+
+  pub passes-sound : checkOf ms tol k cs fs ps ≡ ok passed → Sound ms tol k cs fs ps
+  unfolding listChecked
+  passes-sound h =
+      let b = both-pass (listed (count ms) k fs) (inTurn k (curveChecked ms tol k cs fs ps)) (judged passed h .1) in
+      sound (risen (count ms) k fs (b .0)) (λ j l. clear ms tol k cs fs ps j (turn-each (curveChecked ms tol k cs fs ps) k (b .1) j l))
+    where
+      sound : Risen (count ms) k fs → ((j : ℕ) → j < k → Clear ms tol k cs fs ps j) → Sound ms tol k cs fs ps
+      sound r c = record {
+        some = r .some;
+        from-first = r .from-zero;
+        two-or-more = λ j l. span (count ms) k fs j r l .rises;
+        begins = λ j l. c j l .begins;
+        ends = λ j l. c j l .ends;
+        numbers = λ j l. c j l .numbers;
+        within-unit = λ i l.
+            let m = home (count ms) k fs r i l in
+            timed-unit (count ms) (firstAt fs (m .curve)) i (getD ps i nan) (c (m .curve) (m .listed) .times i (m .from) (m .upto));
+        zero-at-first = λ j l.
+            sym (timed-first (count ms) (firstAt fs j) (firstAt fs j) (getD ps (firstAt fs j) nan) refl) ∙ c j l .times (firstAt fs j) (omega arith) (span (count ms) k fs j r l .starts);
+        one-at-last =
+            let few = r .few in
+            let some = r .some in
+            let below = r .below (k - 1) (omega arith) in
+            let e = ending (count ms) k fs (k - 1) (omega arith) in
+            sym (timed-last (count ms) (firstAt fs (k - 1)) (count ms - 1) (getD ps (count ms - 1) nan) (λ s. omega arith) (omega arith))
+            ∙ c (k - 1) (omega arith) .times (count ms - 1) (omega arith) (omega arith);
+        near-enough = λ j l i f u. c j l .nears i f u;
+      }
+
+  pub sound-passes : gate ≡ 0 → Sound ms tol k cs fs ps → checkOf ms tol k cs fs ps ≡ ok passed
+  unfolding checkOf listChecked
+  sound-passes g s =
+      let r = risen-of (count ms) k fs (s .some) (s .from-first) (s .two-or-more) in
+      rw (eq-eqb gate 0 g, listed-of (count ms) k fs r) (ap ok (turn-all (curveChecked ms tol k cs fs ps) k (λ j l. clear-passes ms tol k cs fs ps j (one r j l) (let p = span (count ms) k fs j r l in let q = p .starts in omega arith))))
+    where
+      one : Risen (count ms) k fs → (j : ℕ) → j < k → Clear ms tol k cs fs ps j
+      one r j l = record {
+        numbers = s .numbers j l;
+        begins = s .begins j l;
+        ends = s .ends j l;
+        times = λ i f u.
+            let p = span (count ms) k fs j r l in
+            let q = p .stops in
+            timed-of (count ms) (firstAt fs j) i (getD ps i nan) (λ e. rw e (s .zero-at-first j l)) (λ e. let d : i ≡ count ms - 1 = omega arith in rw d (s .one-at-last)) (s .within-unit i (omega arith));
+        nears = λ i f u. s .near-enough j l i f u;
+      }
