@@ -5,7 +5,14 @@ use crate::cursor::Whole;
 use crate::cursor::take_float;
 use crate::cursor::take_floats;
 use crate::cursor::take_whole;
+use crate::put::put_accepted;
 use crate::put::put_bad;
+use crate::put::put_next_whole;
+use crate::put::put_refused;
+use crate::put::put_text;
+use checker::Checked;
+use checker::Fault;
+use checker::Place;
 
 // More marks than this are bad; more curves than this do not fit on a line.
 const MOST_MARKS: u64 = 4200;
@@ -68,6 +75,22 @@ fn take_some(line: &[u8], at: usize, count: usize, out: &mut [f64]) -> Filled {
     take_floats(line, at, &mut out[from..count])
 }
 
+// A fault's kind, curve and mark.
+fn put_place(out: &mut [u8], n: usize, kind: &[u8], p: Place) -> usize {
+    let one = put_text(out, n, kind);
+    let two = put_next_whole(out, one, p.curve as u64);
+    put_next_whole(out, two, p.mark as u64)
+}
+
+fn put_fault(out: &mut [u8], n: usize, fault: Fault) -> usize {
+    match fault {
+        Fault::A(p) => put_place(out, n, b"FAULT A", p),
+        Fault::B(p) => put_place(out, n, b"FAULT B", p),
+        Fault::C(p) => put_place(out, n, b"FAULT C", p),
+        Fault::D(p) => put_place(out, n, b"FAULT D", p),
+    }
+}
+
 // What the checker says of a list.
 fn put_checked(
     out: &mut [u8],
@@ -79,7 +102,11 @@ fn put_checked(
     firsts: &[u32],
     params: &[f64],
 ) -> usize {
-    put_bad(out, n)
+    match checker::check_list(marks, tolerance, count, curves, firsts, params) {
+        Checked::Passed => put_accepted(out, n),
+        Checked::Faulty(fault) => put_fault(out, n, fault),
+        Checked::Refused(q) => put_refused(out, n, q),
+    }
 }
 
 // The list of so many marks and curves that stands at the start of these slices.
