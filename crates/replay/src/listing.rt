@@ -75,20 +75,19 @@ fn take_some(line: &[u8], at: usize, count: usize, out: &mut [f64]) -> Filled {
     take_floats(line, at, &mut out[from..count])
 }
 
-// A fault: its kind, its curve and its mark.
-fn put_fault(out: &mut [u8], n: usize, kind: &[u8], place: Place) -> usize {
+// A fault's kind, curve and mark.
+fn put_place(out: &mut [u8], n: usize, kind: &[u8], p: Place) -> usize {
     let one = put_text(out, n, kind);
-    let two = put_next_whole(out, one, place.curve as u64);
-    put_next_whole(out, two, place.mark as u64)
+    let two = put_next_whole(out, one, p.curve as u64);
+    put_next_whole(out, two, p.mark as u64)
 }
 
-// A fault by its kind.
-fn put_kind(out: &mut [u8], n: usize, fault: Fault) -> usize {
+fn put_fault(out: &mut [u8], n: usize, fault: Fault) -> usize {
     match fault {
-        Fault::A(place) => put_fault(out, n, b"FAULT A", place),
-        Fault::B(place) => put_fault(out, n, b"FAULT B", place),
-        Fault::C(place) => put_fault(out, n, b"FAULT C", place),
-        Fault::D(place) => put_fault(out, n, b"FAULT D", place),
+        Fault::A(p) => put_place(out, n, b"FAULT A", p),
+        Fault::B(p) => put_place(out, n, b"FAULT B", p),
+        Fault::C(p) => put_place(out, n, b"FAULT C", p),
+        Fault::D(p) => put_place(out, n, b"FAULT D", p),
     }
 }
 
@@ -103,11 +102,10 @@ fn put_checked(
     firsts: &[u32],
     params: &[f64],
 ) -> usize {
-    let checked = checker::check_list(marks, tolerance, count, curves, firsts, params);
-    match checked {
+    match checker::check_list(marks, tolerance, count, curves, firsts, params) {
         Checked::Passed => put_accepted(out, n),
-        Checked::Faulty(fault) => put_kind(out, n, fault),
-        Checked::Refused(number) => put_refused(out, n, number),
+        Checked::Faulty(fault) => put_fault(out, n, fault),
+        Checked::Refused(q) => put_refused(out, n, q),
     }
 }
 
