@@ -18,7 +18,7 @@ pub struct Place {
     pub mark: usize,
 }
 
-// What can be wrong with a list.
+// What can be wrong with a list: the count or the first marks (A), a curve's numbers or ends (B), a parameter (C), a distance (D).
 pub enum Fault {
     A(Place),
     B(Place),
@@ -61,6 +61,7 @@ fn fault_d(curve: usize, mark: usize) -> Checked
 
 // ---- A: the first marks
 
+// A u32 as a usize.
 fn wide(x: u32) -> usize
     ensures { λ r. ⌜ r ≡ x ⌝ }
 {
@@ -154,6 +155,7 @@ fn is_same(p: Point, q: Point) -> bool
     (float::to_bits(p.x) == float::to_bits(q.x)) & (float::to_bits(p.y) == float::to_bits(q.y))
 }
 
+// Whether a curve's eight numbers are finite.
 fn is_finite(c: Curve) -> bool
     ensures { λ r. ⌜ r ≡ curveFinite c ⌝ }
 {
