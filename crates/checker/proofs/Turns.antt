@@ -3,14 +3,22 @@ use Prim.Native.Nat.{ℕ, zero, suc, _+_, _≤_, _<_}
 use native.Mathlib.Nat.{eq-or-lt-of-le}
 use native.Mathlib.Numerals.{add-one}
 use native.Mathlib.Omega.{arith}
-use mathlib.Core.Path.{_≡_, refl}
+use mathlib.Core.Path.{_≡_, refl, ap, _∙_}
 use mathlib.Core.Logic.{_⊎_, inl, inr}
 use mathlib.Core.Bool.{Bool, true, false}
+use Rattle.float.specs.Answer.{ok}
 use Rattle.checker.specs.declared.Fault.{Fault}
-use Rattle.checker.specs.Check.{Verdict, passed, fault, must, _then_, inTurn}
+use Rattle.checker.specs.declared.Checked.{Checked}
+use Rattle.checker.specs.declared.Checked.the-variants.{Faulty}
+use Rattle.checker.specs.Check.{Verdict, checkedAnswer, passed, fault, must, _then_, inTurn}
 
 never-fault : {f : Fault} {A : Type 0} → fault f ≡ passed → A
 never-fault e = let z : _≡_ {A = ℕ} 0 1 = cc in absurd (omega arith)
+
+-- an answer that is a fault, where the verdict is that fault
+pub by-fault : {r : Checked} {f : Fault} {v : Verdict} → r ≡ Faulty f → fault f ≡ v → checkedAnswer r ≡ ok v
+unfolding checkedAnswer
+by-fault e h = ap checkedAnswer e ∙ ap ok h
 
 pub must-true : (f : Fault) (b : Bool) → must f b ≡ passed → b ≡ true
 must-true f true h = refl

@@ -4,7 +4,7 @@ ghost use Prim.Native.Nat.{_+_, _-_, _*_, _≤_, _<_};
 ghost use lib.ListN.{length, take, drop};
 ghost use Rattle.float.specs.Answer.{ok};
 ghost use Rattle.marks.specs.Marks.{markAt};
-ghost use Rattle.checker.specs.Check.{checkedAnswer, inTurn, firstAt, curveAt, lastAt, stopAt, rises, listed, same, curveFinite, runs, timed, near, curveChecked, checkOf};
+ghost use Rattle.checker.specs.Check.{checkedAnswer, place, inTurn, firstAt, curveAt, lastAt, stopAt, rises, listed, same, curveFinite, runs, timed, near, curveChecked, checkOf};
 ghost use Rattle.checker.specs.Inner.{underChecked, Listed};
 use plane::Curve;
 use plane::Point;
@@ -18,7 +18,7 @@ pub struct Place {
     pub mark: usize,
 }
 
-// What can be wrong with a list.
+// What can be wrong with a list: the count or the first marks (A), a curve's numbers or ends (B), a parameter (C), a distance (D).
 pub enum Fault {
     A(Place),
     B(Place),
@@ -33,8 +33,35 @@ pub enum Checked {
     Refused(u32),
 }
 
+// ---- faults, each made in one place
+
+fn fault_a(curve: usize) -> Checked
+    ensures { λ r. ⌜ r ≡ Checked.Faulty (Fault.A (place curve 0)) ⌝ }
+{
+    Checked::Faulty(Fault::A(Place { curve, mark: 0 }))
+}
+
+fn fault_b(curve: usize, mark: usize) -> Checked
+    ensures { λ r. ⌜ r ≡ Checked.Faulty (Fault.B (place curve mark)) ⌝ }
+{
+    Checked::Faulty(Fault::B(Place { curve, mark }))
+}
+
+fn fault_c(curve: usize, mark: usize) -> Checked
+    ensures { λ r. ⌜ r ≡ Checked.Faulty (Fault.C (place curve mark)) ⌝ }
+{
+    Checked::Faulty(Fault::C(Place { curve, mark }))
+}
+
+fn fault_d(curve: usize, mark: usize) -> Checked
+    ensures { λ r. ⌜ r ≡ Checked.Faulty (Fault.D (place curve mark)) ⌝ }
+{
+    Checked::Faulty(Fault::D(Place { curve, mark }))
+}
+
 // ---- A: the first marks
 
+// A u32 as a usize.
 fn wide(x: u32) -> usize
     ensures { λ r. ⌜ r ≡ x ⌝ }
 {
@@ -67,17 +94,17 @@ fn check_firsts(firsts: &[u32], n: usize, count: usize) -> Checked
     ensures { λ r. ⌜ checkedAnswer r ≡ ok (listed n «count» (now (firsts .entry))) ⌝ }
 {
     if count == 0 {
-        return Checked::Faulty(Fault::A(Place { curve: 0, mark: 0 }));
+        return fault_a(0);
     }
     if count >= n {
-        return Checked::Faulty(Fault::A(Place { curve: 0, mark: 0 }));
+        return fault_a(0);
     }
     let mut j = 0;
     while j < count {
         if rises_at(firsts, n, j) {
             j += 1;
         } else {
-            return Checked::Faulty(Fault::A(Place { curve: j, mark: 0 }));
+            return fault_a(j);
         }
     }
     Checked::Passed
@@ -128,6 +155,7 @@ fn is_same(p: Point, q: Point) -> bool
     (float::to_bits(p.x) == float::to_bits(q.x)) & (float::to_bits(p.y) == float::to_bits(q.y))
 }
 
+// Whether a curve's eight numbers are finite.
 fn is_finite(c: Curve) -> bool
     ensures { λ r. ⌜ r ≡ curveFinite c ⌝ }
 {
@@ -195,10 +223,10 @@ fn check_marks(
         let t = params[i];
         let mark = first + i;
         if !is_timed(n, first, mark, t) {
-            return Checked::Faulty(Fault::C(Place { curve: j, mark }));
+            return fault_c(j, mark);
         }
         if !is_near(under, c, i, t, tolerance) {
-            return Checked::Faulty(Fault::D(Place { curve: j, mark }));
+            return fault_d(j, mark);
         }
         i += 1;
     }
@@ -225,10 +253,7 @@ fn check_curve(
     let first = first_at(firsts, j);
     let last = last_at(firsts, n, count, j);
     if !is_run(c, marks::mark_at(marks, first), marks::mark_at(marks, last)) {
-        return Checked::Faulty(Fault::B(Place {
-            curve: j,
-            mark: first,
-        }));
+        return fault_b(j, first);
     }
     let stop = stop_at(firsts, n, count, j);
     let under = marks_under(marks, first, stop);

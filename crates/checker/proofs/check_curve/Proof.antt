@@ -2,13 +2,12 @@
 use borrow.Author.Needs.{needs}
 use Prim.Native.Nat.{_*_}
 use native.Mathlib.Omega.{arith}
-use mathlib.Core.Path.{refl, sym, ap, _∙_}
+use mathlib.Core.Path.{refl, sym, _∙_}
 use borrow.Author.Tests.{not-true, not-false}
 use borrow.Author.Needs.{scaled-fits}
 use lib.ListN.{length}
-use Rattle.float.specs.Answer.{ok}
-use Rattle.checker.specs.Check.{checkedAnswer}
 use Rattle.checker.proofs.Curves.{part-length, Places, places, fault-b, tested, curve-rest}
+use Rattle.checker.proofs.Turns.{by-fault}
 use Rattle.checker.proofs.check_curve.Statement.{statement}
 use Rattle.checker.proofs.check_curve.Tie as tie
 
@@ -33,9 +32,11 @@ mark-at-requires-2 c κs = let b = bounds (c .before .before .before .before .be
 is-run-requires : tie.Need-is-run-requires
 is-run-requires c κs = search needs
 
+fault-b-requires : tie.Need-fault-b-requires
+fault-b-requires c κs = search needs
+
 returns : tie.Need-returns
-unfolding checkedAnswer
-returns c = ap ok (fault-b (c .before .before .before .before .before .before .before .before .before .before .before .args .marks .now) (c .before .before .before .before .before .before .before .before .before .before .before .args .tolerance) (c .before .before .before .before .before .before .before .before .before .before .before .args .count) (c .before .before .before .before .before .before .before .before .before .before .before .args .curves .now) (c .before .before .before .before .before .before .before .before .before .before .before .args .firsts .now) (c .before .before .before .before .before .before .before .before .before .before .before .args .params .now) (c .before .before .before .before .before .before .before .before .before .before .before .args .j) (c .before .before .before .before .before .before .curve-at .result) (c .before .before .before .before .before .first-at .result) (c .before .before .before .before .before .before .curve-at .ensures) (c .before .before .before .before .before .first-at .ensures) (c .before .before .before .before .last-at .result) (c .before .before .before .mark-at .result) (c .before .before .mark-at2 .result) (c .before .is-run .result) (c .before .before .before .before .last-at .ensures) (c .before .before .before .mark-at .ensures) (c .before .before .mark-at2 .ensures) (c .before .is-run .ensures) (not-true _ (c .if1 .taken)))
+returns c = by-fault (c .fault-b .ensures) (fault-b (c .before .before .before .before .before .before .before .before .before .before .before .before .args .marks .now) (c .before .before .before .before .before .before .before .before .before .before .before .before .args .tolerance) (c .before .before .before .before .before .before .before .before .before .before .before .before .args .count) (c .before .before .before .before .before .before .before .before .before .before .before .before .args .curves .now) (c .before .before .before .before .before .before .before .before .before .before .before .before .args .firsts .now) (c .before .before .before .before .before .before .before .before .before .before .before .before .args .params .now) (c .before .before .before .before .before .before .before .before .before .before .before .before .args .j) (c .before .before .before .before .before .before .before .curve-at .result) (c .before .before .before .before .before .before .first-at .result) (c .before .before .before .before .before .before .before .curve-at .ensures) (c .before .before .before .before .before .before .first-at .ensures) (c .before .before .before .before .before .last-at .result) (c .before .before .before .before .mark-at .result) (c .before .before .before .mark-at2 .result) (c .before .before .is-run .result) (c .before .before .before .before .before .last-at .ensures) (c .before .before .before .before .mark-at .ensures) (c .before .before .before .mark-at2 .ensures) (c .before .before .is-run .ensures) (not-true _ (c .before .if1 .taken)))
 
 stop-at-requires : tie.Need-stop-at-requires
 stop-at-requires c κs = search needs
@@ -75,6 +76,7 @@ check-curve-spec =
     mark-at-requires
     mark-at-requires-2
     is-run-requires
+    fault-b-requires
     returns
     stop-at-requires
     marks-under-requires

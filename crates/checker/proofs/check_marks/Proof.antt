@@ -8,6 +8,7 @@ use lib.ListN.{length}
 use Rattle.float.specs.Answer.{ok}
 use Rattle.checker.specs.Check.{checkedAnswer, inTurn}
 use Rattle.checker.proofs.Under.{Faultless, fault-c, fault-d, faultless, faultless-end}
+use Rattle.checker.proofs.Turns.{by-fault}
 use Rattle.checker.proofs.check_marks.Statement.{statement}
 use Rattle.checker.proofs.check_marks.Tie as tie
 
@@ -33,16 +34,20 @@ add-mark c = omega arith
 is-timed-requires : tie.Need-is-timed-requires Inv-loop μ-loop
 is-timed-requires c κs = omega arith
 
+fault-c-requires : tie.Need-fault-c-requires Inv-loop μ-loop
+fault-c-requires c κs = search needs
+
 returns : tie.Need-returns Inv-loop μ-loop
-unfolding checkedAnswer
-returns c = ap ok (fault-c (c .before .before .before .before .before .before .before .args .tolerance) (c .before .before .before .before .before .before .before .args .n) (c .before .before .before .before .before .before .before .args .j) (c .before .before .before .before .before .before .before .args .first) (c .before .before .before .before .before .before .before .args .c) (c .before .before .before .before .before .before .before .args .under .now) (c .before .before .before .before .before .before .before .args .params .now) (c .before .before .before .before .loop .i) (c .before .before .before .before .loop .inv) (c .before .before .before .loop-test .taken) (c .before .is-timed .result) (c .before .is-timed .ensures) (not-true _ (c .if1 .taken)))
+returns c = by-fault (c .fault-c .ensures) (fault-c (c .before .before .before .before .before .before .before .before .args .tolerance) (c .before .before .before .before .before .before .before .before .args .n) (c .before .before .before .before .before .before .before .before .args .j) (c .before .before .before .before .before .before .before .before .args .first) (c .before .before .before .before .before .before .before .before .args .c) (c .before .before .before .before .before .before .before .before .args .under .now) (c .before .before .before .before .before .before .before .before .args .params .now) (c .before .before .before .before .before .loop .i) (c .before .before .before .before .before .loop .inv) (c .before .before .before .before .loop-test .taken) (c .before .before .is-timed .result) (c .before .before .is-timed .ensures) (not-true _ (c .before .if1 .taken)))
 
 is-near-requires : tie.Need-is-near-requires Inv-loop μ-loop
 is-near-requires c κs = omega arith
 
+fault-d-requires : tie.Need-fault-d-requires Inv-loop μ-loop
+fault-d-requires c κs = search needs
+
 returns-2 : tie.Need-returns-2 Inv-loop μ-loop
-unfolding checkedAnswer
-returns-2 c = ap ok (fault-d (c .before .before .before .before .before .before .before .before .before .args .tolerance) (c .before .before .before .before .before .before .before .before .before .args .n) (c .before .before .before .before .before .before .before .before .before .args .j) (c .before .before .before .before .before .before .before .before .before .args .first) (c .before .before .before .before .before .before .before .before .before .args .c) (c .before .before .before .before .before .before .before .before .before .args .under .now) (c .before .before .before .before .before .before .before .before .before .args .params .now) (c .before .before .before .before .before .before .loop .i) (c .before .before .before .before .before .before .loop .inv) (c .before .before .before .before .before .loop-test .taken) (c .before .before .before .is-timed .result) (c .before .before .before .is-timed .ensures) (not-false _ (c .before .before .if1 .left)) (c .before .is-near .result) (c .before .is-near .ensures) (not-true _ (c .if2 .taken)))
+returns-2 c = by-fault (c .fault-d .ensures) (fault-d (c .before .before .before .before .before .before .before .before .before .before .args .tolerance) (c .before .before .before .before .before .before .before .before .before .before .args .n) (c .before .before .before .before .before .before .before .before .before .before .args .j) (c .before .before .before .before .before .before .before .before .before .before .args .first) (c .before .before .before .before .before .before .before .before .before .before .args .c) (c .before .before .before .before .before .before .before .before .before .before .args .under .now) (c .before .before .before .before .before .before .before .before .before .before .args .params .now) (c .before .before .before .before .before .before .before .loop .i) (c .before .before .before .before .before .before .before .loop .inv) (c .before .before .before .before .before .before .loop-test .taken) (c .before .before .before .before .is-timed .result) (c .before .before .before .before .is-timed .ensures) (not-false _ (c .before .before .before .if1 .left)) (c .before .before .is-near .result) (c .before .before .is-near .ensures) (not-true _ (c .before .if2 .taken)))
 
 add-i : tie.Need-add-i Inv-loop μ-loop
 add-i c = omega arith
@@ -68,8 +73,10 @@ check-marks-spec =
     shared-slice-read-t
     add-mark
     is-timed-requires
+    fault-c-requires
     returns
     is-near-requires
+    fault-d-requires
     returns-2
     add-i
     loop-less
