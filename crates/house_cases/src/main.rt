@@ -305,7 +305,6 @@ fn record(
         return false;
     }
     let from: usize = 0;
-    io::read_full(STDIN_FILENO, &mut file[from..b]);
     act(
         cases::word(head, 0),
         &mut file[from..b],
@@ -316,6 +315,15 @@ fn record(
         &mut out[from..o],
     );
     true
+}
+
+// The next n bytes of standard input, if there is room for them.
+fn read_bytes(file: &mut [u8], n: usize) {
+    if n > file.len() {
+        return;
+    }
+    let from: usize = 0;
+    io::read_full(STDIN_FILENO, &mut file[from..n]);
 }
 
 // One record, if there is one.
@@ -330,6 +338,7 @@ fn step() -> bool {
     let mut curves = [0u64; 8192];
     let mut params = [0u64; 4096];
     let mut out = [0u8; 163840];
+    read_bytes(&mut file, cases::word(&head, 8) as usize);
     record(
         &head,
         &mut file,
