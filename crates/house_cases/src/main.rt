@@ -101,8 +101,12 @@ fn prefixes(
         formed: 0,
     };
     let mut i: usize = 0;
+    let from: usize = 0;
     while i < file.len() {
-        t = count(t, read_answer(&file[..i], marks, firsts, curves, params));
+        t = count(
+            t,
+            read_answer(&file[from..i], marks, firsts, curves, params),
+        );
         i += 1;
     }
     t
@@ -184,7 +188,8 @@ fn print_written(wrote: Wrote, file: &[u8], out: &[u8]) {
             if n > out.len() {
                 return;
             }
-            if !same(file, &out[..n]) {
+            let from: usize = 0;
+            if !same(file, &out[from..n]) {
                 io::write_all(STDOUT_FILENO, b"DIFFERS\n");
             }
         }
@@ -218,7 +223,8 @@ fn read_and_write(
                 return;
             }
             let m = 2 * n;
-            let wrote = writer::write_file(t, &marks[..m], k, firsts, curves, params, out);
+            let from: usize = 0;
+            let wrote = writer::write_file(t, &marks[from..m], k, firsts, curves, params, out);
             print_written(wrote, file, out);
         }
         Read::Refused(q) => {
@@ -236,7 +242,8 @@ fn list(file: &[u8], out: &mut [u8]) {
             if n > out.len() {
                 return;
             }
-            io::write_all(STDOUT_FILENO, &out[..n]);
+            let from: usize = 0;
+            io::write_all(STDOUT_FILENO, &out[from..n]);
         }
         Listed::Refused(q) => {
             cases::print_count(q as u64);
@@ -297,17 +304,26 @@ fn record(
     if o > out.len() {
         return false;
     }
-    io::read_full(STDIN_FILENO, &mut file[..b]);
+    let from: usize = 0;
     act(
         cases::word(head, 0),
-        &mut file[..b],
-        &mut marks[..m],
-        &mut firsts[..f],
-        &mut curves[..c],
-        &mut params[..p],
-        &mut out[..o],
+        &mut file[from..b],
+        &mut marks[from..m],
+        &mut firsts[from..f],
+        &mut curves[from..c],
+        &mut params[from..p],
+        &mut out[from..o],
     );
     true
+}
+
+// The next n bytes of standard input, if there is room for them.
+fn read_bytes(file: &mut [u8], n: usize) {
+    if n > file.len() {
+        return;
+    }
+    let from: usize = 0;
+    io::read_full(STDIN_FILENO, &mut file[from..n]);
 }
 
 // One record, if there is one.
@@ -322,6 +338,7 @@ fn step() -> bool {
     let mut curves = [0u64; 8192];
     let mut params = [0u64; 4096];
     let mut out = [0u8; 163840];
+    read_bytes(&mut file, cases::word(&head, 8) as usize);
     record(
         &head,
         &mut file,

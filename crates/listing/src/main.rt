@@ -4,6 +4,15 @@ use libc::STDOUT_FILENO;
 use outline::Listed;
 use outline::list_outline;
 
+// Writes the first n bytes.
+fn print_front(out: &[u8], n: usize) {
+    if n > out.len() {
+        return;
+    }
+    let from: usize = 0;
+    io::write_all(STDOUT_FILENO, &out[from..n]);
+}
+
 // One byte more is read than is listed, so that too long a file is seen. What is lent holds the longest text, so the call is not refused.
 fn main() {
     let mut file = [0u8; 65537];
@@ -13,8 +22,5 @@ fn main() {
     let Listed::Bytes(n) = listed else {
         return;
     };
-    if n > out.len() {
-        return;
-    }
-    io::write_all(STDOUT_FILENO, &out[..n]);
+    print_front(&out, n);
 }
