@@ -1,9 +1,8 @@
 -- Turns of the loop that reads numbers, and the numbers that it leaves in front. Assumes nothing.
-use mathlib.Core.Path.{_≡_, refl, sym, ap, _∙_}
+use mathlib.Core.Path.{_≡_, sym, ap, _∙_}
 use mathlib.Core.List.{List, [], _∷_, _++_, map-append}
-use Prim.Native.Nat.{ℕ, _+_, _*_, _<_, _≤_}
+use Prim.Native.Nat.{ℕ, _+_, _*_, _<_}
 use native.Mathlib.Numerals.{add-one}
-use native.Mathlib.Omega.{arith}
 use lib.ListN.{length, take, drop, set, length-map}
 use lib.Seq.{drop-drop, take-at}
 use lib.Ieee.{Float, nan, binary64, ofBits}

@@ -1,5 +1,5 @@
 -- Laws of the listing's lines: one more number, one more curve. Assumes nothing.
-use mathlib.Core.Path.{_≡_, refl, sym, ap, _∙_}
+use mathlib.Core.Path.{_≡_, refl, sym, _∙_}
 use mathlib.Core.List.{List, [], _∷_, _++_, append-nil, append-assoc}
 use Prim.Native.Nat.{ℕ, zero, suc, _+_, _-_, _*_, _<_, _≤_}
 use native.Mathlib.Numerals.{add-one}
@@ -7,7 +7,6 @@ use native.Mathlib.Omega.{arith}
 use lib.ListN.{length, take, drop, getD, length-append}
 use lib.Seq.{take-suc, take-take, drop-drop}
 use lib.Ieee.{Float, nan}
-use Rattle.text.specs.Put.{Put}
 use Rattle.text.proofs.Digits.{length-hex}
 use Rattle.lines.specs.Lines.{numbers, pieceLine, pieceLines}
 

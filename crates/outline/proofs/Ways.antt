@@ -1,6 +1,5 @@
 -- What each way through the listing shows. Assumes nothing.
-use mathlib.Core.Path.{_≡_, refl, sym, ap, ap₂, _∙_}
-use mathlib.Core.Bool.{true, false}
+use mathlib.Core.Path.{_≡_, sym, ap, ap₂, _∙_}
 use mathlib.Core.List.{List}
 use Prim.Native.Nat.{ℕ, _+_, _*_, _/_, _<_, _≤_}
 use native.Mathlib.Omega.{arith}
@@ -8,7 +7,7 @@ use borrow.Author.Tests.{le-leb, lt-leb}
 use lib.Dec.{leb}
 use lib.ListN.{length, take, drop}
 use lib.Seq.{sets, take-at}
-use Rattle.float.specs.Answer.{Answer, ok, refused, unless}
+use Rattle.float.specs.Answer.{ok, refused, unless}
 use Rattle.float.specs.Slices.{written}
 use lib.Ieee.{Float}
 use Rattle.cut.specs.declared.Fitted.{Fitted}

@@ -1,17 +1,16 @@
 -- What `text` writes is read back: a word of 16 hex digits, and a decimal word. Assumes nothing.
-use Prim.Native.Nat.{ℕ, zero, suc, _+_, _-_, _*_, _/_, _%_, _^_, _≤_, _<_}
+use Prim.Native.Nat.{ℕ, zero, suc, _+_, _*_, _/_, _%_, _^_, _≤_, _<_}
 use mathlib.Core.Path.{_≡_, refl, sym, ap, _∙_}
-use mathlib.Core.Bool.{Bool, true, false, cond}
+use mathlib.Core.Bool.{Bool, true, false}
 use mathlib.Core.List.{List, [], _∷_, _++_, append-assoc, append-nil}
 use native.Mathlib.Nat.{div-add-mod', div-div-eq-div-mul, pow-suc, mod-lt, div-one, div-le-self}
 use native.Mathlib.Omega.{arith}
 use borrow.Author.Tests.{lt-ltb, le-ltb, ltb-true, ltb-false, ne-eqb}
-use lib.Dec.{ltb, eqb}
+use lib.Dec.{ltb}
 use lib.ListN.{length, getD, length-append, List·getD-append}
 use Rattle.text.specs.Text.{digitChar, hex, hex16, decimal}
 use Rattle.text.proofs.Digits.{decimal-one, decimal-more}
-use Rattle.words.specs.declared.Read.{Read}
-use Rattle.words.specs.declared.Read.the-variants.{Number, Bad}
+use Rattle.words.specs.declared.Read.the-variants.{Number}
 use Rattle.words.specs.Words.{digitOf, numberFrom, hexOf, plainOf, decimalOf}
 use Rattle.words.proofs.Reading.{taken}
 

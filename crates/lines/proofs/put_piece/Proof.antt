@@ -4,7 +4,7 @@ use borrow.Author.Needs.{needs}
 use lib.ListN.{take}
 use lib.Seq.{length-take-le}
 use Rattle.text.specs.Text.{decimal}
-use Rattle.text.proofs.Stores.{one, next, put-length}
+use Rattle.text.proofs.Stores.{one, next}
 use Rattle.text.proofs.Digits.{decimal-u32}
 use Rattle.lines.specs.Lines.{pieceWord, newline, pieceLine}
 use Rattle.lines.proofs.Turns.{length-numbers}

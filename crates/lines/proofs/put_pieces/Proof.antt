@@ -3,7 +3,7 @@ use mathlib.Core.Path.{_≡_, refl, sym}
 use Prim.Native.Nat.{_+_, _-_, _*_, _<_, _≤_}
 use native.Mathlib.Nat.{add-zero}
 use native.Mathlib.Omega.{arith}
-use lib.ListN.{length, take, drop, getD, length-take, length-drop}
+use lib.ListN.{length, take, length-take, length-drop}
 use Rattle.text.specs.Put.{Put}
 use Rattle.text.proofs.Stores.{next, put-length}
 use Rattle.lines.specs.Lines.{pieceLines}
