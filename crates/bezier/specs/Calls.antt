@@ -10,7 +10,7 @@ use Rattle.plane.specs.declared.Point.{Point}
 use Rattle.plane.specs.declared.Curve.{Curve}
 use Rattle.cubic.specs.Basis.{basis, casteljau2, casteljau3, casteljau4, coefficientsOf}
 use Rattle.cubic.specs.Subdivide.{curve, subdivide4Of}
-use Rattle.cubic.specs.Newton.{refine}
+use Rattle.newton.specs.Newton.{refine}
 use Rattle.cubic.specs.declared.eval.Coefficients.{Coefficients}
 use Rattle.cubic.specs.declared.split.Halves.{Halves}
 use Rattle.bezier.specs.declared.PointAnswer.{PointAnswer}

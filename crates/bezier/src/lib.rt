@@ -1,15 +1,15 @@
 // Single curves: evaluation, subdivision and Newton refinement. Each call tests its own arguments and refuses by number
-// (5: an argument out of range; 6: an operation gave NaN or infinity); the work is done in `cubic`.
+// (5: an argument out of range; 6: an operation gave NaN or infinity); the work is done in `cubic` and `newton`.
 ghost use mathlib.Core.Path.{_≡_};
 ghost use Rattle.float.specs.Answer.{ok, unless};
 ghost use Rattle.plane.specs.Range.{pointFinite};
 ghost use Rattle.cubic.specs.Tests.{coefficientsFinite, halvesFinite};
 ghost use Rattle.bezier.specs.Calls.{pointAnswer, numberAnswer, coefficientsAnswer, halvesAnswer, coordinateOf, basisCall, casteljau4Call, casteljau3Call, casteljau2Call, coefficientsCall, subdivide4Call, refineCall};
 use cubic::eval::Coefficients;
-use cubic::newton::Refined;
 use cubic::split::Halves;
 use float::refusal::NOT_FINITE;
 use float::refusal::OUT_OF_RANGE;
+use newton::Refined;
 use plane::Curve;
 use plane::Point;
 
@@ -190,7 +190,7 @@ pub fn nearest_point_on_curve_newton_raphson_with_estimate(
         & (plane::point_in_range(point)
             & (float::finite(estimated_t) & (num_iterations <= MOST_ROUNDS)))
     {
-        let Refined::At(t) = cubic::newton::refine(curve, point, estimated_t, num_iterations) else {
+        let Refined::At(t) = newton::refine(curve, point, estimated_t, num_iterations) else {
             return NumberAnswer::Refused(NOT_FINITE);
         };
         return NumberAnswer::Is(t);

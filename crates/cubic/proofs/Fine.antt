@@ -8,16 +8,14 @@ use Rattle.float.specs.Calc.{Calc}
 use Rattle.float.proofs.Truth.{and-left, and-right, and-false, both, same, is-so}
 use Rattle.float.proofs.Strict.{Fin, add-finite, sub-finite}
 use Rattle.float.proofs.Answers.{Fine}
-use Rattle.plane.specs.Plane.{plus, minus, times}
+use Rattle.plane.specs.Plane.{plus}
 use Rattle.plane.specs.declared.Point.{Point}
 use Rattle.plane.specs.declared.Curve.{Curve}
-use Rattle.plane.proofs.Fine.{Good, plus-fine, minus-fine, times-fine, good-point, point-good}
+use Rattle.plane.proofs.Fine.{Good, plus-fine, times-fine, good-point, point-good}
 use Rattle.cubic.specs.Basis.{basis, pointAt, casteljau2, casteljau3, casteljau4, coefficientsOf}
 use Rattle.cubic.specs.Subdivide.{subdivide4Of}
-use Rattle.cubic.specs.Newton.{verticesOf}
 use Rattle.plane.specs.Range.{pointFinite}
-use Rattle.cubic.specs.Tests.{coefficientsFinite, halvesFinite, verticesFinite}
-use Rattle.cubic.specs.declared.newton.Vertices.{Vertices}
+use Rattle.cubic.specs.Tests.{coefficientsFinite, halvesFinite}
 
 -- ---- from the end back
 pub casteljau2-fine : (t : Float) (w1 w2 : Point) → Good (casteljau2 t w1 w2 .val) → Fine (casteljau2 t w1 w2) × Good w1 × Good w2
@@ -150,41 +148,3 @@ coefficients-same w1 w2 w3 w4 =
     same _ _
     (λ h. both _ _ (is-so (m .fine) (finite (k .a)) h (coefficients-bad w1 w2 w3 w4 _ (inl refl))) (both _ _ (is-so (m .fine) (finite (k .b)) h (coefficients-bad w1 w2 w3 w4 _ (inr (inl refl)))) (is-so (m .fine) (finite (k .c)) h (coefficients-bad w1 w2 w3 w4 _ (inr (inr refl))))))
     (λ h. coefficients-fine w1 w2 w3 w4 (and-left _ _ h) (and-left (finite (k .b)) _ (and-right (finite (k .a)) _ h)) (and-right (finite (k .b)) _ (and-right (finite (k .a)) _ h)))
-
--- ---- the vertices
-abbrev pub GoodVertices : Vertices → Type 0
-GoodVertices q = Good (q .qn1) × Good (q .qn2) × Good (q .qn3) × Good (q .qnn1) × Good (q .qnn2)
-
-pub vertices-fine : (c : Curve) → Good (verticesOf c .val .qnn1) → Good (verticesOf c .val .qnn2) → Fine (verticesOf c)
-unfolding verticesOf
-vertices-fine c g h =
-    let e = times-fine _ _ g in
-    let f = times-fine _ _ h in
-    let e' = minus-fine _ _ (e .1) in
-    let f' = minus-fine _ _ (f .1) in
-    let a = times-fine _ _ (e' .2) in
-    let b = times-fine _ _ (e' .1) in
-    let d = times-fine _ _ (f' .1) in
-    let a' = minus-fine _ _ (a .1) in
-    let b' = minus-fine _ _ (b .1) in
-    let d' = minus-fine _ _ (d .1) in
-    cc
-
-vertices-good : (c : Curve) (p : Point) → let q = verticesOf c .val in (p ≡ q .qnn1) ⊎ (p ≡ q .qnn2) → Fine (verticesOf c) → Good p
-unfolding verticesOf times
-vertices-good c p (inl e) h = (
-  is-so (verticesOf c .fine) (finite (p .x)) h (λ b. simp (rw e at b, and-false)),
-  is-so (verticesOf c .fine) (finite (p .y)) h (λ b. simp (rw e at b, and-false)),
-)
-vertices-good c p (inr e) h = (
-  is-so (verticesOf c .fine) (finite (p .x)) h (λ b. simp (rw e at b, and-false)),
-  is-so (verticesOf c .fine) (finite (p .y)) h (λ b. simp (rw e at b, and-false)),
-)
-
-pub vertices-same : (c : Curve) → verticesOf c .fine ≡ verticesFinite (verticesOf c .val)
-unfolding verticesFinite
-vertices-same c =
-    let q = verticesOf c .val in
-    same _ _
-    (λ h. both _ _ (good-point (q .qnn1) (vertices-good c _ (inl refl) h)) (good-point (q .qnn2) (vertices-good c _ (inr refl) h)))
-    (λ h. vertices-fine c (point-good (q .qnn1) (and-left _ _ h)) (point-good (q .qnn2) (and-right (pointFinite (q .qnn1)) _ h)))

@@ -1,3 +1,1 @@
 pub mod Fine
-pub mod Steps
-pub mod Rounds

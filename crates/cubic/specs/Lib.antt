@@ -1,4 +1,3 @@
 pub mod Basis
 pub mod Subdivide
-pub mod Newton
 pub mod Tests

@@ -5,11 +5,11 @@ use lib.Ieee.{Float, binary64, sub, div, lt, eq, ofBits}
 use Rattle.float.specs.Number.{finite, f0, clamp01}
 use Rattle.float.specs.Calc.{Calc, give, _>>=_, _-!_, _/!_}
 use Rattle.cubic.specs.Basis.{pointAt}
-use Rattle.cubic.specs.Newton.{verticesOf, ratioOf, newtonBy, newton}
-use Rattle.cubic.specs.declared.newton.Vertices.{Vertices}
+use Rattle.newton.specs.Newton.{verticesOf, ratioOf, newtonBy, newton}
+use Rattle.newton.specs.declared.Vertices.{Vertices}
 use Rattle.plane.specs.declared.Point.{Point}
 use Rattle.plane.specs.declared.Curve.{Curve}
-use Rattle.cubic.specs.declared.newton.Ratio.{Ratio}
+use Rattle.newton.specs.declared.Ratio.{Ratio}
 use Rattle.float.proofs.Strict.{Fin}
 use Rattle.float.proofs.Answers.{Fine}
 use Rattle.plane.proofs.Fine.{Good, dot-fine, dot-bad, minus-fine}

@@ -8,7 +8,7 @@ use lib.ListN.{length, getD}
 use lib.Ieee.{Float, nan}
 use Rattle.float.proofs.Answers.{Fine}
 use Rattle.float.proofs.Folds.{each-length, each-all}
-use Rattle.cubic.specs.Newton.{newton}
+use Rattle.newton.specs.Newton.{newton}
 use Rattle.marks.specs.Marks.{markAt}
 use Rattle.stages.specs.Newton.{stepAt, reparam}
 use Rattle.stages.proofs.InPlace.{each-get}

@@ -12,7 +12,7 @@ use Rattle.float.proofs.Strict.{Fin, add-finite, sub-finite, mul-finite, div-fi
 use Rattle.float.proofs.Answers.{Fine}
 use Rattle.root.specs.Root.{sqrt}
 use Rattle.plane.specs.declared.Point.{Point}
-use Rattle.cubic.specs.Tests.{asStep}
+use Rattle.newton.specs.Tests.{asStep}
 use Rattle.quintic.specs.declared.points.Section.{Section}
 use Rattle.roots.specs.Line.{coefficientsOf, factorOf, distanceTo}
 use Rattle.roots.specs.Flat.{crosses, _&&!_, flat-enough, nearBaseline}

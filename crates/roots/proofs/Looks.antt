@@ -10,8 +10,8 @@ use Rattle.float.specs.Answer.{_>>=_ as chain}
 use Rattle.float.proofs.Answers.{granted, denied, outcome-ok, outcome-no}
 use Rattle.plane.specs.declared.Point.{Point}
 use Rattle.plane.specs.Range.{pointFinite}
-use Rattle.cubic.specs.Tests.{asStep}
-use Rattle.cubic.specs.declared.newton.Step.{Step}
+use Rattle.newton.specs.Tests.{asStep}
+use Rattle.newton.specs.declared.Step.{Step}
 use Rattle.quintic.specs.Points.{casteljau6, subdivide6Of}
 use Rattle.quintic.specs.Numbers.{derivative6Of}
 use Rattle.quintic.specs.Tests.{fiveFinite, halvesFinite}

@@ -2,12 +2,12 @@
 ghost use mathlib.Core.Path.{_≡_};
 ghost use Prim.Native.Nat.{ℕ, suc};
 ghost use Rattle.float.specs.Answer.{outcome};
-ghost use Rattle.cubic.specs.Tests.{asStep};
+ghost use Rattle.newton.specs.Tests.{asStep};
 ghost use Rattle.quintic.specs.Tests.{fiveFinite};
 ghost use Rattle.roots.specs.Intercept.{heightsOf, guessOf, newtonBy, newton, interceptOf, rootOf};
 ghost use Rattle.roots.specs.Tests.{onward, rootAnswer};
 use crate::line::coefficients;
-use cubic::newton::Step;
+use newton::Step;
 use quintic::numbers::Five;
 use quintic::numbers::Six;
 use quintic::points::Section;

@@ -6,7 +6,7 @@ use lib.Ieee.{Float, nan}
 use Rattle.float.specs.Calc.{Calc}
 use Rattle.float.specs.Folds.{each}
 use Rattle.plane.specs.declared.Curve.{Curve}
-use Rattle.cubic.specs.Newton.{newton}
+use Rattle.newton.specs.Newton.{newton}
 use Rattle.marks.specs.Marks.{markAt}
 
 unfoldable pub stepAt : List Float → Curve → List Float → ℕ → Calc Float

@@ -2,7 +2,7 @@
 use borrow.Author.Needs.{needs}
 use mathlib.Core.Path.{sym, ap, _∙_}
 use Rattle.float.proofs.Answers.{granted, denied}
-use Rattle.cubic.specs.Tests.{refinedAnswer}
+use Rattle.newton.specs.Tests.{refinedAnswer}
 use Rattle.bezier.specs.Calls.{numberAnswer, refineCall}
 use Rattle.bezier.proofs.nearest_point_on_curve_newton_raphson_with_estimate.Statement.{statement}
 use Rattle.bezier.proofs.nearest_point_on_curve_newton_raphson_with_estimate.Tie as tie

@@ -1,0 +1,2 @@
+pub mod Newton
+pub mod Tests
