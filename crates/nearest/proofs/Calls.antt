@@ -19,7 +19,7 @@ use Rattle.roots.specs.Find.{findRoots}
 use Rattle.roots.specs.Tests.{rootsAnswer}
 use Rattle.roots.specs.declared.find.Roots.{Roots}
 use Rattle.roots.specs.declared.find.Roots.the-variants as found
-use Rattle.roots.proofs.Rounds.{came, gone}
+use Rattle.intercept.proofs.Rounds.{came, gone}
 use Rattle.nearest.specs.Choose.{Nearest, chooseOf}
 use Rattle.nearest.specs.Nearest.{nearestBy, nearestOf, nearestCall}
 use Rattle.nearest.specs.Tests.{asBest, runOf}

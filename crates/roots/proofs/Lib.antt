@@ -1,4 +1,2 @@
-pub mod Baseline
-pub mod Rounds
 pub mod Looks
 pub mod Stack

@@ -19,8 +19,8 @@ use Rattle.plane.specs.Plane.{at}
 use Rattle.quintic.specs.Points.{section}
 use Rattle.quintic.specs.declared.points.Section.{Section}
 use Rattle.quintic.specs.declared.points.Halves.{Halves}
-use Rattle.roots.specs.Flat.{crossings, flatEnough}
-use Rattle.roots.specs.Intercept.{rootOf}
+use Rattle.flat.specs.Flat.{crossings, flatEnough}
+use Rattle.intercept.specs.Intercept.{rootOf}
 use Rattle.roots.specs.Find.{Seen, nothing, root, halved, rootSeen, halve, lookOf, wait, next, find}
 use Rattle.roots.specs.declared.find.Waiting.{Waiting}
 

@@ -8,8 +8,8 @@ use Rattle.float.specs.Answer.{Answer, ok, refused, unless, outcome, _>>=_}
 use Rattle.quintic.specs.Points.{subdivide6Of}
 use Rattle.quintic.specs.declared.points.Section.{Section}
 use Rattle.quintic.specs.declared.points.Halves.{Halves}
-use Rattle.roots.specs.Flat.{crossings, flatEnough}
-use Rattle.roots.specs.Intercept.{rootOf}
+use Rattle.flat.specs.Flat.{crossings, flatEnough}
+use Rattle.intercept.specs.Intercept.{rootOf}
 use Rattle.roots.specs.declared.find.Waiting.{Waiting}
 
 -- 0.5

@@ -1,5 +1,2 @@
-pub mod Line
-pub mod Flat
-pub mod Intercept
 pub mod Find
 pub mod Tests

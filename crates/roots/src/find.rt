@@ -4,12 +4,12 @@ ghost use Prim.Native.Nat.{_≤_};
 ghost use lib.ListN.{length};
 ghost use Rattle.roots.specs.Find.{rootSeen, halve as halveOf, lookOf, findRoots};
 ghost use Rattle.roots.specs.Tests.{seenAnswer, oneOf, rootsAnswer, countOf};
-use crate::flat::count_x_axis_crossings;
-use crate::flat::flat_enough;
-use crate::intercept::Root;
-use crate::intercept::root_of;
+use flat::flat::count_x_axis_crossings;
+use flat::flat::flat_enough;
 use float::refusal::NOT_FINITE;
 use float::refusal::TOO_DEEP;
+use intercept::intercept::Root;
+use intercept::intercept::root_of;
 use quintic::points::Halves;
 use quintic::points::Section;
 

@@ -27,8 +27,8 @@ use Rattle.quintic.specs.Tests.{heightsFinite, halvesFinite}
 use Rattle.quintic.proofs.Fine.{subdivide6-same}
 use Rattle.quintic.specs.declared.points.Section.{Section}
 use Rattle.quintic.specs.declared.points.Halves.{Halves}
-use Rattle.roots.specs.Flat.{crosses, crossings, flatEnough}
-use Rattle.roots.specs.Intercept.{rootOf}
+use Rattle.flat.specs.Flat.{crosses, crossings, flatEnough}
+use Rattle.intercept.specs.Intercept.{rootOf}
 use Rattle.roots.specs.Find.{half, Seen, nothing, root, halved, rootSeen, halve, lookOf, wait, next, find, findRoots}
 use Rattle.roots.specs.declared.find.Waiting.{Waiting}
 use Rattle.roots.proofs.Stack.{halved-low}

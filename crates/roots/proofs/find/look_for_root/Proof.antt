@@ -1,7 +1,8 @@
 -- `roots::find::look_for_root` meets its contract. Assumes nothing.
 use borrow.Author.Needs.{needs}
 use mathlib.Core.Path.{sym, ap, _∙_}
-use Rattle.roots.specs.Tests.{seenAnswer, rootAnswer}
+use Rattle.intercept.specs.Tests.{rootAnswer}
+use Rattle.roots.specs.Tests.{seenAnswer}
 use Rattle.roots.proofs.Looks.{seen-root}
 use Rattle.roots.proofs.find.look_for_root.Statement.{statement}
 use Rattle.roots.proofs.find.look_for_root.Tie as tie

@@ -1,0 +1,3 @@
+pub mod Guess
+pub mod Rounds
+pub mod Steps

@@ -1,0 +1,2 @@
+pub mod Intercept
+pub mod Tests
