@@ -14,7 +14,6 @@ use Rattle.marks.proofs.Parts.{mark-drop, mark-take}
 use Rattle.faults.specs.Tests.{firstAt, curveAt, lastAt, stopAt, runs}
 use Rattle.faults.proofs.Firsts.{span}
 use Rattle.checker.specs.declared.Fault.the-variants.{B}
-use Rattle.checker.specs.declared.Checked.the-variants as checked
 use Rattle.checker.specs.Check.{Verdict, fault, place, inTurn, markChecked, curveChecked}
 use Rattle.checker.specs.Inner.{underChecked, Listed}
 use Rattle.checker.proofs.Turns.{turn-same}
