@@ -16,7 +16,7 @@ use Rattle.cut.specs.Run.{flat}
 use Rattle.squares.proofs.Controls.{GoodCurve}
 use Rattle.numbers.specs.Words.{one, Zero, InUnit}
 use Rattle.ends.specs.Ends.{Near}
-use Rattle.checker.specs.Check.{firstAt, curveAt, lastAt, stopAt}
+use Rattle.faults.specs.Tests.{firstAt, curveAt, lastAt, stopAt}
 use Rattle.accepted.specs.Laid.{Over, Laid, last, more}
 use Rattle.accepted.proofs.Laid.{laid-rises}
 

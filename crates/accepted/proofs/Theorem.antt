@@ -29,7 +29,7 @@ use Rattle.blocks.specs.Blocks.{blocksOf}
 use Rattle.marks.specs.Block.{blockSize}
 use Rattle.fit.specs.Fit.{Ending, fittedAnswer, ending, ended, entered, fitOf, cubicGate, cubicOf}
 use Rattle.fit.proofs.Entries.{size-within, cubic-passed}
-use Rattle.checker.specs.Check.{firstAt, curveAt, curveFinite, distanceAt}
+use Rattle.faults.specs.Tests.{firstAt, curveAt, curveFinite, distanceAt}
 use Rattle.checker.specs.Check.{checkOf, checkedAnswer}
 use Rattle.checker.specs.declared.Checked.{Checked}
 use Rattle.checker.specs.declared.Checked.the-variants as checked

@@ -1,49 +1,26 @@
 -- One curve: its marks lie within the lists, and the part that is walked shows them. Assumes nothing.
-use Prim.Native.Nat.{ℕ, suc, _+_, _-_, _*_, _≤_, _<_}
-use native.Mathlib.Nat.{eq-or-lt-of-le}
+use Prim.Native.Nat.{ℕ, _+_, _-_, _*_, _≤_, _<_}
 use native.Mathlib.Omega.{arith}
 use mathlib.Core.Path.{_≡_, sym, ap, _∙_}
-use mathlib.Core.Logic.{_⊎_, inl, inr}
 use mathlib.Core.Bool.{Bool, true, false}
 use mathlib.Core.List.{List}
 use lib.ListN.{length, take, drop, getD, length-take, length-drop}
 use lib.Seq.{getD-drop, getD-take}
 use lib.Ieee.{Float, nan}
 use Rattle.float.specs.Answer.{Answer, ok}
-use Rattle.plane.specs.declared.Point.{Point}
 use Rattle.plane.specs.declared.Curve.{Curve}
 use Rattle.marks.specs.Marks.{count, markAt}
 use Rattle.marks.proofs.Parts.{mark-drop, mark-take}
+use Rattle.faults.specs.Tests.{firstAt, curveAt, lastAt, stopAt, runs}
+use Rattle.faults.proofs.Firsts.{span}
 use Rattle.checker.specs.declared.Fault.the-variants.{B}
-use Rattle.checker.specs.declared.Checked.the-variants as checked
-use Rattle.checker.specs.Check.{Verdict, fault, place, inTurn, firstAt, curveAt, lastAt, stopAt, runs, markChecked, curveChecked}
+use Rattle.checker.specs.Check.{Verdict, fault, place, inTurn, markChecked, curveChecked}
 use Rattle.checker.specs.Inner.{underChecked, Listed}
 use Rattle.checker.proofs.Turns.{turn-same}
-use Rattle.checker.proofs.Firsts.{Risen, risen, later, ending}
+use Rattle.checker.proofs.Firsts.{risen}
 
 pub part-length : {A : Type 0} (a e : ℕ) (l : List A) → e ≤ length l → {t : List A} → t ≡ take (e - a) (drop a l) → length t ≡ e - a
 part-length a e l h i = ap length i ∙ simp (length-take, length-drop) (omega arith)
-
--- where curve j begins and ends
-pub record Span (n k : ℕ) (fs : List ℕ) (j : ℕ) : Type 0 where
-  pub rises : firstAt fs j < lastAt n k fs j
-  pub last : lastAt n k fs j < n
-  pub starts : firstAt fs j < stopAt n k fs j
-  pub stops : stopAt n k fs j ≤ n
-
-pub span : (n k : ℕ) (fs : List ℕ) (j : ℕ) → Risen n k fs → j < k → Span n k fs j
-span n k fs j r l = let m : suc j ≤ k = omega arith in go (eq-or-lt-of-le m)
-  where
-    go : (suc j ≡ k) ⊎ (suc j < k) → Span n k fs j
-    go (inl e) =
-        let b = r .below j l in
-        let d = ending n k fs j (omega arith) in
-        record { rises = omega arith; last = omega arith; starts = omega arith; stops = omega arith }
-    go (inr m) =
-        let u = r .upward j m in
-        let b = r .below (suc j) m in
-        let d = later n k fs j m in
-        record { rises = omega arith; last = omega arith; starts = omega arith; stops = omega arith }
 
 -- the places of curve j's marks in the lists
 pub record Places (ms : List Float) (k : ℕ) (fs : List ℕ) (ps : List Float) (j : ℕ) : Type 0 where
@@ -65,7 +42,7 @@ module _ (ms : List Float) (tol : Float) (k : ℕ) (cs : List Float) (fs : List 
       record { two = omega arith; first = omega arith; last = omega arith; order = omega arith; stop = omega arith; marks = omega arith; params = omega arith }
 
   module _ (j : ℕ) (c : Curve) (first : ℕ) (is-c : c ≡ curveAt cs j) (is-first : first ≡ firstAt fs j) where
-    module _ (last : ℕ) (p q : Point) (b : Bool) (is-last : last ≡ lastAt (count ms) k fs j) (is-p : p ≡ markAt ms first) (is-q : q ≡ markAt ms last) (is-b : b ≡ runs c p q) where
+    module _ (last : ℕ) (b : Bool) (is-last : last ≡ lastAt (count ms) k fs j) (is-b : b ≡ runs c (markAt ms first) (markAt ms last)) where
       abbrev test : Bool
       test = runs (curveAt cs j) (markAt ms (firstAt fs j)) (markAt ms (lastAt (count ms) k fs j))
 

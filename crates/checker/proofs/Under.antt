@@ -8,8 +8,9 @@ use lib.ListN.{length, getD}
 use lib.Ieee.{Float, nan}
 use Rattle.plane.specs.declared.Curve.{Curve}
 use Rattle.marks.specs.Marks.{markAt}
+use Rattle.faults.specs.Tests.{timed, near}
 use Rattle.checker.specs.declared.Fault.the-variants.{C, D}
-use Rattle.checker.specs.Check.{Verdict, passed, fault, place, inTurn, timed, near}
+use Rattle.checker.specs.Check.{Verdict, passed, fault, place, inTurn}
 use Rattle.checker.specs.Inner.{underChecked}
 use Rattle.checker.proofs.Turns.{turn-next, turn-stop}
 

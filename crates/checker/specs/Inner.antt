@@ -6,8 +6,9 @@ use lib.ListN.{length, getD}
 use lib.Ieee.{Float, nan}
 use Rattle.plane.specs.declared.Curve.{Curve}
 use Rattle.marks.specs.Marks.{count, markAt}
+use Rattle.faults.specs.Tests.{timed, near}
 use Rattle.checker.specs.declared.Fault.the-variants.{C, D}
-use Rattle.checker.specs.Check.{Verdict, passed, place, must, _then_, listed, timed, near}
+use Rattle.checker.specs.Check.{Verdict, passed, place, must, _then_, listed}
 
 -- C and D at mark i of the part us that lies under a curve c, number j, whose first mark is mark `first` of n; ts are the part's parameters
 unfoldable pub underChecked : Float → ℕ → ℕ → ℕ → Curve → List Float → List Float → ℕ → Verdict

@@ -8,7 +8,7 @@ use lib.Ieee.{Float, nan, binary64, toBits, eq, le}
 use Rattle.float.specs.Number.{f0, f1, finite}
 use Rattle.plane.specs.declared.Point.{Point}
 use Rattle.marks.specs.Marks.{count, markAt}
-use Rattle.checker.specs.Check.{firstAt, curveAt, lastAt, stopAt, curveFinite, distanceAt}
+use Rattle.faults.specs.Tests.{firstAt, curveAt, lastAt, stopAt, curveFinite, distanceAt}
 
 -- the very same point: equal bits
 abbrev pub SamePoint : Point → Point → Type 0

@@ -1,13 +1,11 @@
 // The list checker: whether a list of curves, whoever made it, is sound for its marks and tolerance.
 ghost use mathlib.Core.Path.{_≡_};
-ghost use Prim.Native.Nat.{_+_, _-_, _*_, _≤_, _<_};
-ghost use lib.ListN.{length, take, drop};
+ghost use Prim.Native.Nat.{_+_, _*_, _≤_, _<_};
+ghost use lib.ListN.{length};
 ghost use Rattle.float.specs.Answer.{ok};
-ghost use Rattle.marks.specs.Marks.{markAt};
-ghost use Rattle.checker.specs.Check.{checkedAnswer, place, inTurn, firstAt, curveAt, lastAt, stopAt, rises, listed, same, curveFinite, runs, timed, near, curveChecked, checkOf};
+ghost use Rattle.checker.specs.Check.{checkedAnswer, place, inTurn, listed, curveChecked, checkOf};
 ghost use Rattle.checker.specs.Inner.{underChecked, Listed};
 use plane::Curve;
-use plane::Point;
 
 // The most marks that are taken.
 const MOST: usize = 4096;
@@ -61,33 +59,6 @@ fn fault_d(curve: usize, mark: usize) -> Checked
 
 // ---- A: the first marks
 
-// A u32 as a usize.
-fn wide(x: u32) -> usize
-    ensures { λ r. ⌜ r ≡ x ⌝ }
-{
-    x as usize
-}
-
-// The first mark of curve j.
-fn first_at(firsts: &[u32], j: usize) -> usize
-    requires { ⌜ j < length (now firsts) ⌝ }
-    ensures { λ r. ⌜ r ≡ firstAt (now (firsts .entry)) j ⌝ }
-{
-    wide(firsts[j])
-}
-
-// Whether curve j's first mark is above the one before it, or 0 for the first curve, and below the last of n marks.
-fn rises_at(firsts: &[u32], n: usize, j: usize) -> bool
-    requires { ⌜ (j < length (now firsts)) × (2 ≤ n) ⌝ }
-    ensures { λ r. ⌜ r ≡ rises n (now (firsts .entry)) j ⌝ }
-{
-    let first = first_at(firsts, j);
-    if j == 0 {
-        return (first == 0) & (first < n - 1);
-    }
-    (first_at(firsts, j - 1) < first) & (first < n - 1)
-}
-
 // A over the whole list.
 fn check_firsts(firsts: &[u32], n: usize, count: usize) -> Checked
     requires { ⌜ («count» ≤ length (now firsts)) × (2 ≤ n) ⌝ }
@@ -101,7 +72,7 @@ fn check_firsts(firsts: &[u32], n: usize, count: usize) -> Checked
     }
     let mut j = 0;
     while j < count {
-        if rises_at(firsts, n, j) {
+        if faults::rises_at(firsts, n, j) {
             j += 1;
         } else {
             return fault_a(j);
@@ -110,100 +81,7 @@ fn check_firsts(firsts: &[u32], n: usize, count: usize) -> Checked
     Checked::Passed
 }
 
-// ---- B: a curve's numbers and ends
-
-// Curve j of the list.
-fn curve_at(curves: &[f64], j: usize) -> Curve
-    requires { ⌜ 8 * j + 8 ≤ length (now curves) ⌝ }
-    ensures { λ r. ⌜ r ≡ curveAt (now (curves .entry)) j ⌝ }
-{
-    let at = 4 * j;
-    Curve {
-        start: marks::mark_at(curves, at),
-        cp1: marks::mark_at(curves, at + 1),
-        cp2: marks::mark_at(curves, at + 2),
-        end: marks::mark_at(curves, at + 3),
-    }
-}
-
-// Where curve j ends: on the next one's first mark, or on the last of n marks.
-fn last_at(firsts: &[u32], n: usize, count: usize, j: usize) -> usize
-    requires { ⌜ (j < «count») × ((«count» ≤ length (now firsts)) × (2 ≤ n)) ⌝ }
-    ensures { λ r. ⌜ r ≡ lastAt n «count» (now (firsts .entry)) j ⌝ }
-{
-    if j + 1 < count {
-        return first_at(firsts, j + 1);
-    }
-    n - 1
-}
-
-// The first mark that is not measured under curve j: a joint is measured under its later curve.
-fn stop_at(firsts: &[u32], n: usize, count: usize, j: usize) -> usize
-    requires { ⌜ (j < «count») × («count» ≤ length (now firsts)) ⌝ }
-    ensures { λ r. ⌜ r ≡ stopAt n «count» (now (firsts .entry)) j ⌝ }
-{
-    if j + 1 < count {
-        return first_at(firsts, j + 1);
-    }
-    n
-}
-
-// Whether two points have the same bits.
-fn is_same(p: Point, q: Point) -> bool
-    ensures { λ r. ⌜ r ≡ same p q ⌝ }
-{
-    (float::to_bits(p.x) == float::to_bits(q.x)) & (float::to_bits(p.y) == float::to_bits(q.y))
-}
-
-// Whether a curve's eight numbers are finite.
-fn is_finite(c: Curve) -> bool
-    ensures { λ r. ⌜ r ≡ curveFinite c ⌝ }
-{
-    plane::point_finite(c.start)
-        & (plane::point_finite(c.cp1) & (plane::point_finite(c.cp2) & plane::point_finite(c.end)))
-}
-
-// Whether c's numbers are finite and it runs from p to q.
-fn is_run(c: Curve, p: Point, q: Point) -> bool
-    ensures { λ r. ⌜ r ≡ runs c p q ⌝ }
-{
-    is_finite(c) & (is_same(c.start, p) & is_same(c.end, q))
-}
-
 // ---- C and D: the marks under a curve
-
-// Whether t may be the parameter of mark i of n, under a curve whose first mark is `first`.
-fn is_timed(n: usize, first: usize, i: usize, t: f64) -> bool
-    requires { ⌜ i < n ⌝ }
-    ensures { λ r. ⌜ r ≡ timed n first i t ⌝ }
-{
-    if i == first {
-        return t == 0.0;
-    }
-    if i + 1 == n {
-        return t == 1.0;
-    }
-    (0.0 <= t) & (t <= 1.0)
-}
-
-// Whether mark i of a part is within the tolerance. A distance that is NaN or an infinity is not.
-fn is_near(under: &[f64], c: Curve, i: usize, t: f64, tolerance: f64) -> bool
-    requires { ⌜ 2 * i + 1 < length (now under) ⌝ }
-    ensures { λ r. ⌜ r ≡ near tolerance (markAt (now (under .entry)) i) c t ⌝ }
-{
-    let d = root::sqrt(stages::error_at(under, c, i, t));
-    float::finite(d) & (d <= tolerance)
-}
-
-// The marks from mark `from` up to mark `stop`.
-fn marks_under(marks: &[f64], from: usize, stop: usize) -> &[f64]
-    requires { ⌜ (from ≤ stop) × (2 * stop ≤ length (now marks)) ⌝ }
-    ensures { λ r. ⌜ now r ≡ take (2 * stop - 2 * from) (drop (2 * from) (now (marks .entry))) ⌝ }
-{
-    let a = 2 * from;
-    let e = 2 * stop;
-    &marks[a..e]
-}
 
 // C and D, mark by mark, over the part of the marks under curve j, whose first mark is `first` of n.
 fn check_marks(
@@ -222,10 +100,10 @@ fn check_marks(
     while i < params.len() {
         let t = params[i];
         let mark = first + i;
-        if !is_timed(n, first, mark, t) {
+        if !faults::is_timed(n, first, mark, t) {
             return fault_c(j, mark);
         }
-        if !is_near(under, c, i, t, tolerance) {
+        if !faults::is_near(under, c, i, t, tolerance) {
             return fault_d(j, mark);
         }
         i += 1;
@@ -249,14 +127,14 @@ fn check_curve(
     ensures { λ r. ⌜ checkedAnswer r ≡ ok (curveChecked (now (marks .entry)) tolerance «count» (now (curves .entry)) (now (firsts .entry)) (now (params .entry)) j) ⌝ }
 {
     let n = marks.len() / 2;
-    let c = curve_at(curves, j);
-    let first = first_at(firsts, j);
-    let last = last_at(firsts, n, count, j);
-    if !is_run(c, marks::mark_at(marks, first), marks::mark_at(marks, last)) {
+    let c = faults::curve_at(curves, j);
+    let first = faults::first_at(firsts, j);
+    let last = faults::last_at(firsts, n, count, j);
+    if !faults::is_run(marks, c, first, last) {
         return fault_b(j, first);
     }
-    let stop = stop_at(firsts, n, count, j);
-    let under = marks_under(marks, first, stop);
+    let stop = faults::stop_at(firsts, n, count, j);
+    let under = faults::marks_under(marks, first, stop);
     check_marks(under, &params[first..stop], n, j, first, c, tolerance)
 }
 

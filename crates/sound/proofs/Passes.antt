@@ -12,8 +12,9 @@ use Rattle.float.specs.Number.{finite}
 use Rattle.float.proofs.Truth.{and-left, and-right, both}
 use Rattle.plane.specs.declared.Point.{Point}
 use Rattle.marks.specs.Marks.{count, markAt}
+use Rattle.faults.specs.Tests.{firstAt, curveAt, lastAt, stopAt, same, curveFinite, runs, timed, near, distanceAt}
 use Rattle.checker.specs.declared.Fault.the-variants.{B, C, D}
-use Rattle.checker.specs.Check.{Verdict, passed, place, must, inTurn, firstAt, curveAt, lastAt, stopAt, same, curveFinite, runs, timed, near, distanceAt, markChecked, curveChecked}
+use Rattle.checker.specs.Check.{Verdict, passed, place, must, inTurn, markChecked, curveChecked}
 use Rattle.checker.specs.Sound.{SamePoint}
 use Rattle.checker.proofs.Turns.{must-true, both-pass, turn-each, turn-all}
 

@@ -11,11 +11,12 @@ use borrow.Author.Tests.{eqb-true, eq-eqb}
 use Rattle.float.specs.Answer.{ok, refused}
 use Rattle.marks.specs.Marks.{count}
 use Rattle.gate.specs.Gate.{gateFor}
-use Rattle.checker.specs.Check.{Verdict, passed, inTurn, firstAt, listed, curveChecked, listChecked, checkOf}
+use Rattle.faults.specs.Tests.{firstAt}
+use Rattle.faults.proofs.Firsts.{Risen, ending, span}
+use Rattle.checker.specs.Check.{Verdict, passed, inTurn, listed, curveChecked, listChecked, checkOf}
 use Rattle.checker.specs.Sound.{Sound}
 use Rattle.checker.proofs.Turns.{both-pass, turn-each, turn-all}
-use Rattle.checker.proofs.Firsts.{Risen, risen, listed-of, ending}
-use Rattle.checker.proofs.Curves.{span}
+use Rattle.checker.proofs.Firsts.{risen, listed-of}
 use Rattle.sound.proofs.Unit.{timed-unit, timed-first, timed-last, timed-of}
 use Rattle.sound.proofs.Under.{home, risen-of}
 use Rattle.sound.proofs.Passes.{Clear, clear, clear-passes}

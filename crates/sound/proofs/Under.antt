@@ -6,8 +6,8 @@ use mathlib.Core.Bool.{Bool, true, false}
 use mathlib.Core.List.{List}
 use lib.Dec.{leb}
 use borrow.Author.Tests.{leb-true, leb-false}
-use Rattle.checker.specs.Check.{firstAt, lastAt, stopAt}
-use Rattle.checker.proofs.Firsts.{Risen, later, ending}
+use Rattle.faults.specs.Tests.{firstAt, lastAt, stopAt}
+use Rattle.faults.proofs.Firsts.{Risen, later, ending}
 
 -- a curve that a mark is measured under
 pub record Home (n k : ℕ) (fs : List ℕ) (i : ℕ) : Type 0 where

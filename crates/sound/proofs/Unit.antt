@@ -11,7 +11,7 @@ use Rattle.float.specs.Number.{f0, f1}
 use Rattle.float.proofs.Truth.{never, and-left, and-right, both}
 use Rattle.float.proofs.Ranks.{Le, said}
 use Rattle.numbers.specs.Words.{InUnit}
-use Rattle.checker.specs.Check.{timed}
+use Rattle.faults.specs.Tests.{timed}
 
 at-zero : (t : Float) → eq t f0 ≡ true → InUnit t
 unfolding eq lt le ofBits

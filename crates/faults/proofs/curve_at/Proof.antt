@@ -1,8 +1,8 @@
--- `checker::curve_at` meets its contract. Assumes nothing.
+-- `faults::curve_at` meets its contract. Assumes nothing.
 use borrow.Author.Needs.{needs}
-use Rattle.checker.specs.Check.{curveAt}
-use Rattle.checker.proofs.curve_at.Statement.{statement}
-use Rattle.checker.proofs.curve_at.Tie as tie
+use Rattle.faults.specs.Tests.{curveAt}
+use Rattle.faults.proofs.curve_at.Statement.{statement}
+use Rattle.faults.proofs.curve_at.Tie as tie
 
 mul-at : tie.Need-mul-at
 mul-at c = search needs

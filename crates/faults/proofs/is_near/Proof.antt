@@ -1,8 +1,8 @@
--- `checker::is_near` meets its contract. Assumes nothing.
+-- `faults::is_near` meets its contract. Assumes nothing.
 use borrow.Author.Needs.{needs}
-use Rattle.checker.specs.Check.{near, distanceAt}
-use Rattle.checker.proofs.is_near.Statement.{statement}
-use Rattle.checker.proofs.is_near.Tie as tie
+use Rattle.faults.specs.Tests.{near, distanceAt}
+use Rattle.faults.proofs.is_near.Statement.{statement}
+use Rattle.faults.proofs.is_near.Tie as tie
 
 error-at-requires : tie.Need-error-at-requires
 error-at-requires c κs = search needs

@@ -1,11 +1,11 @@
--- `checker::stop_at` meets its contract. Assumes nothing.
+-- `faults::stop_at` meets its contract. Assumes nothing.
 use borrow.Author.Needs.{needs}
 use mathlib.Core.Path.{sym, _∙_}
 use native.Mathlib.Numerals.{add-one}
 use native.Mathlib.Omega.{arith}
-use Rattle.checker.proofs.Firsts.{later, ending}
-use Rattle.checker.proofs.stop_at.Statement.{statement}
-use Rattle.checker.proofs.stop_at.Tie as tie
+use Rattle.faults.proofs.Firsts.{later, ending}
+use Rattle.faults.proofs.stop_at.Statement.{statement}
+use Rattle.faults.proofs.stop_at.Tie as tie
 
 add-if1 : tie.Need-add-if1
 add-if1 c = search needs

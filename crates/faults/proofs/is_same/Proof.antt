@@ -1,8 +1,8 @@
--- `checker::is_same` meets its contract. Assumes nothing.
+-- `faults::is_same` meets its contract. Assumes nothing.
 use borrow.Author.Needs.{needs}
-use Rattle.checker.specs.Check.{same}
-use Rattle.checker.proofs.is_same.Statement.{statement}
-use Rattle.checker.proofs.is_same.Tie as tie
+use Rattle.faults.specs.Tests.{same}
+use Rattle.faults.proofs.is_same.Statement.{statement}
+use Rattle.faults.proofs.is_same.Tie as tie
 
 to-bits-requires : tie.Need-to-bits-requires
 to-bits-requires c κs = search needs

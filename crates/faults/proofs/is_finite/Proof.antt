@@ -1,8 +1,8 @@
--- `checker::is_finite` meets its contract. Assumes nothing.
+-- `faults::is_finite` meets its contract. Assumes nothing.
 use borrow.Author.Needs.{needs}
-use Rattle.checker.specs.Check.{curveFinite}
-use Rattle.checker.proofs.is_finite.Statement.{statement}
-use Rattle.checker.proofs.is_finite.Tie as tie
+use Rattle.faults.specs.Tests.{curveFinite}
+use Rattle.faults.proofs.is_finite.Statement.{statement}
+use Rattle.faults.proofs.is_finite.Tie as tie
 
 point-finite-requires : tie.Need-point-finite-requires
 point-finite-requires c κs = search needs

@@ -1,12 +1,12 @@
--- `checker::is_timed` meets its contract. Assumes nothing.
+-- `faults::is_timed` meets its contract. Assumes nothing.
 use borrow.Author.Needs.{needs}
 use Prim.Native.Nat.{suc}
 use mathlib.Core.Path.{sym, _∙_}
 use native.Mathlib.Numerals.{add-one}
 use borrow.Author.Tests.{eq-eqb, ne-eqb}
-use Rattle.checker.specs.Check.{timed}
-use Rattle.checker.proofs.is_timed.Statement.{statement}
-use Rattle.checker.proofs.is_timed.Tie as tie
+use Rattle.faults.specs.Tests.{timed}
+use Rattle.faults.proofs.is_timed.Statement.{statement}
+use Rattle.faults.proofs.is_timed.Tie as tie
 
 returns : tie.Need-returns
 unfolding timed

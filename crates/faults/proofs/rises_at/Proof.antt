@@ -1,8 +1,8 @@
--- `checker::rises_at` meets its contract. Assumes nothing.
+-- `faults::rises_at` meets its contract. Assumes nothing.
 use borrow.Author.Needs.{needs}
-use Rattle.checker.proofs.Firsts.{rises-first, rises-later}
-use Rattle.checker.proofs.rises_at.Statement.{statement}
-use Rattle.checker.proofs.rises_at.Tie as tie
+use Rattle.faults.proofs.Firsts.{rises-first, rises-later}
+use Rattle.faults.proofs.rises_at.Statement.{statement}
+use Rattle.faults.proofs.rises_at.Tie as tie
 
 first-at-requires : tie.Need-first-at-requires
 first-at-requires c κs = search needs
