@@ -2,11 +2,12 @@
 """replay_vectors.py VECTORS ORACLE [all STDIN STDOUT]: writes crates/replay/stdin and stdout.
 
 VECTORS is the folder of the Rust's answers, ORACLE the program that runs the unchanged Rust. Square roots are those of crates/sqrt_cases. What is
-refused is by the document's table, a BAD line by the program's own text, and the checker's answers are worked out here from the document's rules.
+refused is by the document's table, a BAD line by the program's own text, and the checker's answers are those of check_vectors.py.
 With `all` every line of the vectors is written to the two files named, with the longest lines there are, and nothing else. Nothing is taken from the port."""
 import math, os, struct, sys
 import eval_vectors as single
 import fit_vectors as fits
+from check_vectors import PASSED, REFUSED, check
 from eval_vectors import ask, bits, number
 
 NAMES = {'point_at_pos': 'basis', 'newton': 'refine'}
@@ -82,30 +83,11 @@ def long_lines():
 # ---- the checker
 
 def judge(tol, marks, curves, params):
-    """The document's checker over bit patterns: marks in pairs, curves as (first, eight patterns)."""
-    n, k = len(marks) // 2, len(curves)
-    if n < 2: return '1'
-    if n > 4096: return '2'
-    v = [number(w) for w in marks]
-    if not all(abs(x) <= 1e6 for x in v) or not (math.isfinite(number(tol)) and number(tol) >= 0): return '5'
-    fault = lambda kind, curve, mark: 'FAULT %s %d %d' % (kind, curve, mark)
-    if not 1 <= k <= n - 1: return fault('A', 0, 0)
-    for j, (first, _) in enumerate(curves):
-        if (first != 0 if j == 0 else first <= curves[j - 1][0]) or first >= n - 1: return fault('A', j, 0)
-    for j, (first, eight) in enumerate(curves):
-        last = curves[j + 1][0] if j + 1 < k else n - 1
-        c = [number(w) for w in eight]
-        if not all(map(math.isfinite, c)) or eight[:2] != marks[2 * first:2 * first + 2] or eight[6:] != marks[2 * last:2 * last + 2]: return fault('B', j, first)
-        for i in range(first, last + (j + 1 == k)):
-            t = number(params[i])
-            right = t == 0 if i == first else t == 1 if i == n - 1 else 0 <= t <= 1
-            if not right: return fault('C', j, i)
-            u = 1.0 - t
-            at = [c[d] * (u * u * u) + c[2 + d] * 3.0 * (u * u) * t + c[4 + d] * 3.0 * u * (t * t) + c[6 + d] * (t * t * t) for d in (0, 1)]
-            x, y = v[2 * i] - at[0], v[2 * i + 1] - at[1]
-            far = x * x + y * y
-            if not math.isfinite(far) or not math.sqrt(far) <= number(tol): return fault('D', j, i)
-    return '0'
+    """What the independent checker says of a list of bit patterns: marks in pairs, curves as (first, eight patterns)."""
+    floats = lambda ws: [number(w) for w in ws]
+    kind, curve, mark = check(floats(marks), number(tol), len(curves), floats(w for _, eight in curves for w in eight), [f for f, _ in curves], floats(params))
+    if kind == PASSED: return '0'
+    return str(curve) if kind == REFUSED else 'FAULT %s %d %d' % ('ABCD'[kind - 1], curve, mark)
 
 def listing(tol, marks, curves, params):
     flat = ['%d %s' % (f, ' '.join(map(hx, e))) for f, e in curves]
