@@ -1,4 +1,4 @@
--- The numbers that 01 fixes for the house file, each under one name. Definitions only.
+-- The numbers that the document fixes for the house file, each under one name. Definitions only.
 use Prim.Native.Nat.{ℕ, _+_, _*_}
 
 -- ---- refusals

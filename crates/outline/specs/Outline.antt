@@ -56,7 +56,7 @@ listingOf b = shown (linesOf b)
 
 -- ---- the call
 
--- 01's number and value for each case of the answer: `ok` is its number 0
+-- the document's number and values for each case of the answer: `ok` is its number 0
 abbrev pub listedAnswer : Listed → Answer ℕ
 listedAnswer (listed.Bytes n) = ok n
 listedAnswer (listed.Refused q) = refused q

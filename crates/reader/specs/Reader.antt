@@ -34,7 +34,7 @@ pub record Found : Type 0 where
 abbrev pub foundIn : File → Found
 foundIn F = record { tolerance = F .tolerance; marks = marksIn F; curves = curvesIn F }
 
--- 01's number and values for each case of the answer: `ok` is its number 0
+-- the document's number and values for each case of the answer: `ok` is its number 0
 abbrev pub readAnswer : Read → Answer Found
 readAnswer (read.File t n k) = ok (record { tolerance = t; marks = n; curves = k })
 readAnswer (read.Refused q) = refused q

@@ -32,7 +32,7 @@ checked t M k P C Q o =
     (unless badlyFormed (fewer k (length M / markNumbers) && allFit firstField (take k P))
     (ok (fileFor t M k P C Q)))))
 
--- 01's number and value for each case of the answer: `ok` is its number 0
+-- the document's number and values for each case of the answer: `ok` is its number 0
 abbrev pub writeAnswer : Wrote → Answer ℕ
 writeAnswer (wrote.Bytes n) = ok n
 writeAnswer (wrote.Refused q) = refused q
