@@ -17,8 +17,7 @@ use Rattle.squares.proofs.Controls.{GoodCurve}
 use Rattle.numbers.specs.Words.{one, Zero, InUnit}
 use Rattle.ends.specs.Ends.{Near}
 use Rattle.faults.specs.Tests.{firstAt, curveAt, lastAt, stopAt}
-use Rattle.accepted.specs.Laid.{Over, Laid, last, more}
-use Rattle.accepted.proofs.Laid.{laid-rises}
+use Rattle.accepted.proofs.Laid.{Over, Laid, last, more, laid-rises}
 
 -- ---- a list that begins with one curve
 

@@ -22,8 +22,7 @@ use Rattle.blocks.proofs.Joined.{part, part-count, part-within, blocks-by}
 use Rattle.ends.specs.Ends.{FitsP, Near}
 use Rattle.ends.proofs.Lines.{WP}
 use Rattle.ends.proofs.Accepted.{Marked, Fits, Accepted, part-accepted}
-use Rattle.accepted.specs.Laid.{Laid, last}
-use Rattle.accepted.proofs.Laid.{laid-append}
+use Rattle.accepted.proofs.Laid.{Laid, last, laid-append}
 
 -- marks among others that are in range are in range
 marked-within : (ws ms : List Float) (first : ℕ) → ((i : ℕ) → i < count ms → first + i < count ws) → Within ws ms first → Marked ws → Marked ms

@@ -29,7 +29,7 @@ use Rattle.blocks.specs.Blocks.{blocksOf}
 use Rattle.marks.specs.Block.{blockSize}
 use Rattle.fit.specs.Fit.{Ending, fittedAnswer, ending, ended, entered, fitOf, cubicGate, cubicOf}
 use Rattle.fit.proofs.Entries.{size-within, cubic-passed}
-use Rattle.faults.specs.Tests.{firstAt, curveAt, curveFinite, distanceAt}
+use Rattle.faults.specs.Tests.{firstAt, curveAt, curveFinite}
 use Rattle.checker.specs.Check.{checkOf, checkedAnswer}
 use Rattle.checker.specs.declared.Checked.{Checked}
 use Rattle.checker.specs.declared.Checked.the-variants as checked
@@ -37,8 +37,7 @@ use Rattle.checker.specs.Sound.{Sound, SamePoint}
 use Rattle.sound.proofs.Sound.{sound-passes}
 use Rattle.sound.proofs.Agree.{same-checked}
 use Rattle.cut.specs.declared.Fitted.the-variants as fitted
-use Rattle.accepted.specs.Laid.{Laid}
-use Rattle.accepted.proofs.Laid.{laid-many, laid-curves}
+use Rattle.accepted.proofs.Laid.{Laid, laid-many, laid-curves}
 use Rattle.accepted.proofs.Runs.{run-laid, blocks-laid}
 use Rattle.accepted.proofs.Pieces.{Piece, laid-first, laid-some, laid-one, laid-unit, laid-piece}
 
@@ -62,7 +61,6 @@ one-eq x p = ap (λ (v : Float). eq v f1) p
 
 pub laid-sound : (ms : List Float) (tol : Float) (cs : List Float) (fs : List ℕ) (ps X : List Float) (Y : List ℕ) (Z : List Float) → 2 ≤ count ms → Laid ms tol 0 (count ms - 1) cs fs ps
     → Sound ms tol (length fs) (cs ++ X) (fs ++ Y) (ps ++ Z)
-unfolding distanceAt
 laid-sound ms tol cs fs ps X Y Z h l =
     let n = count ms in
     let some : 0 < n = omega arith in

@@ -24,6 +24,7 @@ use Rattle.marks.specs.Line.{f033, f066, lineOf}
 use Rattle.stages.specs.Worst.{errorOf}
 use Rattle.squares.proofs.Controls.{GoodCurve}
 use Rattle.numbers.specs.Words.{zer, InUnit}
+use Rattle.faults.specs.Tests.{distanceAt}
 use Rattle.ends.specs.Ends.{FitsP, Near, Params}
 use Rattle.numbers.proofs.Zeros.{f0-is, f1-is}
 use Rattle.ends.proofs.Basis.{part, om, error-start, error-end}
@@ -152,7 +153,7 @@ module _ (ms : List Float) (tol : Float) (t : Le f0 tol) (w0 : WP 20 (markAt ms 
   Passes k = Near tol (markAt ms k) c (getD ends k nan)
 
   pub line-near : (k : ℕ) → k < 2 → Near tol (markAt ms k) c (getD ends k nan)
-  unfolding Passes
+  unfolding Passes distanceAt
   line-near = below-more Passes 1 (below-more Passes 0 (below-none Passes) (near-zero _ off0)) (near-zero _ off1)
 
   pub line-good : GoodCurve c

@@ -23,6 +23,7 @@ use Rattle.stages.specs.Worst.{errorOf, larger, worstAt, noWorst, worst, maxErr
 use Rattle.stages.specs.declared.worst.Worst.{Worst}
 use Rattle.stages.proofs.Errors.{error-bad}
 use Rattle.root.specs.Root.{sqrt, plain}
+use Rattle.faults.specs.Tests.{distanceAt}
 use Rattle.ends.specs.Ends.{Near}
 use Rattle.numbers.proofs.Order.{le-tr, le-self, lt-is-le, not-lt}
 use Rattle.numbers.proofs.Plain.{plain-fin, sqrt-plain, sqrt-le}
@@ -84,7 +85,7 @@ module _ (ms : List Float) (c : Curve) (ts : List Float) where
 
   -- each mark is near where the worst is
   pub within : (tol : Float) → Fine (maxError ms c ts) → Le (maxError ms c ts .val .err) tol → (k : ℕ) → k < length ts → Near tol (markAt ms k) c (getD ts k nan)
-  unfolding maxError worst
+  unfolding maxError worst distanceAt
   within tol h l k b =
       let f : Fine (upTo (length ts)) = and-left (upTo (length ts) .fine) _ h in
       let t = top (length ts) f in

@@ -7,11 +7,10 @@ use lib.Dec.{T}
 use lib.ListN.{length, getD}
 use lib.Ieee.{Float, nan, binary64, fits, le}
 use Rattle.float.specs.Number.{finite}
-use Rattle.root.specs.Root.{sqrt}
 use Rattle.plane.specs.declared.Point.{Point}
 use Rattle.plane.specs.declared.Curve.{Curve}
 use Rattle.marks.specs.Marks.{markAt}
-use Rattle.stages.specs.Worst.{errorOf}
+use Rattle.faults.specs.Tests.{distanceAt}
 use Rattle.numbers.specs.Words.{one, Zero, InUnit}
 
 -- the parameters of a fit: all in 0..1, the first a zero of either sign, the last 1
@@ -34,4 +33,4 @@ pub record EndsAt (ms : List Float) (n : ℕ) (c : Curve) : Type 0 where
 
 -- a mark's distance from the curve's point at t is finite and within the tolerance
 abbrev pub Near : Float → Point → Curve → Float → Type 0
-Near tol m c t = (finite (sqrt binary64 (errorOf m c t .val)) ≡ true) × (le (sqrt binary64 (errorOf m c t .val)) tol ≡ true)
+Near tol m c t = (finite (distanceAt m c t) ≡ true) × (le (distanceAt m c t) tol ≡ true)
