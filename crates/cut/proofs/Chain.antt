@@ -1,9 +1,8 @@
 -- Every run's curves join, from the part's first mark to its last. Proved of the definition, once, by `run-ind`. Assumes nothing.
-use Prim.Native.Nat.{ℕ, suc, _+_, _-_, _*_, _≤_, _<_}
+use Prim.Native.Nat.{ℕ, _+_, _-_, _*_, _≤_, _<_}
 use native.Mathlib.Omega.{arith}
 use mathlib.Core.Path.{_≡_, sym, ap, subst, _∙_}
 use mathlib.Core.List.{List, [], _∷_, _++_}
-use lib.ListN.{length}
 use lib.Seq.{getD-take, getD-drop}
 use lib.Ieee.{Float, nan}
 use Rattle.plane.specs.declared.Point.{Point}
@@ -18,28 +17,6 @@ use Rattle.cut.proofs.Run.{run-ind, left-count, right-count}
 pub chain-append : {ws : List Float} {f g e : ℕ} {cs cs′ : List Float} {fs fs′ : List ℕ} → Chain ws f g cs fs → Chain ws g e cs′ fs′ → Chain ws f e (cs ++ cs′) (fs ++ fs′)
 chain-append (one k h a d) c = more k h a d c
 chain-append (more k h a d r) c = more k h a d (chain-append r c)
-
--- what the checker reads of a chain: it rises, and is short enough
-pub chain-short : {ws : List Float} {f e : ℕ} {cs : List Float} {fs : List ℕ} → Chain ws f e cs fs → f + length fs ≤ e
-chain-short (one k h a d) = omega arith
-chain-short (more k h a d r) = let s = chain-short r in omega arith
-
-pub chain-some : {ws : List Float} {f e : ℕ} {cs : List Float} {fs : List ℕ} → Chain ws f e cs fs → 0 < length fs
-chain-some (one k h a d) = omega arith
-chain-some (more k h a d r) = omega arith
-
--- first marks: the head is f, each is below the next, and all are below e
-abbrev pub Rises : ℕ → ℕ → List ℕ → Type 0
-Rises f e [] = Unit {0}
-Rises f e (x ∷ xs) = (f ≤ x) × (x < e) × Rises (suc x) e xs
-
-rises-from : (f g e : ℕ) (fs : List ℕ) → f ≤ g → Rises g e fs → Rises f e fs
-rises-from f g e [] h r = tt
-rises-from f g e (x ∷ xs) h r = let i = r .0 in (omega arith, r .1, r .2)
-
-pub chain-rises : {ws : List Float} {f e : ℕ} {cs : List Float} {fs : List ℕ} → Chain ws f e cs fs → Rises f e fs
-chain-rises (one k h a d) = (omega arith, h, tt)
-chain-rises (more {f = f} {g = g} {e = e} {fs = fs} k h a d r) = let s = chain-short r in (omega arith, omega arith, rises-from (suc f) g e fs h (chain-rises r))
 
 -- ---- marks of a part are marks of the whole
 
