@@ -30,9 +30,6 @@ use Rattle.cut.proofs.Run.{run-sized, Sized, run-fits, run-fails, run-c
 -- ---- lists: parts of a lent slice that come back
 
 module _ {A : Type 0} where
-  pub written-length : (xs C : List A) → length xs ≤ length C → length (written xs C) ≡ length C
-  written-length xs C h = simp (length-append, length-drop) (omega arith)
-
   -- xs at the front of C, and then ys at the front of the part from a on, is xs and ys at the front of C
   pub written-behind : (xs ys C C₁ D : List A) (a b : ℕ) → C₁ ≡ written xs C → length xs ≡ a → b ≡ length C₁ - a
       → D ≡ written ys (take b (drop a C₁)) → take a C₁ ++ (D ++ drop b (drop a C₁)) ≡ written (xs ++ ys) C

@@ -38,10 +38,6 @@ one-fits binary64 = tt
 pub zero-is : (f : Format) (s : Bool) (e : ℤ) → T (fits f (fin s 0 e)) → fin s 0 e ≡ zer s
 zero-is f s e h = fin-same f s 0 e 0 (pos 0) h (zer-fits f s) (simp zero-mul)
 
-pub zero-finite : (x : Float) → Zero x → Fin x
-unfolding finite
-zero-finite x z = ap finite (z .1)
-
 pub one-not-zero : {A : Type 0} → Zero one → A
 one-not-zero z = absurd (no z)
   where
