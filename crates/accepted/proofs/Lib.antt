@@ -1,4 +1,7 @@
+pub mod Within
+pub mod Joined
 pub mod Laid
 pub mod Runs
 pub mod Pieces
 pub mod Theorem
+pub mod Refusals

@@ -15,13 +15,13 @@ use Rattle.part.proofs.Ends.{Sound}
 use Rattle.cut.specs.Run.{Run, refused, done, flat, leftOf, rightOf, join, runOf}
 use Rattle.cut.specs.declared.Ways.{Ways}
 use Rattle.cut.proofs.Run.{run-by, left-count, right-count}
-use Rattle.cut.proofs.Chain.{Within, within-left, within-right}
 use Rattle.blocks.specs.declared.Cutting.the-variants.{Joined}
 use Rattle.blocks.specs.Blocks.{blocksFrom}
-use Rattle.blocks.proofs.Joined.{part, part-count, part-within, blocks-by}
 use Rattle.ends.specs.Ends.{FitsP, Near}
 use Rattle.ends.proofs.Lines.{WP}
 use Rattle.ends.proofs.Accepted.{Marked, Fits, Accepted, part-accepted}
+use Rattle.accepted.proofs.Within.{Within, within-left, within-right, blockAt, block-count, block-within}
+use Rattle.accepted.proofs.Joined.{blocks-by}
 use Rattle.accepted.proofs.Laid.{Laid, last, laid-append}
 
 -- marks among others that are in range are in range
@@ -71,7 +71,7 @@ module _ (tol : Float) (t : Le f0 tol) where
       (subst (λ (e : ℕ). Laid ws tol (first + k) e c′ f′ p′) b (r (marked-right ms k j m) ws (within-right ws ms first k j w))))
 
   run-lays : (ms : List Float) (first : ℕ) (s e : Point) → 2 ≤ count ms → Lays ms first (runOf ms first s e tol)
-  run-lays = run-by tol (λ ms X. Marked ms → Accepted ms tol X) (λ ms s e h m. part-accepted ms tol t h m s e) Lays lays-one (λ ms first q. tt) lays-both
+  run-lays = run-by tol (λ ms X. Marked ms → Accepted ms tol X) (λ ms s e h m. part-accepted ms tol t h m s e) Lays lays-one (λ ms first q s. tt) lays-both
 
   -- the direct fit's run
   pub run-laid : (ms : List Float) (s e : Point) (cs : List Float) (fs : List ℕ) (ps : List Float) → 2 ≤ count ms → Marked ms → runOf ms 0 s e tol ≡ done cs fs ps → Laid ms tol 0 (count ms - 1) cs fs ps
@@ -82,12 +82,12 @@ module _ (tol : Float) (t : Le f0 tol) where
 
   -- the joined fit's
   module _ (ms : List Float) (n size : ℕ) (even : length ms ≡ 2 * n) (m : Marked ms) where
-    block-laid : (from to : ℕ) (w : Ways) (cs : List Float) (fs : List ℕ) (ps : List Float) → from + 2 ≤ to → to ≤ n → runOf (part ms n size tol even from to) from (w .start) (w .end) tol ≡ done cs fs ps
+    block-laid : (from to : ℕ) (w : Ways) (cs : List Float) (fs : List ℕ) (ps : List Float) → from + 2 ≤ to → to ≤ n → runOf (blockAt ms from to) from (w .start) (w .end) tol ≡ done cs fs ps
         → Laid ms tol from (to - 1) cs fs ps
     block-laid from to w cs fs ps h l q =
-        let ws = part ms n size tol even from to in
-        let many : count ws ≡ to - from = part-count ms n size tol even from to h l in
-        let within = part-within ms n size tol even from to h l in
+        let ws = blockAt ms from to in
+        let many : count ws ≡ to - from = block-count ms n even from to h l in
+        let within = block-within ms n even from to h l in
         let r : Lays ws from (done cs fs ps) = rw q at (run-lays ws from (w .start) (w .end) (omega (arith, many))) in
         let z : from + (count ws - 1) ≡ to - 1 = omega (arith, many) in
         subst (λ (e : ℕ). Laid ms tol from e cs fs ps) z (r (marked-within ms ws from (λ i b. inside (count ws) (count ms) i many (omega arith) b) within m) ms within)
@@ -96,4 +96,4 @@ module _ (tol : Float) (t : Le f0 tol) where
         inside a b i p q r = omega arith
 
     pub blocks-laid : (cs : List Float) (fs : List ℕ) (ps : List Float) → 0 < size → 2 ≤ n → blocksFrom Joined ms n size tol 0 ≡ done cs fs ps → Laid ms tol 0 (n - 1) cs fs ps
-    blocks-laid = blocks-by ms n size tol even (Laid ms tol) block-laid (λ f g e cs cs′ fs fs′ ps ps′ l x y. laid-append x y)
+    blocks-laid = blocks-by ms n size tol (Laid ms tol) block-laid (λ f g e cs cs′ fs fs′ ps ps′ l x y. laid-append x y)

@@ -1,12 +1,12 @@
 -- Demand 3: every list that the joined or the direct fit accepts is sound, with the same marks and tolerance. Assumes nothing.
-use mathlib.Core.Path.{_≡_, refl, ap, _∙_}
+use mathlib.Core.Path.{_≡_, refl, sym, ap, _∙_, subst}
 use mathlib.Core.Bool.{Bool, true, false, cond}
 use mathlib.Core.List.{List, [], _∷_, _++_}
 use Prim.Native.Nat.{ℕ, zero, suc, _+_, _-_, _*_, _≤_, _<_}
 use native.Mathlib.Omega.{arith}
 use lib.Dec.{T, eqb}
 use lib.ListN.{length, drop, getD, length-append}
-use lib.Ieee.{Float, nan, binary64, fits, toBits, eq, le, ofBits}
+use lib.Ieee.{Float, nan, binary64, toBits, eq, le, ofBits}
 use borrow.Author.Tests.{eqb-true}
 use Rattle.float.specs.Number.{f0, f1, finite}
 use Rattle.float.specs.Answer.{Answer, ok}
@@ -16,6 +16,7 @@ use Rattle.float.proofs.Truth.{and-left, and-right, both}
 use Rattle.plane.specs.declared.Point.{Point}
 use Rattle.plane.specs.Range.{coordinate}
 use Rattle.plane.proofs.Fine.{good-point}
+use Rattle.plane.proofs.Ranges.{coordinate-fits}
 use Rattle.marks.specs.Marks.{count, markAt}
 use Rattle.squares.proofs.Controls.{GoodCurve}
 use Rattle.numbers.specs.Words.{one, Zero}
@@ -33,10 +34,10 @@ use Rattle.faults.specs.Tests.{firstAt, curveAt, curveFinite}
 use Rattle.checker.specs.Check.{checkOf, checkedAnswer}
 use Rattle.checker.specs.declared.Checked.{Checked}
 use Rattle.checker.specs.declared.Checked.the-variants as checked
-use Rattle.checker.specs.Sound.{Sound, SamePoint}
+use Rattle.sound.specs.Sound.{Sound, SamePoint}
 use Rattle.sound.proofs.Sound.{sound-passes}
 use Rattle.sound.proofs.Agree.{same-checked}
-use Rattle.cut.specs.declared.Fitted.the-variants as fitted
+use Rattle.accepted.specs.Passes.{JoinedPasses, DirectPasses}
 use Rattle.accepted.proofs.Laid.{Laid, laid-many, laid-curves}
 use Rattle.accepted.proofs.Runs.{run-laid, blocks-laid}
 use Rattle.accepted.proofs.Pieces.{Piece, laid-first, laid-some, laid-one, laid-unit, laid-piece}
@@ -83,22 +84,18 @@ laid-sound ms tol cs fs ps X Y Z h l =
 
 -- ---- marks that a gate let pass
 
--- every number is a value of an f64
-abbrev pub Numbers : List Float → Type 0
-Numbers xs = (i : ℕ) → i < length xs → T (fits binary64 (getD xs i nan))
-
 in-range-at : (xs : List Float) → inRange xs ≡ true → (i : ℕ) → i < length xs → coordinate (getD xs i nan) ≡ true
 unfolding inRange
 in-range-at [] h i l = absurd (omega arith)
 in-range-at (x ∷ xs) h zero l = and-left (coordinate x) (inRange xs) h
 in-range-at (x ∷ xs) h (suc i) l = in-range-at xs (and-right (coordinate x) (inRange xs) h) i (omega arith)
 
-marked : (ms : List Float) → inRange ms ≡ true → Numbers ms → Marked ms
+marked : (ms : List Float) → inRange ms ≡ true → Marked ms
 unfolding markAt
-marked ms r f k l =
-    let a : 2 * k < length ms = omega arith in
-    let b : 2 * k + 1 < length ms = omega arith in
-    ((f (2 * k) a, f (2 * k + 1) b), (coordinate-w _ (in-range-at ms r (2 * k) a), coordinate-w _ (in-range-at ms r (2 * k + 1) b)))
+marked ms r k l =
+    let a = in-range-at ms r (2 * k) (omega arith) in
+    let b = in-range-at ms r (2 * k + 1) (omega arith) in
+    ((subst T (sym (coordinate-fits _ a)) tt, subst T (sym (coordinate-fits _ b)) tt), (coordinate-w _ a, coordinate-w _ b))
 
 -- ---- a call that is accepted
 
@@ -164,7 +161,7 @@ not-below : (tol : Float) → tolerable tol ≡ true → le f0 tol ≡ true
 unfolding tolerable
 not-below tol h = and-right (finite tol) (le f0 tol) h
 
-module _ (ms : List Float) (tol : Float) (k : ℕ) (C C′ : List Float) (F F′ : List ℕ) (P P′ : List Float) (numbers : Numbers ms) where
+module _ (ms : List Float) (tol : Float) (k : ℕ) (C C′ : List Float) (F F′ : List ℕ) (P P′ : List Float) where
   pub joined-passing : ending (ok k) C′ F′ P′ ≡ fitOf Joined ms tol C F P → Passing ms tol k C′ F′ P′
   unfolding fitOf blocksOf
   joined-passing h =
@@ -174,7 +171,7 @@ module _ (ms : List Float) (tol : Float) (k : ℕ) (C C′ : List Float) (F F′
       let even : length ms ≡ 2 * count ms = let e = g .even in omega arith in
       same-lists ms tol k _ C′ _ F′ _ P′ (d .curves) (d .firsts) (d .params)
       (laid-passing ms tol k 4096 (d .cs) C (d .fs) F (d .ps) P (omega arith) g (d .many)
-      (blocks-laid tol (not-below tol (g .usable)) ms (count ms) (blockSize (count ms)) even (marked ms (g .near) numbers) (d .cs) (d .fs) (d .ps) (omega arith) (g .two) (d .is-done)))
+      (blocks-laid tol (not-below tol (g .usable)) ms (count ms) (blockSize (count ms)) even (marked ms (g .near)) (d .cs) (d .fs) (d .ps) (omega arith) (g .two) (d .is-done)))
 
   pub direct-passing : (s e : Point) → ending (ok k) C′ F′ P′ ≡ cubicOf ms s e tol C F P → Passing ms tol k C′ F′ P′
   unfolding cubicOf
@@ -183,21 +180,19 @@ module _ (ms : List Float) (tol : Float) (k : ℕ) (C C′ : List Float) (F F′
       let g = cubic-passed ms s e tol (length C) (length F) (length P) (cubicGate ms s e tol (length C) (length F) (length P)) refl (d .let-pass) in
       same-lists ms tol k _ C′ _ F′ _ P′ (d .curves) (d .firsts) (d .params)
       (laid-passing ms tol k 512 (d .cs) C (d .fs) F (d .ps) P (omega arith) g (d .many)
-      (run-laid tol (not-below tol (g .usable)) ms s e (d .cs) (d .fs) (d .ps) (g .two) (marked ms (g .near) numbers) (d .is-done)))
+      (run-laid tol (not-below tol (g .usable)) ms s e (d .cs) (d .fs) (d .ps) (g .two) (marked ms (g .near)) (d .is-done)))
 
--- ---- stated of the promises: whatever answer and slices meet a fit's promise, the checker's promise on them allows `Passed` alone
+-- ---- stated of the promises
 
-module _ (ms : List Float) (tol : Float) (numbers : Numbers ms) (k : ℕ) (C C′ : List Float) (F F′ : List ℕ) (P P′ : List Float) (answer : Checked) (checks : checkedAnswer answer ≡ checkOf ms tol k C′ F′ P′) where
-  passing-passes : Passing ms tol k C′ F′ P′ → answer ≡ checked.Passed
+module _ (ms : List Float) (tol : Float) (k : ℕ) (C : List Float) (F : List ℕ) (P : List Float) (answer : Checked) (checks : checkedAnswer answer ≡ checkOf ms tol k C F P) where
+  passing-passes : Passing ms tol k C F P → answer ≡ checked.Passed
   unfolding checkedAnswer
-  passing-passes h = same-checked answer checked.Passed (checks ∙ sound-passes ms tol k C′ F′ P′ (h .taken) (h .sound))
+  passing-passes h = same-checked answer checked.Passed (checks ∙ sound-passes ms tol k C F P (h .taken) (h .sound))
 
-  -- every list that the joined fit accepts passes the checker with the same marks and tolerance
-  pub joined-passes : ending (fittedAnswer (fitted.Curves k)) C′ F′ P′ ≡ fitOf Joined ms tol C F P → answer ≡ checked.Passed
-  unfolding fittedAnswer
-  joined-passes h = passing-passes (joined-passing ms tol k C C′ F F′ P P′ numbers h)
+pub joined-passes : JoinedPasses
+unfolding fittedAnswer
+joined-passes ms tol k C C′ F F′ P P′ answer fits checks = passing-passes ms tol k C′ F′ P′ answer checks (joined-passing ms tol k C C′ F F′ P P′ fits)
 
-  -- and every list that the direct fit accepts
-  pub direct-passes : (s e : Point) → ending (fittedAnswer (fitted.Curves k)) C′ F′ P′ ≡ cubicOf ms s e tol C F P → answer ≡ checked.Passed
-  unfolding fittedAnswer
-  direct-passes s e h = passing-passes (direct-passing ms tol k C C′ F F′ P P′ numbers s e h)
+pub direct-passes : DirectPasses
+unfolding fittedAnswer
+direct-passes ms s e tol k C C′ F F′ P P′ answer fits checks = passing-passes ms tol k C′ F′ P′ answer checks (direct-passing ms tol k C C′ F F′ P P′ s e fits)

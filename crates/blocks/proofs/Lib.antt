@@ -1,4 +1,3 @@
 pub mod Tangents
 pub mod Blocks
 pub mod Sofar
-pub mod Joined

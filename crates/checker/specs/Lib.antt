@@ -1,3 +1,2 @@
 pub mod Check
-pub mod Sound
 pub mod Inner

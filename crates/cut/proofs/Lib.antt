@@ -1,4 +1,3 @@
 mod Turns
 pub mod Run
 pub mod Cut
-pub mod Chain

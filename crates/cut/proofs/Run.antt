@@ -2,16 +2,17 @@
 use Prim.Native.Nat.{ℕ, zero, suc, _+_, _-_, _*_, _≤_, _<_}
 use native.Mathlib.Omega.{arith}
 use mathlib.Core.Path.{_≡_, refl}
+use mathlib.Core.Bool.{Bool, true, false}
 use mathlib.Core.List.{List, [], _∷_}
 use lib.ListN.{length, length-append, length-take, length-drop}
 use lib.Ieee.{Float}
-use Rattle.float.specs.Answer.{Answer, ok, outcome}
+use Rattle.float.specs.Answer.{Answer, ok, unless, outcome}
 use Rattle.float.specs.Answer.{refused as no}
 use Rattle.plane.specs.declared.Point.{Point}
 use Rattle.plane.specs.declared.Curve.{Curve}
 use Rattle.marks.specs.Marks.{count}
 use Rattle.part.specs.Part.{Part, fits, cuts, fails, partOf}
-use Rattle.part.proofs.Ends.{Sound, part-sound}
+use Rattle.part.proofs.Ends.{Stops, Sound, part-sound}
 use Rattle.cut.specs.Run.{Run, refused, done, flat, waysAt, leftOf, rightOf, join, turned, run, runOf, cutOf}
 use Rattle.cut.specs.declared.Ways.{Ways}
 
@@ -82,31 +83,31 @@ module _ (ms : List Float) (first : ℕ) (s e : Point) (tol : Float) (h : 2 ≤ 
             run-fuel d (count (rightOf k ms)) (rightOf k ms) (first + k) (t .start) e tol (omega (arith, sound)) (omega (arith, sound)) (omega arith),
           ))
 
--- ---- induction: what holds of one curve and of a refusal, and is kept by a join, holds of every run. P is a law of every part
+-- ---- induction: what holds of one curve and of a run's refusals, and is kept by a join, holds of every run. P is a law of every part
 
 module _ (tol : Float) (P : List Float → Part → Type 0) (part-law : (ms : List Float) (s e : Point) → 2 ≤ count ms → P ms (partOf ms s e tol)) (Q : List Float → ℕ → Run → Type 0)
     (one : (ms : List Float) (first : ℕ) (c : Curve) (ps : List Float) → 2 ≤ count ms → Sound ms (fits c ps) → P ms (fits c ps) → Q ms first (done (flat c) (first ∷ []) ps))
-    (none : (ms : List Float) (first q : ℕ) → Q ms first (refused q))
+    (none : (ms : List Float) (first q : ℕ) → Stops q → Q ms first (refused q))
     (both : (ms : List Float) (first k : ℕ) (R R′ : Run) → 0 < k → k + 1 < count ms → Q (leftOf k ms) first R → Q (rightOf k ms) (first + k) R′ → Q ms first (join k R R′)) where
   ind : (d : ℕ) (ms : List Float) (first : ℕ) (s e : Point) → 2 ≤ count ms → count ms ≤ d → Q ms first (run d (partOf ms s e tol) ms first s e tol)
-  unfolding run
+  unfolding run outcome
   ind zero ms first s e h l = absurd (omega arith)
   ind (suc d) ms first s e h l =
       go (partOf ms s e tol) (part-sound ms s e tol h) (part-law ms s e h)
       (λ k t i j. let n = left-count k ms j in ind d (leftOf k ms) first s (t .end) (omega arith) (omega arith))
       (λ k t i j. let n = right-count k ms j in ind d (rightOf k ms) (first + k) (t .start) e (omega arith) (omega arith))
     where
-      turn : (w : Answer Ways) (f : Ways → Run) → ((t : Ways) → Q ms first (f t)) → Q ms first (turned w f)
-      turn (ok t) f h = h t
-      turn (no q) f h = none ms first q
+      turn : (b : Bool) (t : Ways) (f : Ways → Run) → Q ms first (f t) → Q ms first (turned (unless 6 b (ok t)) f)
+      turn true t f h = h
+      turn false t f h = none ms first 6 (omega arith, omega arith)
 
       go : (X : Part) → Sound ms X → P ms X
           → ((k : ℕ) (t : Ways) → 0 < k → k + 1 < count ms → Q (leftOf k ms) first (run d (partOf (leftOf k ms) s (t .end) tol) (leftOf k ms) first s (t .end) tol))
           → ((k : ℕ) (t : Ways) → 0 < k → k + 1 < count ms → Q (rightOf k ms) (first + k) (run d (partOf (rightOf k ms) (t .start) e tol) (rightOf k ms) (first + k) (t .start) e tol))
           → Q ms first (run (suc d) X ms first s e tol)
       go (fits c ps) sd p L R = one ms first c ps h sd p
-      go (fails q) sd p L R = none ms first q
-      go (cuts k) sd p L R = turn (outcome (waysAt ms k)) _ (λ t. both ms first k _ _ (sd .0) (sd .1) (L k t (sd .0) (sd .1)) (R k t (sd .0) (sd .1)))
+      go (fails q) sd p L R = none ms first q sd
+      go (cuts k) sd p L R = let t = waysAt ms k .val in turn (waysAt ms k .fine) t _ (both ms first k _ _ (sd .0) (sd .1) (L k t (sd .0) (sd .1)) (R k t (sd .0) (sd .1)))
 
   pub run-by : (ms : List Float) (first : ℕ) (s e : Point) → 2 ≤ count ms → Q ms first (runOf ms first s e tol)
   unfolding runOf
@@ -115,7 +116,7 @@ module _ (tol : Float) (P : List Float → Part → Type 0) (part-law : (ms : Li
 -- the same, where `Sound` is all that is needed of a part
 module _ (Q : List Float → ℕ → Run → Type 0)
     (one : (ms : List Float) (first : ℕ) (c : Curve) (ps : List Float) → 2 ≤ count ms → Sound ms (fits c ps) → Q ms first (done (flat c) (first ∷ []) ps))
-    (none : (ms : List Float) (first q : ℕ) → Q ms first (refused q))
+    (none : (ms : List Float) (first q : ℕ) → Stops q → Q ms first (refused q))
     (both : (ms : List Float) (first k : ℕ) (R R′ : Run) → 0 < k → k + 1 < count ms → Q (leftOf k ms) first R → Q (rightOf k ms) (first + k) R′ → Q ms first (join k R R′)) where
   pub run-ind : (ms : List Float) (first : ℕ) (s e : Point) (tol : Float) → 2 ≤ count ms → Q ms first (runOf ms first s e tol)
   run-ind ms first s e tol h = run-by tol (λ ms p. Unit {0}) (λ ms s e h. tt) Q (λ ms first c ps h sd u. one ms first c ps h sd) none both ms first s e h
@@ -143,5 +144,5 @@ pub run-sized : (ms : List Float) (first : ℕ) (s e : Point) (tol : Float) → 
 run-sized =
     run-ind Sized
     (λ ms first c ps h sd. (omega arith, omega arith, refl, sd .2))
-    (λ ms first q. tt)
+    (λ ms first q s. tt)
     sized-join

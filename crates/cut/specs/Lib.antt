@@ -1,3 +1,2 @@
 pub mod Run
 pub mod Lent
-pub mod Chain

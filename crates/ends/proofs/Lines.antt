@@ -16,7 +16,8 @@ use Rattle.float.proofs.Truth.{never}
 use Rattle.float.proofs.Ranks.{Le, says}
 use Rattle.root.specs.Root.{sqrt}
 use Rattle.plane.specs.Plane.{plus, minus, times, dotOf}
-use Rattle.plane.specs.Range.{coordinate}
+use Rattle.plane.specs.Range.{million, upTo, coordinate}
+use Rattle.plane.proofs.Ranges.{coordinate-size}
 use Rattle.plane.proofs.Fine.{Good}
 use Rattle.cubic.specs.Basis.{basis, pointAt}
 use Rattle.marks.specs.Marks.{markAt}
@@ -168,11 +169,14 @@ unfolding Unit₂
 line-params = record { some = omega arith; unit = below-more Unit₂ 1 (below-more Unit₂ 0 (below-none Unit₂) zero-in) one-in; first = (false, f0-is); last = f1-is }
 
 -- ---- a coordinate is at most 2 ^ 20 in size
-pub coordinate-w : (x : Float) → coordinate x ≡ true → W 20 x
-unfolding coordinate finite abs le ofBits W
-coordinate-w nan h = never h
-coordinate-w (inf s) h = never h
-coordinate-w (fin s m e) h = few (m * up e) (down e) (says false (m * up e * 1) false (15625 * 2 ^ 6 * down e) h)
+size-w : (x : Float) → upTo million x ≡ true → W 20 x
+unfolding finite abs le ofBits W
+size-w nan h = never h
+size-w (inf s) h = never h
+size-w (fin s m e) h = few (m * up e) (down e) (says false (m * up e * 1) false (15625 * 2 ^ 6 * down e) h)
   where
     few : (a d : ℕ) → a * 1 ≤ 1000000 * d → a ≤ 1048576 * d
     few a d h = omega arith
+
+pub coordinate-w : (x : Float) → coordinate x ≡ true → W 20 x
+coordinate-w x h = size-w x (coordinate-size x h)

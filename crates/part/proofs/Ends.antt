@@ -1,5 +1,5 @@
 -- What the cutting wants of a part, on every input: its curve runs from the first mark to the last, with a parameter for each mark, and a cut
--- falls between them. Assumes nothing.
+-- falls between them; where it refuses, it is by 6 or 7. Assumes nothing.
 use mathlib.Core.Path.{_≡_, refl, sym, ap, _∙_, subst}
 use mathlib.Core.Bool.{Bool, true, false, _||_, cond}
 use mathlib.Core.List.{List}
@@ -93,10 +93,15 @@ tried-ready n ms st et tol =
     go false a r = r
 
 -- ---- the law
+
+-- the refusals of a run: an operation that was not finite, or a worst mark at an end
+abbrev pub Stops : ℕ → Type 0
+Stops q = (6 ≤ q) × (q ≤ 7)
+
 abbrev pub Sound : List Float → Part → Type 0
 Sound ms (fits c ps) = (c .start ≡ markAt ms 0) × (c .end ≡ markAt ms (count ms - 1)) × (length ps ≡ count ms)
 Sound ms (cuts k) = (0 < k) × (k + 1 < count ms)
-Sound ms (fails q) = Unit {0}
+Sound ms (fails q) = Stops q
 
 sound-line : (ms : List Float) (b : Bool) → count ms ≡ 2 → Sound ms (lined (unless 6 b (ok (lineOf (markAt ms 0) (markAt ms 1) .val))))
 unfolding lineOf
@@ -104,7 +109,7 @@ sound-line ms true h = (refl, ap (markAt ms) (one (count ms) h), sym h)
   where
     one : (n : ℕ) → n ≡ 2 → 1 ≡ n - 1
     one n h = omega arith
-sound-line ms false h = tt
+sound-line ms false h = (omega arith, omega arith)
 
 sound-cut : (ms : List Float) (n k : ℕ) → n ≡ count ms → k ≤ n - 1 → eqb k 0 || eqb k (n - 1) ≡ false → (0 < k) × (k + 1 < count ms)
 sound-cut ms n k e l h = go (eqb k 0) (eqb k (n - 1)) refl refl h
@@ -115,12 +120,12 @@ sound-cut ms n k e l h = go (eqb k 0) (eqb k (n - 1)) refl refl h
     go false false p q r = let a = eqb-false k 0 p in let b = eqb-false k (n - 1) q in (omega arith, omega arith)
 
 sound-judged : (ms : List Float) (tol : Float) (a : Trial) → Ready ms (count ms) a → (b : Bool) → Sound ms (judged (count ms) tol (unless 6 b (ok a)))
-sound-judged ms tol a r false = tt
+sound-judged ms tol a r false = (omega arith, omega arith)
 sound-judged ms tol a r true = go (le (a .far .err) tol) (eqb (a .far .at) 0 || eqb (a .far .at) (count ms - 1)) refl
   where
     go : (b c : Bool) → eqb (a .far .at) 0 || eqb (a .far .at) (count ms - 1) ≡ c → Sound ms (pick b (fits (a .curve) (a .params)) (pick c (fails 7) (cuts (a .far .at))))
     go true c e = (r .start, r .end, r .many)
-    go false true e = tt
+    go false true e = (omega arith, omega arith)
     go false false e = sound-cut ms (count ms) (a .far .at) refl (r .within) e
 
 pub part-sound : (ms : List Float) (st et : Point) (tol : Float) → 2 ≤ count ms → Sound ms (partOf ms st et tol)

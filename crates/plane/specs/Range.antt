@@ -1,6 +1,6 @@
 -- Finite points, and the range of coordinates for refusal 5. Definitions only.
 use mathlib.Core.Bool.{Bool, _&&_}
-use lib.Ieee.{Float, binary64, ofBits, le}
+use lib.Ieee.{Float, binary64, ofBits, fits, le}
 use Rattle.float.specs.Number.{finite, abs}
 use Rattle.plane.specs.declared.Point.{Point}
 use Rattle.plane.specs.declared.Curve.{Curve}
@@ -13,9 +13,9 @@ million = ofBits binary64 0x412e_8480_0000_0000
 abbrev pub upTo : Float → Float → Bool
 upTo m x = finite x && le (abs x) m
 
--- finite and of magnitude at most 1,000,000
+-- a value that an `f64` holds, as every number of a caller's is; finite, and of magnitude at most 1,000,000
 unfoldable pub coordinate : Float → Bool
-coordinate x = upTo million x
+coordinate x = fits binary64 x && upTo million x
 
 unfoldable pub pointInRange : Point → Bool
 pointInRange p = coordinate (p .x) && coordinate (p .y)

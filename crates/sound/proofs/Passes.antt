@@ -15,7 +15,7 @@ use Rattle.marks.specs.Marks.{count, markAt}
 use Rattle.faults.specs.Tests.{firstAt, curveAt, lastAt, stopAt, same, curveFinite, runs, timed, near, distanceAt}
 use Rattle.checker.specs.declared.Fault.the-variants.{B, C, D}
 use Rattle.checker.specs.Check.{Verdict, passed, place, must, inTurn, markChecked, curveChecked}
-use Rattle.checker.specs.Sound.{SamePoint}
+use Rattle.sound.specs.Sound.{SamePoint}
 use Rattle.checker.proofs.Turns.{must-true, both-pass, turn-each, turn-all}
 
 same-is : (p q : Point) → same p q ≡ true → SamePoint p q

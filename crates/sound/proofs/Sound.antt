@@ -14,7 +14,7 @@ use Rattle.gate.specs.Gate.{gateFor}
 use Rattle.faults.specs.Tests.{firstAt}
 use Rattle.faults.proofs.Firsts.{Risen, ending, span}
 use Rattle.checker.specs.Check.{Verdict, passed, inTurn, listed, curveChecked, listChecked, checkOf}
-use Rattle.checker.specs.Sound.{Sound}
+use Rattle.sound.specs.Sound.{Sound}
 use Rattle.checker.proofs.Turns.{both-pass, turn-each, turn-all}
 use Rattle.checker.proofs.Firsts.{risen, listed-of}
 use Rattle.sound.proofs.Unit.{timed-unit, timed-first, timed-last, timed-of}

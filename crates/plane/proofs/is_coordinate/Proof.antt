@@ -13,7 +13,7 @@ abs-requires c κs = search needs
 
 returns : tie.Need-returns
 unfolding coordinate finite ofBits
-returns c = simp (c .abs .ensures) (by-size million _ refl)
+returns c = simp (c .abs .ensures, c .before .good .0 .1) (by-size million _ refl)
 
 pub is-coordinate-spec : {M : Type 1} → statement M
 is-coordinate-spec = tie.close (tie.spec abs-requires returns)

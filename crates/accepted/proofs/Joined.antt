@@ -1,23 +1,20 @@
--- The joined fit's curves join, from mark 0 to the last, over the ends of the blocks too. Proved of the definition. Assumes nothing.
+-- What holds of every block's run, and is kept where two lists join, holds of the joined fit. Proved of the definition. Assumes nothing.
 use Prim.Native.Nat.{ℕ, zero, suc, _+_, _-_, _*_, _≤_, _<_}
 use native.Mathlib.Omega.{arith}
 use mathlib.Core.Path.{_≡_, refl, sym, ap, subst, _∙_}
 use mathlib.Core.Bool.{Bool, true, false}
 use mathlib.Core.List.{List, _++_}
-use lib.ListN.{length, take, drop, length-take, length-drop}
-use lib.Seq.{getD-take, getD-drop}
+use lib.ListN.{take}
 use lib.Dec.{leb}
-use lib.Ieee.{Float, nan}
+use lib.Ieee.{Float}
 use borrow.Author.Tests.{le-ltb, leb-false}
 use Rattle.float.specs.Answer.{Answer, ok, outcome}
 use Rattle.float.specs.Answer.{refused as no}
-use Rattle.marks.specs.Marks.{count, markAt}
 use Rattle.cut.specs.Run.{Run, refused, done, join, turned, runOf}
-use Rattle.cut.specs.Chain.{Chain}
 use Rattle.cut.specs.declared.Ways.{Ways}
-use Rattle.cut.proofs.Chain.{Within, Joined as JoinedRun, run-joined, chain-append}
 use Rattle.blocks.specs.declared.Cutting.the-variants.{Joined}
 use Rattle.blocks.specs.Blocks.{over, waysOf, blockOf, blocks, blocksFrom}
+use Rattle.accepted.proofs.Within.{blockAt}
 
 -- two runs that are both done
 record Both (k : ℕ) (R R′ : Run) (cs : List Float) (fs : List ℕ) (ps : List Float) : Type 0 where
@@ -38,30 +35,15 @@ join-done k (refused q) R′ cs fs ps e = let z : _≡_ {A = ℕ} 0 1 = cc in ab
 join-done k (done c f p) (refused q) cs fs ps e = let z : _≡_ {A = ℕ} 0 1 = cc in absurd (omega arith)
 join-done k (done c f p) (done c′ f′ p′) cs fs ps e = record { c = c; f = f; p = p; c′ = c′; f′ = f′; p′ = p′; is = refl; is′ = refl; curves = cc; firsts = cc; params = cc }
 
-module _ (ms : List Float) (n size : ℕ) (tol : Float) (even : length ms ≡ 2 * n) where
-  -- the marks of a block
-  abbrev pub part : ℕ → ℕ → List Float
-  part from to = take (2 * to - 2 * from) (drop (2 * from) ms)
-
-  pub part-count : (from to : ℕ) → from + 2 ≤ to → to ≤ n → count (part from to) ≡ to - from
-  part-count from to h l = simp (length-take, length-drop) (omega arith)
-
-  pub part-within : (from to : ℕ) → from + 2 ≤ to → to ≤ n → Within ms (part from to) from
-  unfolding markAt
-  part-within from to h l i less =
-      let many = part-count from to h l in
-      let x : 2 * from + 2 * i ≡ 2 * (from + i) = omega arith in
-      let y : 2 * from + (2 * i + 1) ≡ 2 * (from + i) + 1 = omega arith in
-      sym (rw (getD-take (2 * to - 2 * from) (drop (2 * from) ms) (2 * i) nan (omega (arith, many)), getD-take (2 * to - 2 * from) (drop (2 * from) ms) (2 * i + 1) nan (omega (arith, many)), getD-drop (2 * from) ms (2 * i) nan, getD-drop (2 * from) ms (2 * i + 1) nan, x, y))
-
+module _ (ms : List Float) (n size : ℕ) (tol : Float) where
   -- what holds of every block's run, from its first mark to its last, and of two that join, holds of the joined fit
   module _ (Q : ℕ → ℕ → List Float → List ℕ → List Float → Type 0)
-      (one : (from to : ℕ) (w : Ways) (cs : List Float) (fs : List ℕ) (ps : List Float) → from + 2 ≤ to → to ≤ n → runOf (part from to) from (w .start) (w .end) tol ≡ done cs fs ps → Q from (to - 1) cs fs ps)
+      (one : (from to : ℕ) (w : Ways) (cs : List Float) (fs : List ℕ) (ps : List Float) → from + 2 ≤ to → to ≤ n → runOf (blockAt ms from to) from (w .start) (w .end) tol ≡ done cs fs ps → Q from (to - 1) cs fs ps)
       (both : (f g e : ℕ) (cs cs′ : List Float) (fs fs′ : List ℕ) (ps ps′ : List Float) → f < g → Q f g cs fs ps → Q g e cs′ fs′ ps′ → Q f e (cs ++ cs′) (fs ++ fs′) (take (g - f) ps ++ ps′)) where
     of-block : (from to : ℕ) (cs : List Float) (fs : List ℕ) (ps : List Float) → from + 2 ≤ to → to ≤ n → blockOf Joined ms n tol from to ≡ done cs fs ps → Q from (to - 1) cs fs ps
     of-block from to cs fs ps h l q = go (outcome (waysOf Joined ms n from to)) q
       where
-        go : (w : Answer Ways) → turned w (λ w. runOf (part from to) from (w .start) (w .end) tol) ≡ done cs fs ps → Q from (to - 1) cs fs ps
+        go : (w : Answer Ways) → turned w (λ w. runOf (blockAt ms from to) from (w .start) (w .end) tol) ≡ done cs fs ps → Q from (to - 1) cs fs ps
         go (ok w) q = one from to w cs fs ps h l q
         go (no i) q = let z : _≡_ {A = ℕ} 0 1 = cc in absurd (omega arith)
 
@@ -92,13 +74,3 @@ module _ (ms : List Float) (n size : ℕ) (tol : Float) (even : length ms ≡ 2 
     pub blocks-by : (cs : List Float) (fs : List ℕ) (ps : List Float) → 0 < size → 2 ≤ n → blocksFrom Joined ms n size tol 0 ≡ done cs fs ps → Q 0 (n - 1) cs fs ps
     unfolding blocksFrom
     blocks-by cs fs ps z h q = ind n 0 cs fs ps z (omega arith) (omega arith) q
-
-  block-chain : (from to : ℕ) (w : Ways) (cs : List Float) (fs : List ℕ) (ps : List Float) → from + 2 ≤ to → to ≤ n → runOf (part from to) from (w .start) (w .end) tol ≡ done cs fs ps → Chain ms from (to - 1) cs fs
-  block-chain from to w cs fs ps h l q =
-      let many = part-count from to h l in
-      let j : JoinedRun (part from to) from (done cs fs ps) = rw q at (run-joined (part from to) from (w .start) (w .end) tol (omega (arith, many))) in
-      let z : from + (count (part from to) - 1) ≡ to - 1 = omega (arith, many) in
-      subst (λ (e : ℕ). Chain ms from e cs fs) z (j ms (part-within from to h l))
-
-  pub blocks-joined : (cs : List Float) (fs : List ℕ) (ps : List Float) → 0 < size → 2 ≤ n → blocksFrom Joined ms n size tol 0 ≡ done cs fs ps → Chain ms 0 (n - 1) cs fs
-  blocks-joined = blocks-by (λ f e cs fs ps. Chain ms f e cs fs) block-chain (λ f g e cs cs′ fs fs′ ps ps′ l x y. chain-append x y)

@@ -1,0 +1,147 @@
+-- A fit refuses by 1 to 7 and by no other number: the bounds that end the recursions of the definitions are out of reach. Assumes nothing.
+use Prim.Native.Nat.{ℕ, zero, suc, _+_, _-_, _*_, _%_, _≤_, _<_}
+use native.Mathlib.Omega.{arith}
+use mathlib.Core.Path.{_≡_, refl, ap}
+use mathlib.Core.Logic.{_⊎_, inl, inr}
+use mathlib.Core.Bool.{Bool, true, false, not, cond}
+use mathlib.Core.List.{List}
+use lib.ListN.{length}
+use lib.Dec.{leb, ltb, eqb}
+use lib.Ieee.{Float}
+use borrow.Author.Tests.{leb-false, ltb-false, eqb-true, eqb-false}
+use Rattle.float.specs.Answer.{Answer, ok, unless, outcome}
+use Rattle.float.specs.Answer.{refused as no}
+use Rattle.plane.specs.declared.Point.{Point}
+use Rattle.marks.specs.Marks.{count}
+use Rattle.marks.specs.Block.{blockSize}
+use Rattle.part.proofs.Ends.{Stops}
+use Rattle.cut.specs.Run.{Run, refused, done, join, turned, runOf}
+use Rattle.cut.specs.declared.Ways.{Ways}
+use Rattle.cut.proofs.Run.{run-ind}
+use Rattle.gate.specs.Gate.{inRange, tolerable, refuse, gateFor, gateOf}
+use Rattle.gate.proofs.Tests.{passed-for}
+use Rattle.blocks.specs.declared.Cutting.{Cutting}
+use Rattle.blocks.specs.Blocks.{over, waysOf, blockOf, lastOf, blocks, blocksFrom, blocksOf}
+use Rattle.fit.specs.Fit.{Ending, fittedAnswer, ending, ended, entered, fitOf, areTangents, cubicGate, cubicOf}
+use Rattle.fit.proofs.Entries.{size-within, cubic-passed}
+use Rattle.accepted.specs.Refusals.{Before, Inside, FitRefuses, DirectRefuses}
+use Rattle.accepted.proofs.Within.{blockAt, block-count}
+
+-- ---- a run refuses by 6 or 7
+
+abbrev Stopped : Run → Type 0
+Stopped (refused q) = Stops q
+Stopped (done cs fs ps) = Unit {0}
+
+join-stops : (k : ℕ) (R R′ : Run) → Stopped R → Stopped R′ → Stopped (join k R R′)
+join-stops k (refused q) R′ a b = a
+join-stops k (done c f p) (refused q) a b = b
+join-stops k (done c f p) (done c′ f′ p′) a b = tt
+
+run-stops : (ms : List Float) (first : ℕ) (s e : Point) (tol : Float) → 2 ≤ count ms → Stopped (runOf ms first s e tol)
+run-stops = run-ind (λ ms first R. Stopped R) (λ ms first c ps h sd. tt) (λ ms first q s. s) (λ ms first k R R′ i j a b. join-stops k R R′ a b)
+
+module _ (k : Cutting) (ms : List Float) (n size : ℕ) (tol : Float) (even : length ms ≡ 2 * n) (two : 2 ≤ size) where
+  block-stops : (from to : ℕ) → from + 2 ≤ to → to ≤ n → Stopped (blockOf k ms n tol from to)
+  unfolding outcome
+  block-stops from to h l = go (waysOf k ms n from to .fine) (waysOf k ms n from to .val)
+    where
+      go : (b : Bool) (w : Ways) → Stopped (turned (unless 6 b (ok w)) (λ w. runOf (blockAt ms from to) from (w .start) (w .end) tol))
+      go true w = let many = block-count ms n even from to h l in run-stops (blockAt ms from to) from (w .start) (w .end) tol (omega arith)
+      go false w = (omega arith, omega arith)
+
+  last-stops : (b : Bool) (from : ℕ) → ltb (n - from) 2 ≡ b → Stopped (lastOf b k ms n tol from)
+  last-stops true from e = tt
+  last-stops false from e = let l = ltb-false (n - from) 2 e in block-stops from n (omega arith) (omega arith)
+
+  from-stops : (d from : ℕ) → from < n → n - from ≤ d → Stopped (blocks d (leb (n - from) (size + over k)) k ms n size tol from)
+  unfolding blocks
+  from-stops zero from h l = absurd (omega arith)
+  from-stops (suc d) from h l = go (leb (n - from) (size + over k)) refl (λ j. from-stops d (from + size) (omega arith) (omega arith))
+    where
+      go : (b : Bool) → leb (n - from) (size + over k) ≡ b → (size + over k < n - from → Stopped (blocks d (leb (n - (from + size)) (size + over k)) k ms n size tol (from + size))) → Stopped (blocks (suc d) b k ms n size tol from)
+      go true e R = last-stops (ltb (n - from) 2) from refl
+      go false e R =
+          let j : size + over k < n - from = leb-false _ _ e in
+          join-stops size (blockOf k ms n tol from (from + (size + over k))) _ (block-stops from (from + (size + over k)) (omega arith) (omega arith)) (R j)
+
+  pub blocks-stop : 0 < n → Stopped (blocksFrom k ms n size tol 0)
+  unfolding blocksFrom
+  blocks-stop h = from-stops n 0 h (omega arith)
+
+-- ---- a gate refuses by 1 to 5
+
+one-of : (b : Bool) (q n : ℕ) → q ≤ 5 → n ≤ 5 → refuse b q n ≤ 5
+one-of true q n h l = h
+one-of false q n h l = l
+
+gate-most : (top k : ℕ) (ms : List Float) (tol : Float) (c f p : ℕ) → gateFor top k ms tol c f p ≤ 5
+unfolding gateFor
+gate-most top k ms tol c f p =
+    one-of (not (eqb (length ms % 2) 0)) 3 _ (omega arith)
+    (one-of (ltb (count ms) 2) 1 _ (omega arith)
+    (one-of (ltb top (count ms)) 2 _ (omega arith)
+    (one-of (ltb c (8 * k)) 4 _ (omega arith)
+    (one-of (ltb f k) 4 _ (omega arith)
+    (one-of (ltb p (count ms)) 4 _ (omega arith)
+    (one-of (not (inRange ms)) 5 _ (omega arith)
+    (one-of (not (tolerable tol)) 5 0 (omega arith) (omega arith))))))))
+
+cubic-most : (ms : List Float) (s e : Point) (tol : Float) (c f p : ℕ) → cubicGate ms s e tol c f p ≤ 5
+unfolding cubicGate
+cubic-most ms s e tol c f p = go (eqb (gateOf 512 ms tol c f p) 0)
+  where
+    go : (b : Bool) → cond b (refuse (not (areTangents s e)) 5 0) (gateOf 512 ms tol c f p) ≤ 5
+    go true = one-of (not (areTangents s e)) 5 0 (omega arith) (omega arith)
+    go false = gate-most 512 (count ms - 1) ms tol c f p
+
+-- ---- a call that is refused
+
+module _ (q g : ℕ) (R : Run) (C C′ : List Float) (F F′ : List ℕ) (P P′ : List Float) where
+  before : g ≤ 5 → (g ≡ 0 → ⊥) → ending (no q) C′ F′ P′ ≡ ending (no g) C F P → Before q C C′ F F′ P P′
+  before l z h =
+      let a : _≡_ {A = Answer ℕ} (no q) (no g) = ap (λ (x : Ending). x .answer) h in
+      let e : q ≡ g = cc in
+      let n : (q ≡ 0 → ⊥) = λ y. z (let w : g ≡ 0 = omega arith in w) in
+      record { least = above q n; most = omega arith; curves = ap (λ (x : Ending). x .curves) h; firsts = ap (λ (x : Ending). x .firsts) h; params = ap (λ (x : Ending). x .params) h }
+    where
+      above : (q : ℕ) → (q ≡ 0 → ⊥) → 1 ≤ q
+      above zero n = absurd (n refl)
+      above (suc q) n = omega arith
+
+  inside : (R : Run) → Stopped R → ending (no q) C′ F′ P′ ≡ ended R C F P → Inside q C C′ F F′ P P′
+  inside (done cs fs ps) s h = let a : _≡_ {A = Answer ℕ} (no q) (ok (length fs)) = ap (λ (x : Ending). x .answer) h in let y : _≡_ {A = ℕ} 0 1 = cc in absurd (omega arith)
+  inside (refused r) s h =
+      let a : _≡_ {A = Answer ℕ} (no q) (no r) = ap (λ (x : Ending). x .answer) h in
+      let e : q ≡ r = cc in
+      record { least = omega arith; most = omega arith; curves = ap (λ (x : Ending). x .curves) h; firsts = ap (λ (x : Ending). x .firsts) h; params = ap (λ (x : Ending). x .params) h }
+
+  refuses : g ≤ 5 → (g ≡ 0 → Stopped R) → ending (no q) C′ F′ P′ ≡ entered g R C F P → Before q C C′ F F′ P P′ ⊎ Inside q C C′ F F′ P P′
+  refuses l s h = go (eqb g 0) refl h
+    where
+      go : (b : Bool) → eqb g 0 ≡ b → ending (no q) C′ F′ P′ ≡ cond b (ended R C F P) (ending (no g) C F P) → Before q C C′ F F′ P P′ ⊎ Inside q C C′ F F′ P P′
+      go true e h = inr (inside R (s (eqb-true g 0 e)) h)
+      go false e h = inl (before l (eqb-false g 0 e) h)
+
+pub fit-refuses : FitRefuses
+unfolding fittedAnswer fitOf blocksOf
+fit-refuses k ms tol q C C′ F F′ P P′ h =
+    refuses q g (blocksOf k ms (blockSize (count ms)) tol) C C′ F F′ P P′ (gate-most 4096 (count ms - 1) ms tol (length C) (length F) (length P)) stops h
+  where
+    g : ℕ
+    g = gateOf 4096 ms tol (length C) (length F) (length P)
+
+    stops : g ≡ 0 → Stopped (blocksOf k ms (blockSize (count ms)) tol)
+    stops z =
+        let p = passed-for 4096 (count ms - 1) ms tol (length C) (length F) (length P) z in
+        let t = p .two in
+        let even : length ms ≡ 2 * count ms = let e = p .even in omega arith in
+        blocks-stop k ms (count ms) (blockSize (count ms)) tol even (size-within (count ms) (blockSize (count ms)) refl .0) (omega arith)
+
+pub direct-refuses : DirectRefuses
+unfolding fittedAnswer cubicOf
+direct-refuses ms s e tol q C C′ F F′ P P′ h =
+    refuses q g (runOf ms 0 s e tol) C C′ F F′ P P′ (cubic-most ms s e tol (length C) (length F) (length P)) (λ z. run-stops ms 0 s e tol (cubic-passed ms s e tol (length C) (length F) (length P) g refl z .two)) h
+  where
+    g : ℕ
+    g = cubicGate ms s e tol (length C) (length F) (length P)

@@ -1,0 +1,29 @@
+-- Every list that a fit accepts passes the checker: whatever answer and slices meet the fit's promise with k curves, the checker's promise on the same
+-- marks, tolerance and slices allows `Passed` alone. Definitions only.
+use Prim.Native.Nat.{ℕ}
+use mathlib.Core.Path.{_≡_}
+use mathlib.Core.List.{List}
+use lib.Ieee.{Float}
+use Rattle.plane.specs.declared.Point.{Point}
+use Rattle.cut.specs.declared.Fitted.the-variants.{Curves}
+use Rattle.blocks.specs.declared.Cutting.the-variants.{Joined}
+use Rattle.fit.specs.Fit.{fittedAnswer, ending, fitOf, cubicOf}
+use Rattle.checker.specs.Check.{checkOf, checkedAnswer}
+use Rattle.checker.specs.declared.Checked.{Checked}
+use Rattle.checker.specs.declared.Checked.the-variants.{Passed}
+
+-- the joined fit; a slice is C before the call and C′ after it
+abbrev pub JoinedPasses : Type 0
+JoinedPasses =
+    (ms : List Float) (tol : Float) (k : ℕ) (C C′ : List Float) (F F′ : List ℕ) (P P′ : List Float) (answer : Checked)
+    → ending (fittedAnswer (Curves k)) C′ F′ P′ ≡ fitOf Joined ms tol C F P
+    → checkedAnswer answer ≡ checkOf ms tol k C′ F′ P′
+    → answer ≡ Passed
+
+-- the direct fit, with the tangents s and e
+abbrev pub DirectPasses : Type 0
+DirectPasses =
+    (ms : List Float) (s e : Point) (tol : Float) (k : ℕ) (C C′ : List Float) (F F′ : List ℕ) (P P′ : List Float) (answer : Checked)
+    → ending (fittedAnswer (Curves k)) C′ F′ P′ ≡ cubicOf ms s e tol C F P
+    → checkedAnswer answer ≡ checkOf ms tol k C′ F′ P′
+    → answer ≡ Passed
