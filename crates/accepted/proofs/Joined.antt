@@ -11,9 +11,10 @@ use borrow.Author.Tests.{le-ltb, leb-false}
 use Rattle.float.specs.Answer.{Answer, ok, outcome}
 use Rattle.float.specs.Answer.{refused as no}
 use Rattle.cut.specs.Run.{Run, refused, done, join, turned, runOf}
-use Rattle.cut.specs.declared.Ways.{Ways}
-use Rattle.blocks.specs.declared.Cutting.the-variants.{Joined}
-use Rattle.blocks.specs.Blocks.{over, waysOf, blockOf, blocks, blocksFrom}
+use Rattle.tangents.specs.declared.Ways.{Ways}
+use Rattle.tangents.specs.declared.Cutting.the-variants.{Joined}
+use Rattle.blocks.specs.Blocks.{blockOf, blocks, blocksFrom}
+use Rattle.tangents.specs.Ways.{over, waysOf}
 use Rattle.accepted.proofs.Within.{blockAt}
 
 -- two runs that are both done

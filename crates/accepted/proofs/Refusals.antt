@@ -16,12 +16,13 @@ use Rattle.marks.specs.Marks.{count}
 use Rattle.marks.specs.Block.{blockSize}
 use Rattle.part.proofs.Ends.{Stops}
 use Rattle.cut.specs.Run.{Run, refused, done, join, turned, runOf}
-use Rattle.cut.specs.declared.Ways.{Ways}
+use Rattle.tangents.specs.declared.Ways.{Ways}
 use Rattle.cut.proofs.Run.{run-ind}
 use Rattle.gate.specs.Gate.{inRange, tolerable, refuse, gateFor, gateOf}
 use Rattle.gate.proofs.Tests.{passed-for}
-use Rattle.blocks.specs.declared.Cutting.{Cutting}
-use Rattle.blocks.specs.Blocks.{over, waysOf, blockOf, lastOf, blocks, blocksFrom, blocksOf}
+use Rattle.tangents.specs.declared.Cutting.{Cutting}
+use Rattle.blocks.specs.Blocks.{blockOf, lastOf, blocks, blocksFrom, blocksOf}
+use Rattle.tangents.specs.Ways.{over, waysOf}
 use Rattle.fit.specs.Fit.{Ending, fittedAnswer, ending, ended, entered, fitOf, areTangents, cubicGate, cubicOf}
 use Rattle.fit.proofs.Entries.{size-within, cubic-passed}
 use Rattle.accepted.specs.Refusals.{Before, Inside, FitRefuses, DirectRefuses}

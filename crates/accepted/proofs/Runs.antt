@@ -13,9 +13,9 @@ use Rattle.marks.specs.Marks.{count, markAt}
 use Rattle.part.specs.Part.{fits}
 use Rattle.part.proofs.Ends.{Sound}
 use Rattle.cut.specs.Run.{Run, refused, done, flat, leftOf, rightOf, join, runOf}
-use Rattle.cut.specs.declared.Ways.{Ways}
+use Rattle.tangents.specs.declared.Ways.{Ways}
 use Rattle.cut.proofs.Run.{run-by, left-count, right-count}
-use Rattle.blocks.specs.declared.Cutting.the-variants.{Joined}
+use Rattle.tangents.specs.declared.Cutting.the-variants.{Joined}
 use Rattle.blocks.specs.Blocks.{blocksFrom}
 use Rattle.ends.specs.Ends.{FitsP, Near}
 use Rattle.ends.proofs.Lines.{WP}

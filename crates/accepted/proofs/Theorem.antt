@@ -25,7 +25,7 @@ use Rattle.ends.proofs.Lines.{coordinate-w}
 use Rattle.gate.specs.Gate.{inRange, tolerable, gateFor, gateOf}
 use Rattle.gate.proofs.Tests.{PassedFor, passed-for, passes}
 use Rattle.cut.specs.Run.{Run, refused, done, runOf}
-use Rattle.blocks.specs.declared.Cutting.the-variants.{Joined}
+use Rattle.tangents.specs.declared.Cutting.the-variants.{Joined}
 use Rattle.blocks.specs.Blocks.{blocksOf}
 use Rattle.marks.specs.Block.{blockSize}
 use Rattle.fit.specs.Fit.{Ending, fittedAnswer, ending, ended, entered, fitOf, cubicGate, cubicOf}

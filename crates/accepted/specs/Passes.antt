@@ -6,7 +6,7 @@ use mathlib.Core.List.{List}
 use lib.Ieee.{Float}
 use Rattle.plane.specs.declared.Point.{Point}
 use Rattle.cut.specs.declared.Fitted.the-variants.{Curves}
-use Rattle.blocks.specs.declared.Cutting.the-variants.{Joined}
+use Rattle.tangents.specs.declared.Cutting.the-variants.{Joined}
 use Rattle.fit.specs.Fit.{fittedAnswer, ending, fitOf, cubicOf}
 use Rattle.checker.specs.Check.{checkOf, checkedAnswer}
 use Rattle.checker.specs.declared.Checked.{Checked}

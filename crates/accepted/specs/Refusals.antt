@@ -8,7 +8,7 @@ use lib.Ieee.{Float}
 use Rattle.float.specs.Number.{f0}
 use Rattle.plane.specs.declared.Point.{Point}
 use Rattle.cut.specs.declared.Fitted.the-variants.{Refused}
-use Rattle.blocks.specs.declared.Cutting.{Cutting}
+use Rattle.tangents.specs.declared.Cutting.{Cutting}
 use Rattle.fit.specs.Fit.{fittedAnswer, ending, fitOf, cubicOf}
 
 -- 1 to 5, before the run: the slices are as they were. A slice is C before the call and C′ after it

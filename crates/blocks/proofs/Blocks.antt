@@ -12,16 +12,18 @@ use Rattle.float.specs.Answer.{Answer, ok, outcome}
 use Rattle.float.specs.Answer.{refused as no}
 use Rattle.marks.specs.Marks.{count}
 use Rattle.cut.specs.Run.{Run, refused, done, join, turned, runOf}
-use Rattle.cut.specs.declared.Ways.{Ways}
-use Rattle.cut.specs.declared.Turn.{Turn}
-use Rattle.cut.specs.declared.Turn.the-variants as turn
+use Rattle.tangents.specs.declared.Ways.{Ways}
+use Rattle.tangents.specs.declared.Turn.{Turn}
+use Rattle.tangents.specs.declared.Turn.the-variants as turn
 use Rattle.cut.specs.declared.Fitted.{Fitted}
 use Rattle.cut.specs.declared.Fitted.the-variants.{Refused}
-use Rattle.cut.specs.Lent.{turnAnswer, Left, Room}
+use Rattle.cut.specs.Lent.{Left, Room}
+use Rattle.tangents.specs.Ways.{turnAnswer}
 use Rattle.cut.proofs.Run.{Sizes}
 use Rattle.cut.proofs.Cut.{sizes, ways-are, ways-lost}
-use Rattle.blocks.specs.declared.Cutting.{Cutting}
-use Rattle.blocks.specs.Blocks.{over, waysOf, blockOf, lastOf, blocks, blocksFrom}
+use Rattle.tangents.specs.declared.Cutting.{Cutting}
+use Rattle.blocks.specs.Blocks.{blockOf, lastOf, blocks, blocksFrom}
+use Rattle.tangents.specs.Ways.{over, waysOf}
 
 module _ (k : Cutting) (ms : List Float) (n size : ℕ) (tol : Float) where
   -- ---- the blocks by cases: proofs unfold them by `blocks-last` and `blocks-more`, and never see the bound

@@ -1,3 +1,2 @@
-pub mod Tangents
 pub mod Blocks
 pub mod Sofar

@@ -17,9 +17,10 @@ use Rattle.cut.specs.declared.Fitted.{Fitted}
 use Rattle.cut.specs.declared.Fitted.the-variants.{Curves, Refused}
 use Rattle.cut.proofs.Run.{Sizes}
 use Rattle.cut.proofs.Cut.{Done, is-done, is-refused, written-behind, part-length, inner-length}
-use Rattle.blocks.specs.declared.Cutting.{Cutting}
-use Rattle.blocks.specs.Blocks.{over, blockOf, lastOf, blocksFrom, blocksOf}
-use Rattle.blocks.proofs.Tangents.{over-small}
+use Rattle.tangents.specs.declared.Cutting.{Cutting}
+use Rattle.blocks.specs.Blocks.{blockOf, lastOf, blocksFrom, blocksOf}
+use Rattle.tangents.specs.Ways.{over}
+use Rattle.tangents.proofs.Blocks.{over-small}
 use Rattle.blocks.proofs.Blocks.{blocks-last, blocks-more, block-sized, prepend, join-prepend, prepend-twice, prepend-none}
 
 part-len : {A : Type 0} (a b : ℕ) (l : List A) → a + b ≤ length l → length (take b (drop a l)) ≡ b

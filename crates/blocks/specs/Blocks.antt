@@ -6,41 +6,11 @@ use lib.ListN.{take, drop}
 use lib.Dec.{leb, ltb}
 use lib.Ieee.{Float}
 use Rattle.float.specs.Number.{f0}
-use Rattle.float.specs.Calc.{Calc, give, _>>=_}
 use Rattle.float.specs.Answer.{outcome}
 use Rattle.marks.specs.Marks.{count}
-use Rattle.marks.specs.Tangent.{startTangent, endTangent}
 use Rattle.cut.specs.Run.{Run, refused, done, join, turned, runOf}
-use Rattle.cut.specs.declared.Ways.{Ways}
-use Rattle.blocks.specs.declared.Cutting.{Cutting}
-use Rattle.blocks.specs.declared.Cutting.the-variants.{Source, Loop, Joined}
-
--- how many marks of the next block a block takes in: joined blocks share the mark where they meet, the source's do not meet
-unfoldable pub over : Cutting → ℕ
-over Source = 0
-over Loop = 0
-over Joined = 1
-
--- The tangents at the ends of the block of marks `from` up to `to` (not in it) of n. At the start: its first two marks, and for a loop the
--- two before it, or the outline's last two.
-unfoldable pub startAt : Cutting → ℕ → ℕ → ℕ
-startAt Source n from = from
-startAt Loop n from = cond (leb from 1) (n - 2) (from - 2)
-startAt Joined n from = from
-
--- At the end: its last two marks; fit_curve looks one mark past it if there is one more after that, and for a loop it is the two
--- after it, or the outline's first two.
-unfoldable pub endAt : Cutting → ℕ → ℕ → ℕ
-endAt Source n to = cond (ltb (to + 1) n) (to + 1) to
-endAt Loop n to = cond (ltb (to + 1) n) (to + 2) 2
-endAt Joined n to = to
-
-unfoldable pub waysOf : Cutting → List Float → ℕ → ℕ → ℕ → Calc Ways
-unfolding startAt endAt
-waysOf k ms n from to = do
-  s ← startTangent (drop (2 * startAt k n from) ms)
-  e ← endTangent (take (2 * endAt k n to) ms)
-  give (record { end = e; start = s })
+use Rattle.tangents.specs.declared.Cutting.{Cutting}
+use Rattle.tangents.specs.Ways.{over, waysOf}
 
 -- one block
 abbrev pub blockOf : Cutting → List Float → ℕ → Float → ℕ → ℕ → Run

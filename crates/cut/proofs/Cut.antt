@@ -18,11 +18,13 @@ use Rattle.part.specs.declared.Tried.{Tried}
 use Rattle.part.specs.declared.Tried.the-variants.{Good, Cut}
 use Rattle.part.specs.declared.Tried.the-variants.{Refused as TRefused}
 use Rattle.part.proofs.Ends.{Sound, part-sound}
-use Rattle.cut.specs.Run.{Run, refused, done, flat, waysAt, leftOf, rightOf, join, runOf, cutOf}
-use Rattle.cut.specs.Lent.{turnAnswer, Left, Room}
-use Rattle.cut.specs.declared.Ways.{Ways}
-use Rattle.cut.specs.declared.Turn.{Turn}
-use Rattle.cut.specs.declared.Turn.the-variants as turn
+use Rattle.cut.specs.Run.{Run, refused, done, flat, leftOf, rightOf, join, runOf, cutOf}
+use Rattle.tangents.specs.Ways.{waysAt}
+use Rattle.cut.specs.Lent.{Left, Room}
+use Rattle.tangents.specs.Ways.{turnAnswer}
+use Rattle.tangents.specs.declared.Ways.{Ways}
+use Rattle.tangents.specs.declared.Turn.{Turn}
+use Rattle.tangents.specs.declared.Turn.the-variants as turn
 use Rattle.cut.specs.declared.Fitted.{Fitted}
 use Rattle.cut.specs.declared.Fitted.the-variants.{Curves, Refused}
 use Rattle.cut.proofs.Run.{run-sized, Sized, run-fits, run-fails, run-cuts, left-count, right-count}

@@ -1,3 +1,2 @@
-mod Turns
 pub mod Run
 pub mod Cut

@@ -13,8 +13,9 @@ use Rattle.plane.specs.declared.Curve.{Curve}
 use Rattle.marks.specs.Marks.{count}
 use Rattle.part.specs.Part.{Part, fits, cuts, fails, partOf}
 use Rattle.part.proofs.Ends.{Stops, Sound, part-sound}
-use Rattle.cut.specs.Run.{Run, refused, done, flat, waysAt, leftOf, rightOf, join, turned, run, runOf, cutOf}
-use Rattle.cut.specs.declared.Ways.{Ways}
+use Rattle.cut.specs.Run.{Run, refused, done, flat, leftOf, rightOf, join, turned, run, runOf, cutOf}
+use Rattle.tangents.specs.Ways.{waysAt}
+use Rattle.tangents.specs.declared.Ways.{Ways}
 
 pub left-count : (k : ℕ) (ms : List Float) → k + 1 < count ms → count (leftOf k ms) ≡ k + 1
 left-count k ms h = simp (length-take) (omega arith)

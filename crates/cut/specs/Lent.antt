@@ -4,19 +4,10 @@ use mathlib.Core.Path.{_≡_}
 use mathlib.Core.List.{List}
 use lib.ListN.{length}
 use lib.Ieee.{Float}
-use Rattle.float.specs.Answer.{Answer, ok}
-use Rattle.float.specs.Answer.{refused as no}
 use Rattle.float.specs.Slices.{written}
 use Rattle.cut.specs.Run.{Run, refused, done}
-use Rattle.cut.specs.declared.Ways.{Ways}
-use Rattle.cut.specs.declared.Turn.{Turn}
-use Rattle.cut.specs.declared.Turn.the-variants as turn
 use Rattle.cut.specs.declared.Fitted.{Fitted}
 use Rattle.cut.specs.declared.Fitted.the-variants.{Curves, Refused}
-
-unfoldable pub turnAnswer : Turn → Answer Ways
-turnAnswer (turn.At w) = ok w
-turnAnswer turn.Lost = no 6
 
 -- the answer r, and of each lent slice what it held and holds (of a refused run, the answer alone)
 abbrev pub Left : Run → Fitted → List Float → List Float → List ℕ → List ℕ → List Float → Type 0

@@ -1,19 +1,16 @@
 -- The run of a part: one curve, or the run of its left side and then of its right. Definitions only.
-use Prim.Native.Nat.{ℕ, zero, suc, _+_, _-_, _*_}
+use Prim.Native.Nat.{ℕ, zero, suc, _+_, _*_}
 use mathlib.Core.List.{List, [], _∷_, _++_}
 use lib.ListN.{take, drop}
-use lib.Ieee.{Float, neg}
-use Rattle.float.specs.Number.{f1}
-use Rattle.float.specs.Calc.{Calc, give, _>>=_}
+use lib.Ieee.{Float}
 use Rattle.float.specs.Answer.{Answer, ok, outcome}
 use Rattle.float.specs.Answer.{refused as no}
-use Rattle.plane.specs.Plane.{times}
 use Rattle.plane.specs.declared.Point.{Point}
 use Rattle.plane.specs.declared.Curve.{Curve}
-use Rattle.marks.specs.Marks.{count, markAt}
-use Rattle.marks.specs.Tangent.{tangentBetween}
+use Rattle.marks.specs.Marks.{count}
 use Rattle.part.specs.Part.{Part, fits, cuts, fails, partOf}
-use Rattle.cut.specs.declared.Ways.{Ways}
+use Rattle.tangents.specs.declared.Ways.{Ways}
+use Rattle.tangents.specs.Ways.{waysAt}
 
 -- refused with a number; or the curves' numbers, each curve's first mark, and each mark's parameter
 pub data Run : Type 0 where
@@ -23,13 +20,6 @@ pub data Run : Type 0 where
 -- a curve's eight numbers: start, first control, second control, end, each x then y
 abbrev pub flat : Curve → List Float
 flat c = c .start .x ∷ c .start .y ∷ c .cp1 .x ∷ c .cp1 .y ∷ c .cp2 .x ∷ c .cp2 .y ∷ c .end .x ∷ c .end .y ∷ []
-
--- the shared tangent at a cut at mark k: tangent_between's at the left's end, and that times -1 at the right's start
-unfoldable pub waysAt : List Float → ℕ → Calc Ways
-waysAt ms k = do
-  t ← tangentBetween (markAt ms (k - 1)) (markAt ms k) (markAt ms (k + 1))
-  u ← times t (neg f1)
-  give (record { end = t; start = u })
 
 -- the marks left of a cut at k, and right of it: mark k is in both
 abbrev pub leftOf : ℕ → List Float → List Float

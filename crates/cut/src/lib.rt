@@ -3,51 +3,19 @@
 ghost use mathlib.Core.Path.{_≡_};
 ghost use Prim.Native.Nat.{_+_, _*_, _≤_, _<_};
 ghost use lib.ListN.{length};
-ghost use Rattle.float.specs.Answer.{outcome};
 ghost use Rattle.float.specs.Slices.{written};
-ghost use Rattle.cut.specs.Run.{flat, waysAt, runOf, cutOf};
-ghost use Rattle.cut.specs.Lent.{turnAnswer, Left, Room};
+ghost use Rattle.cut.specs.Run.{flat, runOf, cutOf};
+ghost use Rattle.cut.specs.Lent.{Left, Room};
 use float::refusal::NOT_FINITE;
-use marks::Way;
 use part::Tried;
 use plane::Curve;
 use plane::Point;
-
-// The tangents at a cut: at the left side's end, and turned about at the right side's start.
-pub struct Ways {
-    pub end: Point,
-    pub start: Point,
-}
-
-// The tangents at a cut, or that an operation gave NaN or infinity.
-pub enum Turn {
-    At(Ways),
-    Lost,
-}
+use tangents::Turn;
 
 // How many curves a fit made, or its refusal by number.
 pub enum Fitted {
     Curves(usize),
     Refused(u32),
-}
-
-// The tangents at a cut at mark `at`, from its two neighbours.
-fn ways_at(marks: &[f64], at: usize) -> Turn
-    requires { ⌜ (0 < at) × (2 * at + 3 < length (now marks)) ⌝ }
-    ensures { λ r. ⌜ turnAnswer r ≡ outcome (waysAt (now (marks .entry)) at) ⌝ }
-{
-    let Way::Toward(end) = marks::tangent_between(
-        marks::mark_at(marks, at - 1),
-        marks::mark_at(marks, at),
-        marks::mark_at(marks, at + 1),
-    ) else {
-        return Turn::Lost;
-    };
-    let start = plane::scale(end, -1.0);
-    if plane::point_finite(start) {
-        return Turn::At(Ways { end, start });
-    }
-    Turn::Lost
 }
 
 // The eight numbers of a curve, at the front of the slice.
@@ -117,7 +85,7 @@ fn cut_part(
     requires { ⌜ (0 < at) × (at + 1 < length (now params)) ⌝ }
     ensures { λ r. ⌜ Left (cutOf (now (marks .entry)) at first start end tolerance) r (now (curves .entry)) (now (curves .exit)) (now (firsts .entry)) (now (firsts .exit)) (now (params .exit)) ⌝ }
 {
-    let Turn::At(ways) = ways_at(marks, at) else {
+    let Turn::At(ways) = tangents::ways_at(marks, at) else {
         return Fitted::Refused(NOT_FINITE);
     };
     let middle = ways.end;

@@ -8,7 +8,7 @@ use lib.Seq.{drop-drop, take-at}
 use lib.Ieee.{Float, nan, binary64, ofBits}
 use Rattle.float.specs.Answer.{Answer}
 use Rattle.float.specs.Slices.{written}
-use Rattle.blocks.specs.declared.Cutting.the-variants.{Joined}
+use Rattle.tangents.specs.declared.Cutting.the-variants.{Joined}
 use Rattle.fit.specs.Fit.{Ending, ending, fitOf}
 use Rattle.house.specs.Bytes.{num, words}
 use Rattle.house.specs.Held.{fileAt}

@@ -6,7 +6,7 @@ use lib.ListN.{replicate}
 use lib.Ieee.{Float, binary64, ofBits}
 use Rattle.float.specs.Number.{f0}
 use Rattle.float.specs.Answer.{Answer}
-use Rattle.blocks.specs.declared.Cutting.the-variants.{Joined}
+use Rattle.tangents.specs.declared.Cutting.the-variants.{Joined}
 use Rattle.fit.specs.Fit.{Ending, fitOf}
 use Rattle.house.specs.File.{File}
 

@@ -21,7 +21,7 @@ use Rattle.cut.specs.Lent.{Left, Room}
 use Rattle.cut.specs.declared.Fitted.{Fitted}
 use Rattle.cut.specs.declared.Fitted.the-variants.{Curves, Refused}
 use Rattle.cut.proofs.Cut.{Done, is-done, is-refused, front-length}
-use Rattle.blocks.specs.declared.Cutting.{Cutting}
+use Rattle.tangents.specs.declared.Cutting.{Cutting}
 use Rattle.blocks.specs.Blocks.{blocksOf}
 use Rattle.fit.specs.Fit.{fittedAnswer, ending, ended, entered, areTangents, cubicGate}
 

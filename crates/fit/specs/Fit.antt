@@ -17,7 +17,7 @@ use Rattle.gate.specs.Gate.{refuse, gateOf}
 use Rattle.cut.specs.Run.{Run, refused, done, runOf}
 use Rattle.cut.specs.declared.Fitted.{Fitted}
 use Rattle.cut.specs.declared.Fitted.the-variants as fitted
-use Rattle.blocks.specs.declared.Cutting.{Cutting}
+use Rattle.tangents.specs.declared.Cutting.{Cutting}
 use Rattle.blocks.specs.Blocks.{blocksOf}
 
 -- how many curves, or the refusal's number

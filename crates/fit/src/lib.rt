@@ -2,12 +2,12 @@
 ghost use mathlib.Core.Path.{_≡_};
 ghost use lib.ListN.{length, replicate};
 ghost use Rattle.float.specs.Number.{f0};
-ghost use Rattle.blocks.specs.declared.Cutting.the-variants as variants;
+ghost use Rattle.tangents.specs.declared.Cutting.the-variants as variants;
 ghost use Rattle.fit.specs.Fit.{fittedAnswer, ending, component, areTangents, fitOf, cubicOf, cubicGate};
-use blocks::Cutting;
 use cut::Fitted;
 use float::refusal::OUT_OF_RANGE;
 use plane::Point;
+use tangents::Cutting;
 
 // The most marks that are taken, and the most that the direct fit takes.
 const MOST: usize = 4096;

@@ -12,7 +12,7 @@ use Rattle.float.specs.Answer.{refused as no}
 use Rattle.marks.specs.Marks.{count}
 use Rattle.marks.specs.Block.{blockSize}
 use Rattle.gate.specs.Gate.{gateOf}
-use Rattle.blocks.specs.declared.Cutting.the-variants.{Joined}
+use Rattle.tangents.specs.declared.Cutting.the-variants.{Joined}
 use Rattle.blocks.specs.Blocks.{blocksOf}
 use Rattle.cut.specs.Run.{Run, refused, done}
 use Rattle.fit.specs.Fit.{ended, ending, fitOf}

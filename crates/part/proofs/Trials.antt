@@ -12,7 +12,6 @@ use Rattle.float.specs.Number.{f0, f1, finite}
 use Rattle.float.specs.Calc.{Calc, give, _>>=_, _/!_}
 use Rattle.float.specs.Answer.{Answer, ok, refused, outcome}
 use Rattle.float.specs.Answer.{_>>=_ as chain}
-use Rattle.float.proofs.Truth.{or-left, or-right, or-neither}
 use Rattle.float.proofs.Answers.{outcome-ok, outcome-no, outcome-then, only-six}
 use Rattle.plane.specs.declared.Point.{Point}
 use Rattle.plane.specs.declared.Curve.{Curve}
@@ -147,18 +146,12 @@ module _ (ms : List Float) (st et : Point) (tol : Float) (n : ℕ) (a : Trial) w
       on-ratio : outcome (improve (suc n) ms st et tol a) ≡ outcome (judgedBy b ratio)
       on-ratio = known ∙ outcome-then (b .far .err /! a .far .err) (judgedBy b) ∙ ap (λ x. chain x (λ x. outcome (judgedBy b x))) (outcome-ok (b .far .err /! a .far .err) f)
 
-      settled : lt enough ratio || le (b .far .err) tol ≡ true → outcome (improve (suc n) ms st et tol a) ≡ ok b
+      pub improve-last : lt enough ratio || le (b .far .err) tol ≡ true → outcome (improve (suc n) ms st et tol a) ≡ ok b
       unfolding outcome
-      settled t = on-ratio ∙ ap (λ (k : Bool). outcome (cond k (give b) (improve n ms st et tol b))) t
+      improve-last t = on-ratio ∙ ap (λ (k : Bool). outcome (cond k (give b) (improve n ms st et tol b))) t
 
-      pub improve-slow : lt enough ratio ≡ true → outcome (improve (suc n) ms st et tol a) ≡ ok b
-      improve-slow t = settled (or-left _ _ t)
-
-      pub improve-near : lt enough ratio ≡ false → le (b .far .err) tol ≡ true → outcome (improve (suc n) ms st et tol a) ≡ ok b
-      improve-near t u = settled (or-right _ _ t u)
-
-      pub improve-more : lt enough ratio ≡ false → le (b .far .err) tol ≡ false → outcome (improve (suc n) ms st et tol a) ≡ outcome (improve n ms st et tol b)
-      improve-more t u = on-ratio ∙ ap (λ (k : Bool). outcome (cond k (give b) (improve n ms st et tol b))) (or-neither _ _ t u)
+      pub improve-more : lt enough ratio || le (b .far .err) tol ≡ false → outcome (improve (suc n) ms st et tol a) ≡ outcome (improve n ms st et tol b)
+      improve-more t = on-ratio ∙ ap (λ (k : Bool). outcome (cond k (give b) (improve n ms st et tol b))) t
 
 pub improve-end : (ms : List Float) (st et : Point) (tol : Float) (n : ℕ) (a : Trial) → n ≤ 0 → outcome (improve n ms st et tol a) ≡ ok a
 unfolding improve outcome
@@ -185,15 +178,11 @@ module _ (ms : List Float) (st et : Point) (tol : Float) (n : ℕ) (s : Solved) 
     go-off f = left ∙ at-count (λ m k. outcome (improve m ms st et tol (trialOf s p)) ≡ refused 6) n more (λ k. improve-off ms st et tol k (trialOf s p) b h f)
 
     module _ (f : finite (div binary64 (b .far .err) (s .far .err)) ≡ true) where
-      pub go-slow : lt enough (div binary64 (b .far .err) (s .far .err)) ≡ true → whole ≡ ok b
-      go-slow t = left ∙ at-count (λ m k. outcome (improve m ms st et tol (trialOf s p)) ≡ ok b) n more (λ k. improve-slow ms st et tol k (trialOf s p) b h f t)
+      pub go-last : lt enough (div binary64 (b .far .err) (s .far .err)) || le (b .far .err) tol ≡ true → whole ≡ ok b
+      go-last t = left ∙ at-count (λ m k. outcome (improve m ms st et tol (trialOf s p)) ≡ ok b) n more (λ k. improve-last ms st et tol k (trialOf s p) b h f t)
 
-      module _ (t : lt enough (div binary64 (b .far .err) (s .far .err)) ≡ false) where
-        pub go-near : le (b .far .err) tol ≡ true → whole ≡ ok b
-        go-near u = left ∙ at-count (λ m k. outcome (improve m ms st et tol (trialOf s p)) ≡ ok b) n more (λ k. improve-near ms st et tol k (trialOf s p) b h f t u)
-
-        pub go-more : le (b .far .err) tol ≡ false → whole ≡ outcome (improve (n - 1) ms st et tol b)
-        go-more u = left ∙ at-count (λ m k. outcome (improve m ms st et tol (trialOf s p)) ≡ outcome (improve k ms st et tol b)) n more (λ k. improve-more ms st et tol k (trialOf s p) b h f t u)
+      pub go-more : lt enough (div binary64 (b .far .err) (s .far .err)) || le (b .far .err) tol ≡ false → whole ≡ outcome (improve (n - 1) ms st et tol b)
+      go-more t = left ∙ at-count (λ m k. outcome (improve m ms st et tol (trialOf s p)) ≡ outcome (improve k ms st et tol b)) n more (λ k. improve-more ms st et tol k (trialOf s p) b h f t)
 
 -- ---- from the chords on
 module _ (n : ℕ) (ms : List Float) (st et : Point) (tol : Float) where

@@ -80,10 +80,7 @@ fn improve(
         if !float::finite(ratio) {
             return Solution::Lost;
         }
-        if ratio > IMPROVEMENT {
-            return Solution::Found(next);
-        }
-        if next.far.err <= tolerance {
+        if (ratio > IMPROVEMENT) | (next.far.err <= tolerance) {
             return Solution::Found(next);
         }
         s = next;

@@ -3,7 +3,7 @@ use borrow.Author.Needs.{needs}
 use native.Mathlib.Omega.{arith}
 use Prim.Native.Nat.{_≤_, _<_, _-_, _+_}
 use lib.ListN.{length, length-set}
-use Rattle.blocks.proofs.Tangents.{over-small}
+use Rattle.tangents.proofs.Blocks.{over-small}
 use Rattle.blocks.proofs.Sofar.{Call, call, Asked, asked, Sofar, so-none, Head, numbers, Ran, as-long-curves, as-long-firsts, as-long-params, block-asks, so-stops, so-few, so-more, last-one, last-asks, last-stops, last-few, last-done}
 use Rattle.blocks.proofs.fit_blocks.Statement.{statement}
 use Rattle.blocks.proofs.fit_blocks.Tie as tie

@@ -16,7 +16,7 @@ use Rattle.cut.proofs.fit_part.Reads as fit-part
 use Rattle.cut.proofs.fit_part.Kinds as fit-part-kinds
 use Rattle.cut.proofs.+cut_part+fit_part.Lts-fit_part as fits
 use Rattle.cut.proofs.put_curve.Reads as put-curve-reads
-use Rattle.cut.proofs.ways_at.Reads as ways-at-reads
+use Rattle.tangents.proofs.ways_at.Reads as ways-at-reads
 use Rattle.part.proofs.try_part.Reads as try-part-reads
 use Rattle.cut.proofs.+cut_part+fit_part.{statement}
 use Rattle.cut.proofs.+cut_part+fit_part.Tie.{close}

@@ -7,7 +7,7 @@ use lib.ListN.{length}
 use Rattle.float.specs.Answer.{outcome}
 use Rattle.part.specs.Trial.{improve}
 use Rattle.part.specs.Answers.{trialOf}
-use Rattle.part.proofs.Trials.{found, lost, solves-no, solves-ok, improve-end, go-lost, go-off, go-slow, go-near, go-more}
+use Rattle.part.proofs.Trials.{found, lost, solves-no, solves-ok, improve-end, go-lost, go-off, go-last, go-more}
 use Rattle.part.proofs.improve.Statement.{statement}
 use Rattle.part.proofs.improve.Tie as tie
 
@@ -46,16 +46,10 @@ returns-2 : tie.Need-returns-2 Inv-loop μ-loop
 returns-2 c = solves-no _ _ (go-off _ _ _ _ _ _ _ _ (c .before .before .before .before .before .before .before .before .before .before .before .before .loop .inv .1) (c .before .before .before .before .before .before .before .before .before .before .before .loop-test .taken) _ (found _ _ _ _ (c .before .before .before .before .before .before .before .before .before .attempt .ensures) (c .before .before .before .before .before .next .given .1)) (sym (c .before .finite .ensures) ∙ not-true _ (c .if1 .taken)))
 
 same-length-3 : tie.Need-same-length-3 Inv-loop μ-loop
-same-length-3 c = c .before .before .before .before .before .before .before .before .before .before .attempt .kept .1 .1 .1 .1 .0 ∙ c .before .before .before .before .before .before .before .before .before .before .before .before .before .loop .inv .0
+same-length-3 c = c .before .before .before .before .before .before .before .before .before .before .before .attempt .kept .1 .1 .1 .1 .0 ∙ c .before .before .before .before .before .before .before .before .before .before .before .before .before .before .loop .inv .0
 
 returns-3 : tie.Need-returns-3 Inv-loop μ-loop
-returns-3 c = solves-ok _ _ _ (go-slow _ _ _ _ _ _ _ _ (c .before .before .before .before .before .before .before .before .before .before .before .before .before .loop .inv .1) (c .before .before .before .before .before .before .before .before .before .before .before .before .loop-test .taken) _ (found _ _ _ _ (c .before .before .before .before .before .before .before .before .before .before .attempt .ensures) (c .before .before .before .before .before .before .next .given .1)) (sym (c .before .before .finite .ensures) ∙ not-false _ (c .before .if1 .left)) (c .if2 .taken))
-
-same-length-4 : tie.Need-same-length-4 Inv-loop μ-loop
-same-length-4 c = c .before .before .before .before .before .before .before .before .before .before .before .before .attempt .kept .1 .1 .1 .1 .0 ∙ c .before .before .before .before .before .before .before .before .before .before .before .before .before .before .before .loop .inv .0
-
-returns-4 : tie.Need-returns-4 Inv-loop μ-loop
-returns-4 c = solves-ok _ _ _ (go-near _ _ _ _ _ _ _ _ (c .before .before .before .before .before .before .before .before .before .before .before .before .before .before .before .loop .inv .1) (c .before .before .before .before .before .before .before .before .before .before .before .before .before .before .loop-test .taken) _ (found _ _ _ _ (c .before .before .before .before .before .before .before .before .before .before .before .before .attempt .ensures) (c .before .before .before .before .before .before .before .before .next .given .1)) (sym (c .before .before .before .before .finite .ensures) ∙ not-false _ (c .before .before .before .if1 .left)) (c .before .before .if2 .left) (c .if3 .taken))
+returns-3 c = solves-ok _ _ _ (go-last _ _ _ _ _ _ _ _ (c .before .before .before .before .before .before .before .before .before .before .before .before .before .before .loop .inv .1) (c .before .before .before .before .before .before .before .before .before .before .before .before .before .loop-test .taken) _ (found _ _ _ _ (c .before .before .before .before .before .before .before .before .before .before .before .attempt .ensures) (c .before .before .before .before .before .before .before .next .given .1)) (sym (c .before .before .before .finite .ensures) ∙ not-false _ (c .before .before .if1 .left)) (c .if2 .taken))
 
 sub-left : tie.Need-sub-left Inv-loop μ-loop
 sub-left c = omega arith
@@ -64,13 +58,13 @@ loop-less : tie.Need-loop-less Inv-loop μ-loop
 loop-less c = omega arith
 
 loop-again : tie.Need-loop-again Inv-loop μ-loop
-loop-again c = (c .before .before .before .before .before .before .before .before .before .before .before .before .attempt .kept .1 .1 .1 .1 .0 ∙ c .before .before .before .before .before .before .before .before .before .before .before .before .before .before .before .loop .inv .0, go-more _ _ _ _ _ _ _ _ (c .before .before .before .before .before .before .before .before .before .before .before .before .before .before .before .loop .inv .1) (c .before .before .before .before .before .before .before .before .before .before .before .before .before .before .loop-test .taken) _ (found _ _ _ _ (c .before .before .before .before .before .before .before .before .before .before .before .before .attempt .ensures) (c .before .before .before .before .before .before .before .before .next .given .1)) (sym (c .before .before .before .before .finite .ensures) ∙ not-false _ (c .before .before .before .if1 .left)) (c .before .before .if2 .left) (c .if3 .left))
+loop-again c = (c .before .before .before .before .before .before .before .before .before .before .before .attempt .kept .1 .1 .1 .1 .0 ∙ c .before .before .before .before .before .before .before .before .before .before .before .before .before .before .loop .inv .0, go-more _ _ _ _ _ _ _ _ (c .before .before .before .before .before .before .before .before .before .before .before .before .before .before .loop .inv .1) (c .before .before .before .before .before .before .before .before .before .before .before .before .before .loop-test .taken) _ (found _ _ _ _ (c .before .before .before .before .before .before .before .before .before .before .before .attempt .ensures) (c .before .before .before .before .before .before .before .next .given .1)) (sym (c .before .before .before .finite .ensures) ∙ not-false _ (c .before .before .if1 .left)) (c .if2 .left))
 
-same-length-5 : tie.Need-same-length-5 Inv-loop μ-loop
-same-length-5 c = c .before .loop .inv .0
+same-length-4 : tie.Need-same-length-4 Inv-loop μ-loop
+same-length-4 c = c .before .loop .inv .0
 
-returns-5 : tie.Need-returns-5 Inv-loop μ-loop
-returns-5 c = solves-ok _ _ _ (c .before .loop .inv .1 ∙ improve-end _ _ _ _ _ _ (c .loop-test .left))
+returns-4 : tie.Need-returns-4 Inv-loop μ-loop
+returns-4 c = solves-ok _ _ _ (c .before .loop .inv .1 ∙ improve-end _ _ _ _ _ _ (c .loop-test .left))
 
 pub improve-spec : {M : Type 1} → statement M
 improve-spec =
@@ -89,10 +83,8 @@ improve-spec =
     returns-2
     same-length-3
     returns-3
-    same-length-4
-    returns-4
     sub-left
     loop-less
     loop-again
-    same-length-5
-    returns-5)
+    same-length-4
+    returns-4)

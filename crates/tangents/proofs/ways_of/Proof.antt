@@ -1,11 +1,11 @@
--- `blocks::ways_of`: each tangent taken out first. Assumes nothing.
+-- `tangents::ways_of`: each tangent taken out first. Assumes nothing.
 use borrow.Author.Needs.{needs}
 use native.Mathlib.Omega.{arith}
 use lib.ListN.{length, length-take, length-drop}
-use Rattle.cut.specs.Lent.{turnAnswer}
-use Rattle.blocks.proofs.Tangents.{start-low, end-within, no-start, no-end, both-ways}
-use Rattle.blocks.proofs.ways_of.Statement.{statement}
-use Rattle.blocks.proofs.ways_of.Tie as tie
+use Rattle.tangents.specs.Ways.{turnAnswer}
+use Rattle.tangents.proofs.Blocks.{start-low, end-within, no-start, no-end, both-ways}
+use Rattle.tangents.proofs.ways_of.Statement.{statement}
+use Rattle.tangents.proofs.ways_of.Tie as tie
 
 start-at-requires : tie.Need-start-at-requires
 start-at-requires c κs = omega (arith, c .before .pre)

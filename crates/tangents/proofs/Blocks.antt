@@ -18,10 +18,10 @@ use Rattle.marks.specs.Tangent.{startTangent, endTangent}
 use Rattle.marks.specs.Answers.{wayAnswer}
 use Rattle.marks.specs.declared.tangent.Way.{Way}
 use Rattle.marks.specs.declared.tangent.Way.the-variants as way
-use Rattle.cut.specs.declared.Ways.{Ways}
-use Rattle.blocks.specs.declared.Cutting.{Cutting}
-use Rattle.blocks.specs.declared.Cutting.the-variants.{Source, Loop, Joined}
-use Rattle.blocks.specs.Blocks.{over, startAt, endAt, waysOf}
+use Rattle.tangents.specs.declared.Ways.{Ways}
+use Rattle.tangents.specs.declared.Cutting.{Cutting}
+use Rattle.tangents.specs.declared.Cutting.the-variants.{Source, Loop, Joined}
+use Rattle.tangents.specs.Ways.{over, startAt, endAt, waysOf}
 
 pub over-small : (k : Cutting) → over k ≤ 1
 unfolding over

@@ -1,11 +1,11 @@
--- `blocks::end_at` meets its contract. Assumes nothing.
+-- `tangents::end_at` meets its contract. Assumes nothing.
 use borrow.Author.Needs.{needs}
 use native.Mathlib.Omega.{arith}
 use Prim.Native.Nat.{_+_}
 use borrow.Author.Tests.{lt-ltb, le-ltb}
-use Rattle.blocks.specs.Blocks.{endAt}
-use Rattle.blocks.proofs.end_at.Statement.{statement}
-use Rattle.blocks.proofs.end_at.Tie as tie
+use Rattle.tangents.specs.Ways.{endAt}
+use Rattle.tangents.proofs.end_at.Statement.{statement}
+use Rattle.tangents.proofs.end_at.Tie as tie
 
 enum-told : tie.Need-enum-told
 enum-told c = search needs
@@ -13,11 +13,8 @@ enum-told c = search needs
 enum-told-2 : tie.Need-enum-told-2
 enum-told-2 c = search needs
 
-add-if1 : tie.Need-add-if1
-add-if1 c = omega arith
-
-add-result : tie.Need-add-result
-add-result c = omega arith
+add-past : tie.Need-add-past
+add-past c = omega arith
 
 returns : tie.Need-returns
 unfolding endAt
@@ -29,8 +26,8 @@ enum-told-3 c = search needs
 add-if2 : tie.Need-add-if2
 add-if2 c = omega arith
 
-add-result-2 : tie.Need-add-result-2
-add-result-2 c = omega arith
+add-result : tie.Need-add-result
+add-result c = omega arith
 
 returns-2 : tie.Need-returns-2
 unfolding endAt
@@ -54,12 +51,11 @@ end-at-spec =
     (tie.spec
     enum-told
     enum-told-2
-    add-if1
-    add-result
+    add-past
     returns
     enum-told-3
     add-if2
-    add-result-2
+    add-result
     returns-2
     returns-3
     returns-4

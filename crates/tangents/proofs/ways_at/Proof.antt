@@ -1,11 +1,11 @@
--- `cut::ways_at` meets its contract. Assumes nothing.
+-- `tangents::ways_at` meets its contract. Assumes nothing.
 use mathlib.Core.Path.{sym, _∙_}
 use native.Mathlib.Omega.{arith}
-use Rattle.cut.specs.Lent.{turnAnswer}
-use Rattle.cut.proofs.Turns.{no-way, two-ways, far-ways}
+use Rattle.tangents.specs.Ways.{turnAnswer}
+use Rattle.tangents.proofs.Cuts.{no-way, two-ways, far-ways}
 use borrow.Author.Needs.{needs}
-use Rattle.cut.proofs.ways_at.Statement.{statement}
-use Rattle.cut.proofs.ways_at.Tie as tie
+use Rattle.tangents.proofs.ways_at.Statement.{statement}
+use Rattle.tangents.proofs.ways_at.Tie as tie
 
 sub-mark-at : tie.Need-sub-mark-at
 sub-mark-at c = omega arith

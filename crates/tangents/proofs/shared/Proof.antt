@@ -1,8 +1,8 @@
--- `blocks::shared` meets its contract. Assumes nothing.
+-- `tangents::shared` meets its contract. Assumes nothing.
 use borrow.Author.Needs.{needs}
-use Rattle.blocks.specs.Blocks.{over}
-use Rattle.blocks.proofs.shared.Statement.{statement}
-use Rattle.blocks.proofs.shared.Tie as tie
+use Rattle.tangents.specs.Ways.{over}
+use Rattle.tangents.proofs.shared.Statement.{statement}
+use Rattle.tangents.proofs.shared.Tie as tie
 
 enum-told : tie.Need-enum-told
 enum-told c = search needs

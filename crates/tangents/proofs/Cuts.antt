@@ -20,8 +20,8 @@ use Rattle.marks.specs.Tangent.{tangentBetween}
 use Rattle.marks.specs.Answers.{wayAnswer}
 use Rattle.marks.specs.declared.tangent.Way.{Way}
 use Rattle.marks.specs.declared.tangent.Way.the-variants as way
-use Rattle.cut.specs.Run.{waysAt}
-use Rattle.cut.specs.declared.Ways.{Ways}
+use Rattle.tangents.specs.Ways.{waysAt}
+use Rattle.tangents.specs.declared.Ways.{Ways}
 
 minus-one : Fin (neg f1)
 unfolding finite neg ofBits

@@ -1,10 +1,10 @@
--- `blocks::start_at` meets its contract. Assumes nothing.
+-- `tangents::start_at` meets its contract. Assumes nothing.
 use borrow.Author.Needs.{needs}
 use native.Mathlib.Omega.{arith}
 use borrow.Author.Tests.{le-leb, lt-leb}
-use Rattle.blocks.specs.Blocks.{startAt}
-use Rattle.blocks.proofs.start_at.Statement.{statement}
-use Rattle.blocks.proofs.start_at.Tie as tie
+use Rattle.tangents.specs.Ways.{startAt}
+use Rattle.tangents.proofs.start_at.Statement.{statement}
+use Rattle.tangents.proofs.start_at.Tie as tie
 
 enum-told : tie.Need-enum-told
 enum-told c = search needs

@@ -1,0 +1,2 @@
+mod Cuts
+pub mod Blocks
