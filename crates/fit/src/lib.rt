@@ -134,11 +134,11 @@ fn fit_cut(
         firsts,
         &mut params[..n],
     );
-    let Fitted::Curves(made) = out else {
+    let Fitted::Curves(total) = out else {
         zero_all(curves, firsts, params);
         return out;
     };
-    Fitted::Curves(made)
+    Fitted::Curves(total)
 }
 
 // The fit as the source cuts an outline into blocks, which do not meet.
