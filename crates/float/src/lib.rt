@@ -73,17 +73,23 @@ pub fn signum(x: f64) -> f64
     }
 }
 
-// x.clamp(0.0, 1.0): minus zero and a NaN stay as they are.
+// x.clamp(0.0, 1.0), by the bit pattern: one that is more than the sign's bit is a number's below 0, and the others stand in the
+// order of their numbers. Minus zero and a NaN stay as they are.
 pub fn clamp(x: f64) -> f64
     ensures { λ r. ⌜ r ≡ clamp01 x ⌝ }
 {
-    if x < 0.0 {
-        return 0.0;
+    if x == x {
+        let b = f64::to_bits(x);
+        if b > 0x8000_0000_0000_0000 {
+            0.0
+        } else if b % 0x8000_0000_0000_0000 > 0x3ff0_0000_0000_0000 {
+            1.0
+        } else {
+            x
+        }
+    } else {
+        x
     }
-    if x > 1.0 {
-        return 1.0;
-    }
-    x
 }
 
 // f64::max. Of two equal numbers it is the second, so that of two zeros a plus zero in second place wins.
