@@ -8,6 +8,7 @@ use lib.Ieee.{Float, nan, inf, fin, binary64, up, down, eq, neg, fits, isNan, od
 use lib.Ieee.Fits.{and-i}
 use lib.Ieee.Bits.{is-true, is-false, ofBits-toBits, nanBits-is, nanBits-above}
 use Rattle.float.specs.Number.{f1, abs, signum}
+use Rattle.float.proofs.Patterns.{ofBits-is}
 
 -- ---- x == x
 self : (x : Float) → eq x x ≡ not (isNan x)
@@ -60,10 +61,6 @@ no-nan-pattern b h = not-T (nanBits binary64 b) (λ t. no (ltb→lt (2047 * 2 ^ 
     no k = omega arith
 
 -- ---- the sign's bit
-ofBits-is : (b : ℕ) → ofBits binary64 b ≡ ofFields binary64 (leb (2 ^ 63) b) (b % 2 ^ 63 / 2 ^ 52) (b % 2 ^ 52)
-unfolding ofBits
-ofBits-is b = refl
-
 odd-abs : (d : ℕ) (s : Bool) (q k l : ℕ) → abs (odd d s q k l) ≡ odd d false q k l
 unfolding abs odd
 odd-abs d s zero k l = refl

@@ -40,9 +40,13 @@ signum (fin s m e) = cond s (neg f1) f1
 unfoldable pub clamp01 : Float → Float
 clamp01 x = cond (lt x f0) f0 (cond (lt f1 x) f1 x)
 
+-- b, and a where b is a NaN
+unfoldable pub numberOr : Float → Float → Float
+numberOr b a = cond (isNan b) a b
+
 -- f64::max and f64::min: a NaN gives way to the other. Of equal numbers the second is taken, which settles the sign of a zero that Rust leaves open.
 unfoldable pub maxOf : Float → Float → Float
-maxOf a b = cond (lt b a) a (cond (isNan b) a b)
+maxOf a b = cond (lt b a) a (numberOr b a)
 
 unfoldable pub minOf : Float → Float → Float
-minOf a b = cond (lt a b) a (cond (isNan b) a b)
+minOf a b = cond (lt a b) a (numberOr b a)

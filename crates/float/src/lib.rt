@@ -2,9 +2,9 @@
 pub mod refusal;
 
 ghost use mathlib.Core.Path.{_≡_};
-ghost use mathlib.Core.Bool.{_&&_, cond};
-ghost use lib.Ieee.{binary64, ofBits, toBits};
-ghost use Rattle.float.specs.Number.{finite as finiteOf, abs as absOf, signum as signumOf, clamp01, maxOf, minOf};
+ghost use mathlib.Core.Bool.{_&&_};
+ghost use lib.Ieee.{binary64, ofBits, toBits, eq};
+ghost use Rattle.float.specs.Number.{f0, finite as finiteOf, abs as absOf, signum as signumOf, clamp01, numberOr, maxOf, minOf};
 
 // The number that a bit pattern stands for. Every NaN pattern is a NaN, which `f64::from_bits` leaves undefined.
 pub fn of_bits(b: u64) -> f64
@@ -33,18 +33,26 @@ pub fn finite(x: f64) -> bool
     x < 1.0 / 0.0 && x > -1.0 / 0.0
 }
 
-// Whether x and y are finite. Zero times a finite number is a zero, and zero times any other is a NaN, so one comparison tells.
+// Whether a product that starts with zero is a zero: zero times a finite number is, and zero times any other is a NaN. So one
+// comparison tells of every factor.
+fn vanishes(product: f64) -> bool
+    ensures { λ r. ⌜ r ≡ eq product f0 ⌝ }
+{
+    product == 0.0
+}
+
+// Whether x and y are finite.
 pub fn two_finite(x: f64, y: f64) -> bool
     ensures { λ r. ⌜ r ≡ finiteOf x && finiteOf y ⌝ }
 {
-    0.0 * x * y == 0.0
+    vanishes(0.0 * x * y)
 }
 
-// Whether x, y and z are finite, by one comparison.
+// Whether x, y and z are finite.
 pub fn three_finite(x: f64, y: f64, z: f64) -> bool
     ensures { λ r. ⌜ r ≡ finiteOf x && (finiteOf y && finiteOf z) ⌝ }
 {
-    0.0 * x * y * z == 0.0
+    vanishes(0.0 * x * y * z)
 }
 
 // f64::abs: the sign's bit is cleared, of a zero too.
@@ -73,17 +81,33 @@ pub fn signum(x: f64) -> f64
     }
 }
 
-// x.clamp(0.0, 1.0): minus zero and a NaN stay as they are.
+// x.clamp(0.0, 1.0), by the bit pattern: one that is more than the sign's bit is a number's below 0, and the others stand in the
+// order of their numbers. Minus zero and a NaN stay as they are.
 pub fn clamp(x: f64) -> f64
     ensures { λ r. ⌜ r ≡ clamp01 x ⌝ }
 {
-    if x < 0.0 {
-        return 0.0;
+    if x == x {
+        let b = f64::to_bits(x);
+        if b > 0x8000_0000_0000_0000 {
+            0.0
+        } else if b % 0x8000_0000_0000_0000 > 0x3ff0_0000_0000_0000 {
+            1.0
+        } else {
+            x
+        }
+    } else {
+        x
     }
-    if x > 1.0 {
-        return 1.0;
+}
+
+// The number b, and a where b is a NaN.
+fn number_or(b: f64, a: f64) -> f64
+    ensures { λ r. ⌜ r ≡ numberOr b a ⌝ }
+{
+    if b == b {
+        return b;
     }
-    x
+    a
 }
 
 // f64::max. Of two equal numbers it is the second, so that of two zeros a plus zero in second place wins.
@@ -93,10 +117,7 @@ pub fn max(a: f64, b: f64) -> f64
     if a > b {
         return a;
     }
-    if b == b {
-        return b;
-    }
-    a
+    number_or(b, a)
 }
 
 // f64::min. Of two equal numbers it is the second.
@@ -106,18 +127,5 @@ pub fn min(a: f64, b: f64) -> f64
     if a < b {
         return a;
     }
-    if b == b {
-        return b;
-    }
-    a
-}
-
-// One of two numbers, with no branch for the compiler to keep.
-pub fn pick(b: bool, x: f64, y: f64) -> f64
-    ensures { λ r. ⌜ r ≡ cond b x y ⌝ }
-{
-    if b {
-        return x;
-    }
-    y
+    number_or(b, a)
 }

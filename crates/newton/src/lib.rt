@@ -1,6 +1,7 @@
 // Newton's method for the parameter of the point nearest a mark: one clamped step as fit.rs takes it, and the refinement of
 // nearest_point.rs, round by round.
 ghost use mathlib.Core.Path.{_≡_};
+ghost use mathlib.Core.Bool.{cond};
 ghost use Prim.Native.Nat.{ℕ, suc};
 ghost use Rattle.float.specs.Answer.{outcome};
 ghost use Rattle.newton.specs.Newton.{verticesOf, ratioOf, newtonBy, refineBy, refine as refineOf};
@@ -74,6 +75,16 @@ fn ratio_at(qt: Point, q: Vertices, p: Point, t: f64) -> Ratio
     }
 }
 
+// One of two numbers, with no branch for the compiler to keep.
+fn pick(b: bool, x: f64, y: f64) -> f64
+    ensures { λ r. ⌜ r ≡ cond b x y ⌝ }
+{
+    if b {
+        return x;
+    }
+    y
+}
+
 // fit.rs's newton_raphson_root_find, with the curve's vertices at hand and no branch on the way: a loop of it is vectorised.
 pub fn newton_raphson_root_find(c: Curve, q: Vertices, p: Point, t: f64) -> Step
     ensures { λ r. ⌜ r ≡ asStep (newtonBy c q p t) ⌝ }
@@ -82,8 +93,8 @@ pub fn newton_raphson_root_find(c: Curve, q: Vertices, p: Point, t: f64) -> Step
     let u = t - r.numerator / r.denominator;
     let flat = r.denominator == 0.0;
     Step {
-        t: float::pick(flat, t, float::clamp(u)),
-        fine: float::three_finite(r.numerator, r.denominator, float::pick(flat, 0.0, u)),
+        t: pick(flat, t, float::clamp(u)),
+        fine: float::three_finite(r.numerator, r.denominator, pick(flat, 0.0, u)),
     }
 }
 

@@ -15,7 +15,8 @@ use lib.Ieee.Bits.{ofBits-toBits}
 use lib.Count.{leadingZeros}
 use Rattle.root.specs.Root.{IsRoot, root, twiceRoot, sqrt, plain, MiddleUnder, MiddleOver, Nearest}
 use Rattle.root.proofs.Root.{root-root}
-use Rattle.root.proofs.Pattern.{normal, low-value, normal-value}
+use Rattle.float.proofs.Patterns.{low-value, normal-value}
+use Rattle.root.proofs.Pattern.{normal}
 use Rattle.root.proofs.Low.{moved, shifted, few, low-places, normal-places}
 use Rattle.root.proofs.Whole.{digits-lo, digits-hi, lead, short, even-places, halves, odd-square, of-root}
 use Rattle.root.proofs.Cases.{zero!, above-pos, above-lt, top-is}

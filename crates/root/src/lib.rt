@@ -6,23 +6,39 @@ ghost use Prim.Native.Nat.{ℕ, _+_, _*_, _^_, _≤_, _<_};
 ghost use lib.Ieee.{Float, binary64, ofBits};
 ghost use lib.Ieee.Exact.{HasValue};
 ghost use Rattle.root.specs.Root.{IsRoot, IsNear, sqrt};
+ghost use Rattle.root.specs.Guess.{bitsOf, firstOf, nearer, guess};
 
 // The bit pattern of an x above zero, and that of 1 for any other.
-fn bits_of(x: f64) -> u64 {
+fn bits_of(x: f64) -> u64
+    ensures { λ r. ⌜ r ≡ bitsOf x ⌝ }
+{
     if x > 0.0 {
         return f64::to_bits(x);
     }
     0x3ff0_0000_0000_0000
 }
 
-// A number near the root of x, for `root_by` to check: three steps of Newton's method from a first guess at 1 / √x by the bit
-// pattern, and one from the rest, x less the square of g. Nothing is proved of it. A loop that calls it is vectorised.
-pub fn guess(x: f64) -> f64 {
+// A first guess at 1 / √x, by the bit pattern.
+fn first_of(x: f64) -> f64
+    ensures { λ r. ⌜ r ≡ firstOf x ⌝ }
+{
+    f64::from_bits(0x5fe6_eb50_c7b5_37a9 - (bits_of(x) >> 1) % 0x4000_0000_0000_0000)
+}
+
+// A step of Newton's method for 1 / √x, where h is x / 2.
+fn nearer(h: f64, y: f64) -> f64
+    ensures { λ r. ⌜ r ≡ nearer h y ⌝ }
+{
+    y * 1.5 - h * y * (y * y)
+}
+
+// A number near the root of x, for `root_by` to check: three steps of Newton's method from a first guess at 1 / √x, and one from
+// the rest, x less the square of g. A loop that calls it is vectorised.
+pub fn guess(x: f64) -> f64
+    ensures { λ r. ⌜ r ≡ guess x ⌝ }
+{
     let h = x * 0.5;
-    let mut y = f64::from_bits(0x5fe6_eb50_c7b5_37a9 - (bits_of(x) >> 1) % 0x4000_0000_0000_0000);
-    y = y * 1.5 - h * y * (y * y);
-    y = y * 1.5 - h * y * (y * y);
-    y = y * 1.5 - h * y * (y * y);
+    let y = nearer(h, nearer(h, nearer(h, first_of(x))));
     // g is near √x, and g = high + low, where high has 26 digits, so that high * high is exact
     let g = x * y;
     let t = g * 134217729.0;

@@ -1,17 +1,24 @@
--- The worked cases, as one statement: block sizes, a curve at a half and its left half, the line of two marks, four square roots. Definitions only.
+-- The worked cases, as one statement: block sizes, a curve at a half and its left half, the joined fit of two marks, four square roots, a unit vector.
+-- Definitions only.
 use Prim.Native.Nat.{ℕ}
+use mathlib.Core.Bool.{true}
 use mathlib.Core.Path.{_≡_}
+use mathlib.Core.List.{[], _∷_}
+use lib.ListN.{replicate}
 use lib.Ieee.{Float, binary64, ofBits}
-use Rattle.float.specs.Number.{f0, f1, f2}
-use Rattle.float.specs.Calc.{give}
+use Rattle.float.specs.Number.{f0, f1, f2, f3}
+use Rattle.float.specs.Calc.{Calc, give}
+use Rattle.float.specs.Answer.{ok}
 use Rattle.root.specs.Root.{sqrt}
-use Rattle.plane.specs.Plane.{at}
+use Rattle.plane.specs.Plane.{at, unitOf}
 use Rattle.plane.specs.declared.Curve.{Curve}
 use Rattle.marks.specs.Block.{blockSize}
-use Rattle.marks.specs.Line.{lineOf}
 use Rattle.marks.specs.Tangent.{half}
 use Rattle.cubic.specs.Basis.{pointAt}
 use Rattle.cubic.specs.Subdivide.{subdivide4Of}
+use Rattle.cubic.specs.declared.split.Halves.{Halves}
+use Rattle.tangents.specs.declared.Cutting.the-variants.{Joined}
+use Rattle.fit.specs.Fit.{Ending, ending, fitOf}
 
 -- a number by its bits
 abbrev pub n64 : ℕ → Float
@@ -30,6 +37,14 @@ four = n64 0x4010_0000_0000_0000
 abbrev pub arch : Curve
 arch = record { start = at f0 f0; cp1 = at f0 f1; cp2 = at f1 f1; end = at f1 f0 }
 
+-- its halves
+abbrev pub halves : Calc Halves
+halves = subdivide4Of half (arch .start) (arch .cp1) (arch .cp2) (arch .end)
+
+-- the joined fit of (0,0), (4,0) within 0.5, in lent slices of zeros with room for one curve
+abbrev pub twoMarks : Ending
+twoMarks = fitOf Joined (f0 ∷ f0 ∷ four ∷ f0 ∷ []) half (replicate 8 f0) (replicate 1 0) (replicate 2 f0)
+
 pub record Table : Type 0 where
   pub block199 : blockSize 199 ≡ 200
   pub block200 : blockSize 200 ≡ 150
@@ -38,9 +53,11 @@ pub record Table : Type 0 where
   pub block250 : blockSize 250 ≡ 200
   pub block400 : blockSize 400 ≡ 175
   pub middle : pointAt arch half ≡ give (at half three-quarters)
-  pub left : subdivide4Of half (at f0 f0) (at f0 f1) (at f1 f1) (at f1 f0) .val .left ≡ record { start = at f0 f0; cp1 = at f0 half; cp2 = at quarter three-quarters; end = at half three-quarters }
-  pub line : lineOf (at f0 f0) (at four f0) ≡ give (record { start = at f0 f0; cp1 = at (n64 0x3ff5_1eb8_51eb_851f) f0; cp2 = at (n64 0x4005_1eb8_51eb_851f) f0; end = at four f0 })
+  pub left : halves .val .left ≡ record { start = at f0 f0; cp1 = at f0 half; cp2 = at quarter three-quarters; end = at half three-quarters }
+  pub fine : halves .fine ≡ true
+  pub line : twoMarks ≡ ending (ok 1) (f0 ∷ f0 ∷ n64 0x3ff5_1eb8_51eb_851f ∷ f0 ∷ n64 0x4005_1eb8_51eb_851f ∷ f0 ∷ four ∷ f0 ∷ []) (0 ∷ []) (f0 ∷ f1 ∷ [])
   pub root0 : sqrt binary64 f0 ≡ f0
   pub rootQuarter : sqrt binary64 quarter ≡ half
   pub root4 : sqrt binary64 four ≡ f2
   pub rootLeast : sqrt binary64 (n64 1) ≡ n64 0x1e60_0000_0000_0000
+  pub unit : unitOf (at f3 four) ≡ give (at (n64 0x3fe3_3333_3333_3334) (n64 0x3fe9_9999_9999_999a))

@@ -6,7 +6,7 @@ use native.Mathlib.Omega.{arith}
 use lib.Count.{leadingZeros}
 use lib.Ieee.{binary64, ofBits}
 use Rattle.root.proofs.Low.{Moved, moved, shifted, few, low-places}
-use Rattle.root.proofs.Pattern.{low-value}
+use Rattle.float.proofs.Patterns.{low-value}
 use Rattle.root.proofs.Whole.{no-nan}
 use Rattle.root.proofs.of_low.Statement.{statement}
 use Rattle.root.proofs.of_low.Tie as tie

@@ -3,7 +3,7 @@ use borrow.Author.Needs.{needs}
 use Prim.Native.Nat.{_+_, _*_, _/_, _%_, _^_, _-_}
 use lib.Ieee.{binary64, ofBits}
 use Rattle.root.proofs.Low.{normal-places}
-use Rattle.root.proofs.Pattern.{normal-value}
+use Rattle.float.proofs.Patterns.{normal-value}
 use Rattle.root.proofs.of_normal.Statement.{statement}
 use Rattle.root.proofs.of_normal.Tie as tie
 
