@@ -1,4 +1,4 @@
--- Of two heights that are not two smallest values below zero, the midpoint is not below zero. Assumes nothing.
+-- Of two heights that are not two smallest values below zero, the midpoint is not below zero (Lemma 1 (b)). Assumes nothing.
 use mathlib.Core.Path.{_≡_, refl, sym, ap, _∙_, subst}
 use Prim.Native.Nat.{ℕ, zero, suc, _+_, _-_, _*_, _/_, _%_, _^_, _≤_, _<_, zero-le}
 use native.Mathlib.Nat.{le-trans, le-of-eq, lt-of-not-le, not-le-of-lt, mul-one, one-mul, zero-mul, mul-assoc, mul-le-mul-right, lt-of-mul-lt-mul-right, mul-pos, zero-lt-suc}
@@ -162,6 +162,6 @@ add-upright f (fin false m e) (fin true zero d) p q = go (m * up e * down d) (0 
         case true n = absurd (n tt)
         case false n = round-upright f (a - b) c
 
--- Lemma 2: of two heights that are not deep the midpoint is not below zero
+-- Lemma 1 (b): of two heights that are not deep the midpoint is not below zero
 pub calm-calm : (f : Format) (x y : Float) → T (fits f x) → T (fits f y) → T (not (deep f x)) → T (not (deep f y)) → T (upright (mid f x y))
 calm-calm f x y v w p q = add-upright f (mul f x half) (mul f y half) (half-calm f x v p) (half-calm f y w q)

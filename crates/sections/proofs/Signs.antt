@@ -1,4 +1,4 @@
--- The class of a rounded midpoint: of two heights that are two smallest values below zero or more, the midpoint is; of two that are not, it is not below zero. Assumes nothing.
+-- Of two heights that are two smallest values below zero or more, the midpoint is too (Lemma 1 (a)). Assumes nothing.
 use mathlib.Core.Path.{_≡_, refl, sym, ap, _∙_, subst}
 use Prim.Native.Nat.{ℕ, zero, suc, _+_, _*_, _^_, _≤_, _<_}
 use native.Mathlib.Nat.{le-trans, le-of-eq, mul-one, one-mul, mul-comm, mul-right-comm, add-mul, mul-le-mul-right, mul-pos, zero-lt-suc}
@@ -150,7 +150,20 @@ finite-r f (fin s m e) nan t = t
 finite-r f (fin s m e) (inf u) t = t
 finite-r f (fin s m e) (fin u n d) t = tt
 
--- Lemma 1: deep and deep have a deep midpoint
+-- a finite midpoint has finite ends
+half-back : (f : Format) (x : Float) → T (finite (mul f x half)) → T (finite x)
+unfolding mul
+half-back f nan t = t
+half-back f (inf s) t = t
+half-back f (fin s m e) t = tt
+
+pub mid-back : (f : Format) (x y : Float) → T (finite (mid f x y)) → T (finite x) × T (finite y)
+mid-back f x y t =
+    let a = mul f x half in
+    let b = mul f y half in
+    (half-back f x (finite-l f a b t), half-back f y (finite-r f a b t))
+
+-- Lemma 1 (a): of two deep heights the midpoint is deep
 pub deep-deep : (f : Format) (x y : Float) → T (deep f x) → T (deep f y) → T (finite (mid f x y)) → T (deep f (mid f x y))
 deep-deep f x y p q t =
     let a = mul f x half in

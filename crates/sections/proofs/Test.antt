@@ -10,10 +10,7 @@ use lib.Ieee.{Float, nan, inf, fin, up, down, lt}
 use lib.Ieee.Fits.{up-pos}
 use lib.Ieee.Scale.{finite}
 use lib.Ieee.Bits.{is-true, is-false}
-use Rattle.sections.proofs.Tree.{below}
-
-zeroF : Float
-zeroF = fin false 0 (pos 0)
+use Rattle.sections.specs.Halving.{below}
 
 more : (a b : ℕ) → 0 < a → 0 < a + b
 more a b h = omega arith
