@@ -106,9 +106,9 @@ pub record Going (whole : Answer (List Float)) (size : ℕ) (roots : List Float)
   pub high : waiting ≤ 65
   pub deep : (k : ℕ) → k < waiting → k ≤ getD sections k blank .depth
 
-pub start : (roots : List Float) (sections : List Waiting) → 2048 ≤ length roots → length sections ≡ 65 → Going (find 8 2048 (stackOf 1 sections)) (length roots) roots sections 1 2048 0
-start roots sections room places = record {
-  answer = same (find 8 2048 (stackOf 1 sections));
+pub start : (roots : List Float) (sections : List Waiting) (left : ℕ) → 2048 ≤ length roots → length sections ≡ 65 → left ≤ 2048 → Going (find 8 left (stackOf 1 sections)) (length roots) roots sections 1 left 0
+start roots sections left room places most = record {
+  answer = same (find 8 left (stackOf 1 sections));
   kept = refl;
   room = room;
   places = places;

@@ -106,7 +106,8 @@ ends6 true true false b c d e false p q h = absurd (p tt)
 
 below-sign : (y : Float) → T (below y) → T (sign y)
 below-sign nan t = absurd t
-below-sign (inf s) t = absurd t
+below-sign (inf true) t = tt
+below-sign (inf false) t = absurd t
 below-sign (fin false m e) t = absurd t
 below-sign (fin true m e) t = tt
 

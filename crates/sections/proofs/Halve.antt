@@ -22,7 +22,7 @@ none d z h k e = omega arith
 
 pub upright-calm : (f : Format) (z : Float) → T (upright z) → T (not (deep f z))
 upright-calm f nan t = tt
-upright-calm f (inf s) t = tt
+upright-calm f (inf s) t = t
 upright-calm f (fin false m e) t = tt
 upright-calm f (fin true (suc m) e) t = absurd t
 upright-calm f (fin true zero e) t =

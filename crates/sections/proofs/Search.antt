@@ -115,7 +115,7 @@ zero-under (fin true (suc m) e) h = not-so _ (λ k. none (suc m * up e * 1) (mul
 crosses-is : (x y : Float) → T (finite? x) → T (finite? y) → crosses x y ≡ ch (below x) (below y)
 unfolding crosses ofBits
 crosses-is x y hx hy =
-    simp (test-is x hx, test-is y hy, zero-under x hx, zero-under y hy) (go (upright x) (upright y))
+    simp (test-is, zero-under x hx, zero-under y hy) (go (upright x) (upright y))
   where
     go : (a b : Bool) → cond (not a && b) 1 (cond (a && not b) 1 0) ≡ ch (not a) (not b)
     go true true = refl

@@ -17,7 +17,7 @@ abbrev μ-loop : tie.MeasureT-loop
 μ-loop roots₀ sections₀ waiting₀ left₀ found₀ roots sections waiting left found = left
 
 loop-holds : tie.Need-loop-holds Inv-loop μ-loop
-loop-holds c = start _ _ (c .before .pre) refl
+loop-holds c = start _ _ _ (c .before .pre) refl (omega arith)
 
 same-length : tie.Need-same-length Inv-loop μ-loop
 same-length c = c .before .before .loop .inv .kept
