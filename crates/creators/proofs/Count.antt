@@ -1,0 +1,1 @@
+-- What waits to be looked at holds all live sections that are not counted yet. Assumes nothing.
