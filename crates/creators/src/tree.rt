@@ -102,6 +102,7 @@ pub fn is_live(p: Six) -> bool
 
 // The smallest value above zero, and twice that.
 pub const SMALLEST: f64 = 5e-324;
+
 const TWICE: f64 = 1e-323;
 
 // Whether a height is at least two smallest values below zero.
@@ -165,7 +166,7 @@ pub fn within(p: Six, most: u64) -> bool
         let depth = w.depth;
         if depth < 64 {
             if is_live(w.p) {
-                let count = std::num::wrapping_add_u64(counts[depth], 1);
+                let count = counts[depth] + 1;
                 if count > most {
                     return false;
                 }
