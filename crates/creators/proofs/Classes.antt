@@ -1,19 +1,18 @@
 -- The classes of heights, as the code tests them. Assumes nothing.
-use mathlib.Core.Path.{_≡_, refl, sym, ap, _∙_, subst}
-use mathlib.Core.Bool.{Bool, true, false, cond, _||_}
+use mathlib.Core.Path.{_≡_, refl, sym}
+use mathlib.Core.Bool.{Bool, true, false}
 use Prim.Native.Nat.{ℕ, _*_, _^_, _≤_, _<_}
 use native.Mathlib.Nat.{mul-assoc}
 use native.Mathlib.Omega.{arith}
 use borrow.Author.Tests.{leb-true, leb-false}
 use lib.IntN.{negsuc}
 use lib.Dec.{leb}
-use lib.Ieee.{Float, nan, inf, fin, binary64, low, up, down, neg, lt, le, eq, ofBits}
+use lib.Ieee.{Float, nan, inf, fin, binary64, up, down, neg, lt, le, eq, ofBits}
 use lib.Ieee.Fits.{down-pos}
 use Rattle.float.specs.Number.{f0, signum}
 use Rattle.float.proofs.Truth.{not-so}
 use Rattle.float.proofs.Ranks.{says, said}
 use Rattle.sections.specs.Mid.{deep, sign}
-use Rattle.sections.specs.Halving.{ch}
 
 -- two smallest values below zero
 abbrev pub bound : Float
