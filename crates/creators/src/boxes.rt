@@ -2,11 +2,11 @@
 // which is gone through from the last height to the first, with a margin around it. Heights are numbered: 2·k and 2·k + 1 are k smallest
 // values above and below zero, both zeros among them.
 ghost use Prim.Native.Nat.{_≤_, _<_};
+use crate::tree::SMALLEST;
 use crate::tree::depth_changes;
 use crate::tree::is_live;
 use crate::tree::sign_changes;
 use crate::tree::signed;
-use crate::tree::smallest;
 use crate::tree::within;
 use quintic::numbers::Six;
 use sections::middle;
@@ -63,7 +63,7 @@ fn mirror(p: Six) -> Six {
 
 // The height with a number.
 fn height(i: u64) -> f64 {
-    let size = std::num::nearest_u64_to_f64(i / 2) * smallest();
+    let size = std::num::nearest_u64_to_f64(i / 2) * SMALLEST;
     if i % 2 == 0 {
         return size;
     }
@@ -72,7 +72,7 @@ fn height(i: u64) -> f64 {
 
 // Whether a height may stand in the right half: its sign bit is set, and it is not below the smallest value under zero.
 fn stands(y: f64) -> bool {
-    signed(y) & (y >= -smallest())
+    signed(y) & (y >= -SMALLEST)
 }
 
 // The box: how many smallest values the height at a place may be in size, from the last height to the first.

@@ -1,5 +1,10 @@
 // The tree of halvings of six heights.
-ghost use Prim.Native.Nat.{_≤_};
+ghost use mathlib.Core.Path.{_≡_};
+ghost use mathlib.Core.Bool.{true};
+ghost use Prim.Native.Nat.{ℕ, _≤_};
+ghost use lib.Ieee.{binary64};
+ghost use Rattle.sections.specs.Mid.{deep as deepOf, sign};
+ghost use Rattle.sections.specs.Halving.{left as leftOf, right as rightOf, ch, changes as changesOf, vary, live, liveAt};
 use quintic::numbers::Six;
 use sections::middle;
 
@@ -19,7 +24,9 @@ pub struct Parts {
 }
 
 // The heights of the two halves.
-fn halve(p: Six) -> Parts {
+fn halve(p: Six) -> Parts
+    ensures { λ r. ⌜ (r .left ≡ leftOf binary64 p) × (r .right ≡ rightOf binary64 p) ⌝ }
+{
     let a1 = middle(p.y1, p.y2);
     let a2 = middle(p.y2, p.y3);
     let a3 = middle(p.y3, p.y4);
@@ -57,7 +64,7 @@ fn halve(p: Six) -> Parts {
 
 // 1 where two classes differ.
 fn change(a: bool, b: bool) -> u64
-    ensures { λ r. ⌜ r ≤ 1 ⌝ }
+    ensures { λ r. ⌜ (r ≡ ch a b) × (r ≤ 1) ⌝ }
 {
     if a {
         if b {
@@ -73,13 +80,15 @@ fn change(a: bool, b: bool) -> u64
 
 // How often six classes change.
 fn changes(a: bool, b: bool, c: bool, d: bool, e: bool, g: bool) -> u64
-    ensures { λ r. ⌜ r ≤ 5 ⌝ }
+    ensures { λ r. ⌜ (r ≡ changesOf a b c d e g) × (r ≤ 5) ⌝ }
 {
     change(a, b) + change(b, c) + change(c, d) + change(d, e) + change(e, g)
 }
 
 // Whether a section's heights cross zero: it is live.
-pub fn is_live(p: Six) -> bool {
+pub fn is_live(p: Six) -> bool
+    ensures { λ r. ⌜ r ≡ live p ⌝ }
+{
     changes(
         p.y1 < 0.0,
         p.y2 < 0.0,
@@ -91,19 +100,21 @@ pub fn is_live(p: Six) -> bool {
         > 0
 }
 
-// The smallest value above zero.
-pub fn smallest() -> f64 {
-    f64::from_bits(1)
-}
+// The smallest value above zero, and twice that.
+pub const SMALLEST: f64 = 5e-324;
+
+const TWICE: f64 = 1e-323;
 
 // Whether a height is at least two smallest values below zero.
-fn deep(y: f64) -> bool {
-    y < -smallest()
+fn deep(y: f64) -> bool
+    ensures { λ r. ⌜ r ≡ deepOf binary64 y ⌝ }
+{
+    y <= -TWICE
 }
 
 // V_T: how often the heights change between deep and not.
 pub fn depth_changes(p: Six) -> u64
-    ensures { λ r. ⌜ r ≤ 5 ⌝ }
+    ensures { λ r. ⌜ (r ≡ vary (deepOf binary64) p) × (r ≤ 5) ⌝ }
 {
     changes(
         deep(p.y1),
@@ -116,13 +127,15 @@ pub fn depth_changes(p: Six) -> u64
 }
 
 // Whether a height has its sign bit set.
-pub fn signed(y: f64) -> bool {
+pub fn signed(y: f64) -> bool
+    ensures { λ r. ⌜ r ≡ sign y ⌝ }
+{
     float::signum(y) < 0.0
 }
 
 // V_B: how often the sign bit changes.
 pub fn sign_changes(p: Six) -> u64
-    ensures { λ r. ⌜ r ≤ 5 ⌝ }
+    ensures { λ r. ⌜ (r ≡ vary sign p) × (r ≤ 5) ⌝ }
 {
     changes(
         signed(p.y1),
@@ -136,7 +149,9 @@ pub fn sign_changes(p: Six) -> u64
 
 // Whether p has at no depth 0..63 below it more live sections than a bound, where every live section is halved. A tree that needs
 // more room or more looks than there are counts as having more.
-pub fn within(p: Six, most: u64) -> bool {
+pub fn within(p: Six, most: u64) -> bool
+    ensures { λ r. ⌜ (r ≡ true → (d : ℕ) → d ≤ 63 → liveAt binary64 d p ≤ most) ⌝ }
+{
     let mut counts = [0u64; 64];
     let mut waiting = [Waiting { p, depth: 0 }; 65];
     let mut n: usize = 1;
@@ -151,7 +166,7 @@ pub fn within(p: Six, most: u64) -> bool {
         let depth = w.depth;
         if depth < 64 {
             if is_live(w.p) {
-                let count = std::num::wrapping_add_u64(counts[depth], 1);
+                let count = counts[depth] + 1;
                 if count > most {
                     return false;
                 }

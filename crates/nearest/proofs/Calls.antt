@@ -22,7 +22,7 @@ use Rattle.roots.specs.declared.find.Roots.the-variants as found
 use Rattle.intercept.proofs.Rounds.{came, gone}
 use Rattle.nearest.specs.Choose.{Nearest, chooseOf}
 use Rattle.nearest.specs.Nearest.{nearestBy, nearestOf, nearestCall}
-use Rattle.nearest.specs.Tests.{asBest, runOf}
+use Rattle.nearest.specs.Tests.{refusalOf, asBest, runOf}
 use Rattle.nearest.specs.declared.choose.Best.{Best}
 
 module _ (c : Curve) (p : Point) (form : Section) where
@@ -31,9 +31,9 @@ module _ (c : Curve) (p : Point) (form : Section) where
 
   -- the search came to r, with the numbers l lent to it
   module _ (r : Roots) (l : List Float) (came-to : rootsAnswer r l ≡ findRoots form) where
-    pub none-found : (n : ℕ) → r ≡ found.Refused n → refused n ≡ nearestBy c p form
+    pub none-found : (n : ℕ) → r ≡ found.Refused n → (q : ℕ) → q ≡ refusalOf r → refused q ≡ nearestBy c p form
     unfolding nearestBy rootsAnswer
-    none-found n e = ap choice (sym (ap (λ (r : Roots). rootsAnswer r l) e) ∙ came-to)
+    none-found n e q is = ap refused (is ∙ ap refusalOf e) ∙ ap choice (sym (ap (λ (r : Roots). rootsAnswer r l) e) ∙ came-to)
 
     module _ (n : ℕ) (e : r ≡ found.Found n) (b : Best) (is : b ≡ asBest (chooseOf c p (take n l))) where
       roots-are : ok (take n l) ≡ findRoots form

@@ -5,6 +5,7 @@ mod choose;
 ghost use mathlib.Core.Path.{_≡_};
 ghost use Rattle.quintic.specs.Tests.{heightsFinite};
 ghost use Rattle.nearest.specs.Nearest.{nearestAnswer, nearestBy, nearestCall};
+ghost use Rattle.nearest.specs.Tests.{refusalOf};
 use crate::choose::choose;
 use float::refusal::NOT_FINITE;
 use float::refusal::OUT_OF_RANGE;
@@ -28,21 +29,30 @@ fn heights_finite(s: Section) -> bool
     float::three_finite(s.w1.y, s.w2.y, s.w3.y) & float::three_finite(s.w4.y, s.w5.y, s.w6.y)
 }
 
+// The number by which a search was refused, and 0 where it was not.
+fn refusal_of(found: Roots) -> u32
+    ensures { λ r. ⌜ r ≡ refusalOf found ⌝ }
+{
+    match found {
+        Roots::Found(_) => 0,
+        Roots::Refused(n) => n,
+    }
+}
+
 // The nearest point, from the curve of six points whose roots are the candidates.
 fn nearest_by(curve: Curve, point: Point, form: Section) -> NearestPoint
     ensures { λ r. ⌜ nearestAnswer r ≡ nearestBy curve point form ⌝ }
 {
     let mut roots = [0.0; 2048];
-    match find_bezier_roots(form, &mut roots) {
-        Roots::Found(n) => {
-            let best = choose(curve, point, &roots[..n]);
-            if best.fine {
-                return NearestPoint::Found(best.t, best.distance_sq);
-            }
-            NearestPoint::Refused(NOT_FINITE)
-        }
-        Roots::Refused(n) => NearestPoint::Refused(n),
+    let found = find_bezier_roots(form, &mut roots);
+    let Roots::Found(n) = found else {
+        return NearestPoint::Refused(refusal_of(found));
+    };
+    let best = choose(curve, point, &roots[..n]);
+    if best.fine {
+        return NearestPoint::Found(best.t, best.distance_sq);
     }
+    NearestPoint::Refused(NOT_FINITE)
 }
 
 // nearest_point.rs's `nearest_point_on_curve`: the parameter of the curve's point nearest to `point`, by the roots of a curve of degree five.

@@ -98,7 +98,7 @@ abbrev pub later : List Float → ℕ → Answer (List Float) → Answer (List F
 later roots found a = chain a (λ ts. ok (take found roots ++ ts))
 
 pub record Going (whole : Answer (List Float)) (size : ℕ) (roots : List Float) (sections : List Waiting) (waiting left found : ℕ) : Type 0 where
-  pub answer : whole ≡ later roots found (find left (stackOf waiting sections))
+  pub answer : whole ≡ later roots found (find 8 left (stackOf waiting sections))
   pub kept : length roots ≡ size
   pub room : 2048 ≤ size
   pub places : length sections ≡ 65
@@ -106,9 +106,9 @@ pub record Going (whole : Answer (List Float)) (size : ℕ) (roots : List Float)
   pub high : waiting ≤ 65
   pub deep : (k : ℕ) → k < waiting → k ≤ getD sections k blank .depth
 
-pub start : (roots : List Float) (sections : List Waiting) → 2048 ≤ length roots → length sections ≡ 65 → Going (find 2048 (stackOf 1 sections)) (length roots) roots sections 1 2048 0
-start roots sections room places = record {
-  answer = same (find 2048 (stackOf 1 sections));
+pub start : (roots : List Float) (sections : List Waiting) (left : ℕ) → 2048 ≤ length roots → length sections ≡ 65 → left ≤ 2048 → Going (find 8 left (stackOf 1 sections)) (length roots) roots sections 1 left 0
+start roots sections left room places most = record {
+  answer = same (find 8 left (stackOf 1 sections));
   kept = refl;
   room = room;
   places = places;
@@ -126,17 +126,17 @@ module _ (whole : Answer (List Float)) (size : ℕ) (roots : List Float) (sectio
   -- no section is left to take
   pub full : 0 < waiting → left ≡ 0 → refused 8 ≡ whole
   unfolding find
-  full w e = sym (g .answer ∙ ap (λ (n : ℕ). later roots found (find n (stackOf waiting sections))) e ∙ ap (λ (x : List Waiting). later roots found (find 0 x)) (stack-pop waiting sections w))
+  full w e = sym (g .answer ∙ ap (λ (n : ℕ). later roots found (find 8 n (stackOf waiting sections))) e ∙ ap (λ (x : List Waiting). later roots found (find 8 0 x)) (stack-pop waiting sections w))
 
   -- no section waits
   pub done : waiting ≤ 0 → ok (take found roots) ≡ whole
   unfolding find stackOf
-  done h = sym (g .answer ∙ ap (λ (n : ℕ). later roots found (find left (stackOf n sections))) (none waiting h) ∙ ended left)
+  done h = sym (g .answer ∙ ap (λ (n : ℕ). later roots found (find 8 left (stackOf n sections))) (none waiting h) ∙ ended left)
     where
       none : (n : ℕ) → n ≤ 0 → n ≡ 0
       none n h = omega arith
 
-      ended : (n : ℕ) → later roots found (find n []) ≡ ok (take found roots)
+      ended : (n : ℕ) → later roots found (find 8 n []) ≡ ok (take found roots)
       ended zero = ap ok (append-nil (take found roots))
       ended (suc n) = ap ok (append-nil (take found roots))
 
@@ -148,15 +148,15 @@ module _ (whole : Answer (List Float)) (size : ℕ) (roots : List Float) (sectio
     under = stackOf (waiting - 1) sections
 
     abbrev search : List Waiting → Answer (List Float)
-    search = find (left - 1)
+    search = find 8 (left - 1)
 
     module _ (saw : a ≡ lookOf (top .section) (top .depth)) where
       turned : whole ≡ later roots found (chain a (next search (top .depth) under))
       unfolding find
       turned =
           g .answer
-          ∙ ap (λ (x : List Waiting). later roots found (find left x)) (stack-pop waiting sections more)
-          ∙ ap (λ (n : ℕ). later roots found (find n (top ∷ under))) (back left some)
+          ∙ ap (λ (x : List Waiting). later roots found (find 8 left x)) (stack-pop waiting sections more)
+          ∙ ap (λ (n : ℕ). later roots found (find 8 n (top ∷ under))) (back left some)
           ∙ ap (λ x. later roots found (chain x (next search (top .depth) under))) (sym saw)
         where
           back : (n : ℕ) → (n ≡ 0 → ⊥) → n ≡ suc (n - 1)

@@ -50,14 +50,14 @@ next search depth ws (root t) = do
   ok (t ∷ ts)
 next search depth ws (halved h) = search (wait (h .left) (depth + 1) ∷ wait (h .right) (depth + 1) ∷ ws)
 
--- the roots of the sections that wait, with so many sections left to take: 8 where one more would be taken
-unfoldable pub find : ℕ → List Waiting → Answer (List Float)
-find zero [] = ok []
-find zero (w ∷ ws) = refused 8
-find (suc left) [] = ok []
-find (suc left) (w ∷ ws) = do
+-- the roots of the sections that wait, with so many sections left to take: refused by the number `full` where one more would be taken
+unfoldable pub find : ℕ → ℕ → List Waiting → Answer (List Float)
+find full zero [] = ok []
+find full zero (w ∷ ws) = refused full
+find full (suc left) [] = ok []
+find full (suc left) (w ∷ ws) = do
   seen ← lookOf (w .section) (w .depth)
-  next (find left) (w .depth) ws seen
+  next (find full left) (w .depth) ws seen
 
 unfoldable pub findRoots : Section → Answer (List Float)
-findRoots points = find 2048 (wait points 0 ∷ [])
+findRoots points = find 8 2048 (wait points 0 ∷ [])

@@ -1,31 +1,17 @@
--- At most 2·V_T + V_B live sections at a depth, so at most 15 (Lemma 5). `Creators` (Lemma 4) is what the program of that name goes through. Assumes nothing else.
-use mathlib.Core.Path.{_≡_, refl, sym, _∙_, subst}
+-- From the finite lemma `Creators` (Lemma 4): at most 2·V_T + V_B live sections at a depth, so at most 15 (Lemma 5). Assumes nothing else.
+use mathlib.Core.Path.{_≡_, refl, sym, ap, _∙_, subst}
 use Prim.Native.Nat.{ℕ, zero, suc, _+_, _*_, _≤_, zero-le}
 use native.Mathlib.Nat.{le-trans, le-of-eq, le-refl}
 use native.Mathlib.Omega.{arith}
 use mathlib.Core.Bool.{Bool, true, false, not, _&&_, _||_}
 use lib.Dec.{T, ltb, eqb, eqb→eq, nltb→le, T-not, not-T}
-use lib.Ieee.{Float, nan, inf, fin, Format}
+use lib.Ieee.{Float, nan, inf, fin, Format, fits}
 use lib.Ieee.Fits.{and-r, and-i, eq→eqb}
+use Rattle.quintic.specs.declared.numbers.Six.{Six}
 use Rattle.sections.specs.Mid.{deep, upright, sign}
-use Rattle.sections.proofs.Vary.{ch, changes}
-use Rattle.sections.proofs.Halve.{upright-calm}
-use Rattle.sections.proofs.Tree.{Six, left, right, vary, below, live, fine, bit, liveAt, FitSix, halved, deep-down, sign-down}
-use Rattle.sections.proofs.Ends.{Calm6, deadAt, stepB, calm-ends, fit-left, fit-right}
-
--- all six heights are -0 or the smallest value below zero, where the section is live
-abbrev pub gamma : Format → Six → Bool
-gamma f p = eqb (vary (deep f) p + vary sign p) 0
-
-abbrev pub creator : Format → Six → Bool
-creator f p = ltb 0 (vary (deep f) p) && ((live (left f p) && gamma f (left f p)) || (live (right f p) && gamma f (right f p)))
-
-abbrev pub most : Format → Six → ℕ
-most f p = 2 * vary (deep f) p + vary sign p
-
--- Lemma 4, which a program checks
-abbrev pub Creators : Format → Type 0
-Creators f = (d : ℕ) → d ≤ 63 → (p : Six) → FitSix f p → T (live p) → T (creator f p) → liveAt f d p ≤ most f p
+use Rattle.sections.specs.Halving.{All, left, right, fine, ch, changes, vary, below, live, bit, step, liveAt, gamma, creator, most, Creators}
+use Rattle.sections.proofs.Halve.{upright-calm, rows, finite-six, fit-left, fit-right, deep-down, sign-down}
+use Rattle.sections.proofs.Ends.{Calm, deadAt, stepB, calm-ends}
 
 -- ---- no change of depth, and live: then no height is deep
 one-zero : (n : ℕ) → n ≡ 0 → 1 ≤ n → ⊥
@@ -69,25 +55,25 @@ full6 true true true true true false p q r s t u z = u
 deep-below : (f : Format) (y : Float) → T (deep f y) → T (below y)
 deep-below f y t = not-T (upright y) (λ (u : T (upright y)). T-not (deep f y) (upright-calm f y u) t)
 
-calm-of : (f : Format) (p : Six) → vary (deep f) p ≡ 0 → T (live p) → Calm6 f p
-calm-of f p z l = go (deep f (p .y0)) refl
+calm-of : (f : Format) (p : Six) → vary (deep f) p ≡ 0 → T (live p) → Calm f p
+calm-of f p z l = go (deep f (p .y1)) refl
   where
-    go : (b : Bool) → deep f (p .y0) ≡ b → Calm6 f p
+    go : (b : Bool) → deep f (p .y1) ≡ b → Calm f p
     go true e =
-        let s = same6 (deep f (p .y0)) (deep f (p .y1)) (deep f (p .y2)) (deep f (p .y3)) (deep f (p .y4)) (deep f (p .y5)) z in
-        let t0 : T (deep f (p .y0)) = subst T (sym e) tt in
-        absurd (full6 (below (p .y0)) (below (p .y1)) (below (p .y2)) (below (p .y3)) (below (p .y4)) (below (p .y5)) (deep-below f (p .y0) t0)
-        (deep-below f (p .y1) (subst T (s .s1) t0)) (deep-below f (p .y2) (subst T (s .s2) t0)) (deep-below f (p .y3) (subst T (s .s3) t0)) (deep-below f (p .y4) (subst T (s .s4) t0)) (deep-below f (p .y5) (subst T (s .s5) t0)) l)
+        let s = same6 (deep f (p .y1)) (deep f (p .y2)) (deep f (p .y3)) (deep f (p .y4)) (deep f (p .y5)) (deep f (p .y6)) z in
+        let t0 : T (deep f (p .y1)) = subst T (sym e) tt in
+        absurd (full6 (below (p .y1)) (below (p .y2)) (below (p .y3)) (below (p .y4)) (below (p .y5)) (below (p .y6)) (deep-below f (p .y1) t0)
+        (deep-below f (p .y2) (subst T (s .s1) t0)) (deep-below f (p .y3) (subst T (s .s2) t0)) (deep-below f (p .y4) (subst T (s .s3) t0)) (deep-below f (p .y5) (subst T (s .s4) t0)) (deep-below f (p .y6) (subst T (s .s5) t0)) l)
     go false e =
-        let s = same6 (deep f (p .y0)) (deep f (p .y1)) (deep f (p .y2)) (deep f (p .y3)) (deep f (p .y4)) (deep f (p .y5)) z in
-        let t0 : T (not (deep f (p .y0))) = subst (λ (b : Bool). T (not b)) (sym e) tt in
+        let s = same6 (deep f (p .y1)) (deep f (p .y2)) (deep f (p .y3)) (deep f (p .y4)) (deep f (p .y5)) (deep f (p .y6)) z in
+        let t0 : T (not (deep f (p .y1))) = subst (λ (b : Bool). T (not b)) (sym e) tt in
         record {
-          k0 = t0;
-          k1 = subst (λ (b : Bool). T (not b)) (s .s1) t0;
-          k2 = subst (λ (b : Bool). T (not b)) (s .s2) t0;
-          k3 = subst (λ (b : Bool). T (not b)) (s .s3) t0;
-          k4 = subst (λ (b : Bool). T (not b)) (s .s4) t0;
-          k5 = subst (λ (b : Bool). T (not b)) (s .s5) t0;
+          h1 = t0;
+          h2 = subst (λ (b : Bool). T (not b)) (s .s1) t0;
+          h3 = subst (λ (b : Bool). T (not b)) (s .s2) t0;
+          h4 = subst (λ (b : Bool). T (not b)) (s .s3) t0;
+          h5 = subst (λ (b : Bool). T (not b)) (s .s4) t0;
+          h6 = subst (λ (b : Bool). T (not b)) (s .s5) t0;
         }
 
 -- ---- two ends below zero: the changes of sign are even
@@ -120,7 +106,8 @@ ends6 true true false b c d e false p q h = absurd (p tt)
 
 below-sign : (y : Float) → T (below y) → T (sign y)
 below-sign nan t = absurd t
-below-sign (inf s) t = absurd t
+below-sign (inf true) t = tt
+below-sign (inf false) t = absurd t
 below-sign (fin false m e) t = absurd t
 below-sign (fin true m e) t = tt
 
@@ -157,14 +144,22 @@ orr true b t = absurd t
 orr false b t = t
 
 abbrev pub Bounded : Format → ℕ → Type 0
-Bounded f d = (p : Six) → FitSix f p → T (live p) → T (not (gamma f p)) → liveAt f d p ≤ most f p
+Bounded f d = (p : Six) → All (fits f) p → T (live p) → T (not (gamma f p)) → liveAt f d p ≤ most f p
 
-child : (f : Format) (d : ℕ) → Bounded f d → (p : Six) → FitSix f p → T (not (live p && gamma f p)) → liveAt f d p ≤ most f p
+child : (f : Format) (d : ℕ) → Bounded f d → (p : Six) → All (fits f) p → T (not (live p && gamma f p)) → liveAt f d p ≤ most f p
 child f d ih p w t = go (live p) refl
   where
     go : (b : Bool) → live p ≡ b → liveAt f d p ≤ most f p
     go false e = le-trans (le-of-eq (deadAt f d p e)) zero-le
     go true e = ih p w (subst T (sym e) tt) (subst (λ (b : Bool). T (not (b && gamma f p))) e t)
+
+stopped : (f : Format) (d : ℕ) (p : Six) → fine f p ≡ false → liveAt f (suc d) p ≡ 0
+unfolding liveAt
+stopped f d p e = ap (λ (b : Bool). step (live p && b) (liveAt f d (left f p)) (liveAt f d (right f p))) e ∙ none (live p)
+  where
+    none : (b : Bool) → step (b && false) (liveAt f d (left f p)) (liveAt f d (right f p)) ≡ 0
+    none true = refl
+    none false = refl
 
 less : (d : ℕ) → suc d ≤ 63 → d ≤ 63
 less d h = omega arith
@@ -180,10 +175,15 @@ bounded f hyp (suc d) D p w l g = go (ltb 0 (vary (deep f) p)) refl (creator f p
         let y = live (right f p) && gamma f (right f p) in
         let m : T (not (x || y)) = not-T (x || y) (λ (t : T (x || y)). T-not (creator f p) n (and-i (ltb 0 (vary (deep f) p)) (x || y) a t)) in
         stepB (live p && fine f p) (liveAt f d (left f p)) (liveAt f d (right f p)) (most f p) (λ (t : T (live p && fine f p)).
-        let h = halved f p (and-r (live p) (fine f p) t) in
+        let h = rows f p (and-r (live p) (fine f p) t) in
         join (liveAt f d (left f p)) (liveAt f d (right f p)) (vary (deep f) (left f p)) (vary (deep f) (right f p)) (vary (deep f) p) (vary sign (left f p)) (vary sign (right f p)) (vary sign p)
-        (child f d ih (left f p) (fit-left f p w h) (orl x y m)) (child f d ih (right f p) (fit-right f p w h) (orr x y m))
+        (child f d ih (left f p) (fit-left f p w) (orl x y m)) (child f d ih (right f p) (fit-right f p w) (orr x y m))
         (deep-down f p w h) (sign-down f p w h))
+
+    -- a halving that is not fine has nothing below it, and one that is has finite heights
+    creates : (b : Bool) → fine f p ≡ b → T (creator f p) → liveAt f (suc d) p ≤ most f p
+    creates true e c = hyp (suc d) D p w (finite-six f p (rows f p (subst T (sym e) tt))) l c
+    creates false e c = le-trans (le-of-eq (stopped f d p e)) zero-le
 
     none : (n : ℕ) → n ≤ 0 → n ≡ 0
     none n h = omega arith
@@ -193,9 +193,9 @@ bounded f hyp (suc d) D p w l g = go (ltb 0 (vary (deep f) p)) refl (creator f p
         let z : vary (deep f) p ≡ 0 = none (vary (deep f) p) (nltb→le 0 (vary (deep f) p) (subst (λ (b : Bool). T (not b)) (sym e) tt)) in
         drop-zero (liveAt f (suc d) p) (vary (deep f) p) (vary sign p)
         (le-trans (calm-ends f d p w (calm-of f p z l))
-        (ends6 (below (p .y0)) (below (p .y5)) (sign (p .y0)) (sign (p .y1)) (sign (p .y2)) (sign (p .y3)) (sign (p .y4)) (sign (p .y5)) (below-sign (p .y0)) (below-sign (p .y5))
+        (ends6 (below (p .y1)) (below (p .y6)) (sign (p .y1)) (sign (p .y2)) (sign (p .y3)) (sign (p .y4)) (sign (p .y5)) (sign (p .y6)) (below-sign (p .y1)) (below-sign (p .y6))
         (second (vary (deep f) p) (vary sign p) z (some (vary (deep f) p) (vary sign p) g))))
-    go true e true q ih = hyp (suc d) D p w l (subst T (sym q) tt)
+    go true e true q ih = creates (fine f p) refl (subst T (sym q) tt)
     go true e false q ih = half ih (subst (λ (b : Bool). T (not b)) (sym q) tt) (subst T (sym e) tt)
 
 -- ---- for any six heights: at most 15 live sections at a depth
@@ -227,7 +227,7 @@ small n x y h k l = omega arith
 one-15 : (n : ℕ) → n ≤ 1 → n ≤ 15
 one-15 n h = omega arith
 
-pub at-most-15 : (f : Format) → Creators f → (d : ℕ) → d ≤ 63 → (p : Six) → FitSix f p → liveAt f d p ≤ 15
+pub at-most-15 : (f : Format) → Creators f → (d : ℕ) → d ≤ 63 → (p : Six) → All (fits f) p → liveAt f d p ≤ 15
 unfolding liveAt
 at-most-15 f hyp zero D p w = one-15 (bit (live p)) (bit-le (live p))
 at-most-15 f hyp (suc d) D p w = go (live p) refl (gamma f p) refl
@@ -239,8 +239,8 @@ at-most-15 f hyp (suc d) D p w = go (live p) refl (gamma f p) refl
     go false e y q = le-trans (le-of-eq (deadAt f (suc d) p e)) zero-le
     go true e true q =
         let z = left-zero (vary (deep f) p) (vary sign p) (eqb→eq (vary (deep f) p + vary sign p) 0 (subst T (sym q) tt)) in
-        small (liveAt f (suc d) p) (bit (below (p .y0))) (bit (below (p .y5))) (calm-ends f d p w (calm-of f p z (subst T (sym e) tt))) (bit-le (below (p .y0))) (bit-le (below (p .y5)))
+        small (liveAt f (suc d) p) (bit (below (p .y1))) (bit (below (p .y6))) (calm-ends f d p w (calm-of f p z (subst T (sym e) tt))) (bit-le (below (p .y1))) (bit-le (below (p .y6)))
     go true e false q =
         fifteen (liveAt f (suc d) p) (vary (deep f) p) (vary sign p) (bounded f hyp (suc d) D p w (subst T (sym e) tt) (subst (λ (b : Bool). T (not b)) (sym q) tt))
-        (five (deep f (p .y0)) (deep f (p .y1)) (deep f (p .y2)) (deep f (p .y3)) (deep f (p .y4)) (deep f (p .y5)))
-        (five (sign (p .y0)) (sign (p .y1)) (sign (p .y2)) (sign (p .y3)) (sign (p .y4)) (sign (p .y5)))
+        (five (deep f (p .y1)) (deep f (p .y2)) (deep f (p .y3)) (deep f (p .y4)) (deep f (p .y5)) (deep f (p .y6)))
+        (five (sign (p .y1)) (sign (p .y2)) (sign (p .y3)) (sign (p .y4)) (sign (p .y5)) (sign (p .y6)))

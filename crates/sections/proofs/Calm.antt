@@ -1,4 +1,4 @@
--- Of two heights that are not two smallest values below zero, the midpoint is not below zero. Assumes nothing.
+-- Of two heights that are not two smallest values below zero, the midpoint is not below zero (Lemma 1 (b)). Assumes nothing.
 use mathlib.Core.Path.{_≡_, refl, sym, ap, _∙_, subst}
 use Prim.Native.Nat.{ℕ, zero, suc, _+_, _-_, _*_, _/_, _%_, _^_, _≤_, _<_, zero-le}
 use native.Mathlib.Nat.{le-trans, le-of-eq, lt-of-not-le, not-le-of-lt, mul-one, one-mul, zero-mul, mul-assoc, mul-le-mul-right, lt-of-mul-lt-mul-right, mul-pos, zero-lt-suc}
@@ -94,7 +94,8 @@ twice-le x d h = mul-le-mul-right 2 h
 half-calm : (f : Format) (x : Float) → T (fits f x) → T (not (deep f x)) → T (upright (mul f x half))
 unfolding mul
 half-calm f nan w p = tt
-half-calm f (inf s) w p = tt
+half-calm f (inf true) w p = absurd p
+half-calm f (inf false) w p = tt
 half-calm f (fin false m e) w p = round-upright f (m * up e * 1) (down e * 2)
 half-calm f (fin true zero e) w p =
     subst (λ (z : Float). T (upright z)) (sym (round-tiny f true (0 * up e * 1) (down e * 2) (mul-pos (down-pos e) (zero-lt-suc 1)) (le-trans (le-of-eq (nothing (up e) (2 ^ low f))) zero-le))) tt
@@ -117,18 +118,17 @@ nil e d = ap (λ (z : ℕ). z * down d) (zero-mul (up e)) ∙ zero-mul (down d)
 add-upright : (f : Format) (x y : Float) → T (upright x) → T (upright y) → T (upright (add f x y))
 unfolding add sum
 add-upright f nan y p q = tt
-add-upright f (inf s) nan p q = tt
-add-upright f (inf true) (inf true) p q = tt
-add-upright f (inf true) (inf false) p q = tt
-add-upright f (inf false) (inf true) p q = tt
+add-upright f (inf true) y p q = absurd p
+add-upright f (inf false) nan p q = tt
+add-upright f (inf false) (inf true) p q = absurd q
 add-upright f (inf false) (inf false) p q = tt
-add-upright f (inf s) (fin t n d) p q = tt
+add-upright f (inf false) (fin t n d) p q = tt
 add-upright f (fin true (suc m) e) y p q = absurd p
 add-upright f (fin true zero e) nan p q = tt
-add-upright f (fin true zero e) (inf t) p q = tt
+add-upright f (fin true zero e) (inf t) p q = q
 add-upright f (fin true zero e) (fin true (suc n) d) p q = absurd q
 add-upright f (fin false m e) nan p q = tt
-add-upright f (fin false m e) (inf t) p q = tt
+add-upright f (fin false m e) (inf t) p q = q
 add-upright f (fin false m e) (fin true (suc n) d) p q = absurd q
 add-upright f (fin false m e) (fin false n d) p q = round-upright f (m * up e * down d + n * up d * down e) (down e * down d)
 add-upright f (fin true zero e) (fin true zero d) p q =
@@ -162,6 +162,6 @@ add-upright f (fin false m e) (fin true zero d) p q = go (m * up e * down d) (0 
         case true n = absurd (n tt)
         case false n = round-upright f (a - b) c
 
--- Lemma 2: of two heights that are not deep the midpoint is not below zero
+-- Lemma 1 (b): of two heights that are not deep the midpoint is not below zero
 pub calm-calm : (f : Format) (x y : Float) → T (fits f x) → T (fits f y) → T (not (deep f x)) → T (not (deep f y)) → T (upright (mid f x y))
 calm-calm f x y v w p q = add-upright f (mul f x half) (mul f y half) (half-calm f x v p) (half-calm f y w q)

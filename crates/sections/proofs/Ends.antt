@@ -5,12 +5,12 @@ use native.Mathlib.Nat.{le-refl}
 use native.Mathlib.Omega.{arith}
 use mathlib.Core.Bool.{Bool, true, false, not, _&&_}
 use lib.Dec.{T, ltb}
-use lib.Ieee.{Float, Format}
-use lib.Ieee.Fits.{and-r}
+use lib.Ieee.{Float, Format, fits}
+use Rattle.quintic.specs.declared.numbers.Six.{Six}
 use Rattle.sections.specs.Mid.{mid, deep, upright}
-use Rattle.sections.proofs.Vary.{changes}
-use Rattle.sections.proofs.Halve.{row-fits, row-calm, upright-calm}
-use Rattle.sections.proofs.Tree.{Six, left, right, below, live, fine, bit, step, liveAt, FitSix, m2, m3, m4, m5, HalvedSix, halved}
+use Rattle.sections.specs.Halving.{All, q1, q2, q3, q4, q5, r1, r2, r3, r4, s1, s2, s3, t1, t2, u, left, right, fine, changes, below, live, bit, step, liveAt}
+use Rattle.sections.proofs.Calm.{calm-calm}
+use Rattle.sections.proofs.Halve.{upright-calm, mid-fits, fit-left, fit-right}
 
 -- ---- classes
 pub record Up5 (a b c d e : Float) : Type 0 where
@@ -20,78 +20,44 @@ pub record Up5 (a b c d e : Float) : Type 0 where
   pub u4 : T (upright d)
   pub u5 : T (upright e)
 
-pub record Calm6 (f : Format) (p : Six) : Type 0 where
-  pub k0 : T (not (deep f (p .y0)))
-  pub k1 : T (not (deep f (p .y1)))
-  pub k2 : T (not (deep f (p .y2)))
-  pub k3 : T (not (deep f (p .y3)))
-  pub k4 : T (not (deep f (p .y4)))
-  pub k5 : T (not (deep f (p .y5)))
+-- no height is deep
+abbrev pub Calm : Format → Six → Type 0
+Calm f p = All (λ y. not (deep f y)) p
 
 abbrev LeftUp : Format → Six → Type 0
-LeftUp f p = Up5 (left f p .y1) (left f p .y2) (left f p .y3) (left f p .y4) (left f p .y5)
+LeftUp f p = Up5 (q1 f p) (r1 f p) (s1 f p) (t1 f p) (u f p)
 
 abbrev RightUp : Format → Six → Type 0
-RightUp f p = Up5 (right f p .y0) (right f p .y1) (right f p .y2) (right f p .y3) (right f p .y4)
+RightUp f p = Up5 (u f p) (t2 f p) (s3 f p) (r4 f p) (q5 f p)
 
 pub record Halves (f : Format) (p : Six) : Type 0 where
   pub l : LeftUp f p
   pub r : RightUp f p
 
-pub fit-left : (f : Format) (p : Six) → FitSix f p → HalvedSix f p → FitSix f (left f p)
-fit-left f p w h = record {
-  f0 = w .f0;
-  f1 = row-fits f (p .y0) (mid f (p .y0) (p .y1)) (p .y1) (h .B0);
-  f2 = row-fits f (mid f (p .y0) (p .y1)) (m2 f (p .y0) (p .y1) (p .y2)) (mid f (p .y1) (p .y2)) (h .C0);
-  f3 = row-fits f (m2 f (p .y0) (p .y1) (p .y2)) (m3 f (p .y0) (p .y1) (p .y2) (p .y3)) (m2 f (p .y1) (p .y2) (p .y3)) (h .D0);
-  f4 = row-fits f (m3 f (p .y0) (p .y1) (p .y2) (p .y3)) (m4 f (p .y0) (p .y1) (p .y2) (p .y3) (p .y4)) (m3 f (p .y1) (p .y2) (p .y3) (p .y4)) (h .E0);
-  f5 = row-fits f (m4 f (p .y0) (p .y1) (p .y2) (p .y3) (p .y4)) (m5 f (p .y0) (p .y1) (p .y2) (p .y3) (p .y4) (p .y5)) (m4 f (p .y1) (p .y2) (p .y3) (p .y4) (p .y5)) (h .U);
-}
+-- two heights that are not below zero have such a midpoint
+row : (f : Format) (x y : Float) → T (fits f x) → T (fits f y) → T (upright x) → T (upright y) → T (upright (mid f x y))
+row f x y v w p q = calm-calm f x y v w (upright-calm f x p) (upright-calm f y q)
 
-pub fit-right : (f : Format) (p : Six) → FitSix f p → HalvedSix f p → FitSix f (right f p)
-fit-right f p w h = record {
-  f0 = row-fits f (m4 f (p .y0) (p .y1) (p .y2) (p .y3) (p .y4)) (m5 f (p .y0) (p .y1) (p .y2) (p .y3) (p .y4) (p .y5)) (m4 f (p .y1) (p .y2) (p .y3) (p .y4) (p .y5)) (h .U);
-  f1 = row-fits f (m3 f (p .y1) (p .y2) (p .y3) (p .y4)) (m4 f (p .y1) (p .y2) (p .y3) (p .y4) (p .y5)) (m3 f (p .y2) (p .y3) (p .y4) (p .y5)) (h .E1);
-  f2 = row-fits f (m2 f (p .y2) (p .y3) (p .y4)) (m3 f (p .y2) (p .y3) (p .y4) (p .y5)) (m2 f (p .y3) (p .y4) (p .y5)) (h .D2);
-  f3 = row-fits f (mid f (p .y3) (p .y4)) (m2 f (p .y3) (p .y4) (p .y5)) (mid f (p .y4) (p .y5)) (h .C3);
-  f4 = row-fits f (p .y4) (mid f (p .y4) (p .y5)) (p .y5) (h .B4);
-  f5 = w .f5;
-}
-
-calm-halves : (f : Format) (p : Six) → FitSix f p → HalvedSix f p → Calm6 f p → Halves f p
-calm-halves f p w h c =
-    let q01 : T (upright (mid f (p .y0) (p .y1))) = row-calm f (p .y0) (mid f (p .y0) (p .y1)) (p .y1) (w .f0) (w .f1) (c .k0) (c .k1) (h .B0) in
-    let g01 = row-fits f (p .y0) (mid f (p .y0) (p .y1)) (p .y1) (h .B0) in
-    let q11 : T (upright (mid f (p .y1) (p .y2))) = row-calm f (p .y1) (mid f (p .y1) (p .y2)) (p .y2) (w .f1) (w .f2) (c .k1) (c .k2) (h .B1) in
-    let g11 = row-fits f (p .y1) (mid f (p .y1) (p .y2)) (p .y2) (h .B1) in
-    let q21 : T (upright (mid f (p .y2) (p .y3))) = row-calm f (p .y2) (mid f (p .y2) (p .y3)) (p .y3) (w .f2) (w .f3) (c .k2) (c .k3) (h .B2) in
-    let g21 = row-fits f (p .y2) (mid f (p .y2) (p .y3)) (p .y3) (h .B2) in
-    let q31 : T (upright (mid f (p .y3) (p .y4))) = row-calm f (p .y3) (mid f (p .y3) (p .y4)) (p .y4) (w .f3) (w .f4) (c .k3) (c .k4) (h .B3) in
-    let g31 = row-fits f (p .y3) (mid f (p .y3) (p .y4)) (p .y4) (h .B3) in
-    let q41 : T (upright (mid f (p .y4) (p .y5))) = row-calm f (p .y4) (mid f (p .y4) (p .y5)) (p .y5) (w .f4) (w .f5) (c .k4) (c .k5) (h .B4) in
-    let g41 = row-fits f (p .y4) (mid f (p .y4) (p .y5)) (p .y5) (h .B4) in
-    let q02 : T (upright (m2 f (p .y0) (p .y1) (p .y2))) = row-calm f (mid f (p .y0) (p .y1)) (m2 f (p .y0) (p .y1) (p .y2)) (mid f (p .y1) (p .y2)) g01 g11 (upright-calm f (mid f (p .y0) (p .y1)) q01) (upright-calm f (mid f (p .y1) (p .y2)) q11) (h .C0) in
-    let g02 = row-fits f (mid f (p .y0) (p .y1)) (m2 f (p .y0) (p .y1) (p .y2)) (mid f (p .y1) (p .y2)) (h .C0) in
-    let q12 : T (upright (m2 f (p .y1) (p .y2) (p .y3))) = row-calm f (mid f (p .y1) (p .y2)) (m2 f (p .y1) (p .y2) (p .y3)) (mid f (p .y2) (p .y3)) g11 g21 (upright-calm f (mid f (p .y1) (p .y2)) q11) (upright-calm f (mid f (p .y2) (p .y3)) q21) (h .C1) in
-    let g12 = row-fits f (mid f (p .y1) (p .y2)) (m2 f (p .y1) (p .y2) (p .y3)) (mid f (p .y2) (p .y3)) (h .C1) in
-    let q22 : T (upright (m2 f (p .y2) (p .y3) (p .y4))) = row-calm f (mid f (p .y2) (p .y3)) (m2 f (p .y2) (p .y3) (p .y4)) (mid f (p .y3) (p .y4)) g21 g31 (upright-calm f (mid f (p .y2) (p .y3)) q21) (upright-calm f (mid f (p .y3) (p .y4)) q31) (h .C2) in
-    let g22 = row-fits f (mid f (p .y2) (p .y3)) (m2 f (p .y2) (p .y3) (p .y4)) (mid f (p .y3) (p .y4)) (h .C2) in
-    let q32 : T (upright (m2 f (p .y3) (p .y4) (p .y5))) = row-calm f (mid f (p .y3) (p .y4)) (m2 f (p .y3) (p .y4) (p .y5)) (mid f (p .y4) (p .y5)) g31 g41 (upright-calm f (mid f (p .y3) (p .y4)) q31) (upright-calm f (mid f (p .y4) (p .y5)) q41) (h .C3) in
-    let g32 = row-fits f (mid f (p .y3) (p .y4)) (m2 f (p .y3) (p .y4) (p .y5)) (mid f (p .y4) (p .y5)) (h .C3) in
-    let q03 : T (upright (m3 f (p .y0) (p .y1) (p .y2) (p .y3))) = row-calm f (m2 f (p .y0) (p .y1) (p .y2)) (m3 f (p .y0) (p .y1) (p .y2) (p .y3)) (m2 f (p .y1) (p .y2) (p .y3)) g02 g12 (upright-calm f (m2 f (p .y0) (p .y1) (p .y2)) q02) (upright-calm f (m2 f (p .y1) (p .y2) (p .y3)) q12) (h .D0) in
-    let g03 = row-fits f (m2 f (p .y0) (p .y1) (p .y2)) (m3 f (p .y0) (p .y1) (p .y2) (p .y3)) (m2 f (p .y1) (p .y2) (p .y3)) (h .D0) in
-    let q13 : T (upright (m3 f (p .y1) (p .y2) (p .y3) (p .y4))) = row-calm f (m2 f (p .y1) (p .y2) (p .y3)) (m3 f (p .y1) (p .y2) (p .y3) (p .y4)) (m2 f (p .y2) (p .y3) (p .y4)) g12 g22 (upright-calm f (m2 f (p .y1) (p .y2) (p .y3)) q12) (upright-calm f (m2 f (p .y2) (p .y3) (p .y4)) q22) (h .D1) in
-    let g13 = row-fits f (m2 f (p .y1) (p .y2) (p .y3)) (m3 f (p .y1) (p .y2) (p .y3) (p .y4)) (m2 f (p .y2) (p .y3) (p .y4)) (h .D1) in
-    let q23 : T (upright (m3 f (p .y2) (p .y3) (p .y4) (p .y5))) = row-calm f (m2 f (p .y2) (p .y3) (p .y4)) (m3 f (p .y2) (p .y3) (p .y4) (p .y5)) (m2 f (p .y3) (p .y4) (p .y5)) g22 g32 (upright-calm f (m2 f (p .y2) (p .y3) (p .y4)) q22) (upright-calm f (m2 f (p .y3) (p .y4) (p .y5)) q32) (h .D2) in
-    let g23 = row-fits f (m2 f (p .y2) (p .y3) (p .y4)) (m3 f (p .y2) (p .y3) (p .y4) (p .y5)) (m2 f (p .y3) (p .y4) (p .y5)) (h .D2) in
-    let q04 : T (upright (m4 f (p .y0) (p .y1) (p .y2) (p .y3) (p .y4))) = row-calm f (m3 f (p .y0) (p .y1) (p .y2) (p .y3)) (m4 f (p .y0) (p .y1) (p .y2) (p .y3) (p .y4)) (m3 f (p .y1) (p .y2) (p .y3) (p .y4)) g03 g13 (upright-calm f (m3 f (p .y0) (p .y1) (p .y2) (p .y3)) q03) (upright-calm f (m3 f (p .y1) (p .y2) (p .y3) (p .y4)) q13) (h .E0) in
-    let g04 = row-fits f (m3 f (p .y0) (p .y1) (p .y2) (p .y3)) (m4 f (p .y0) (p .y1) (p .y2) (p .y3) (p .y4)) (m3 f (p .y1) (p .y2) (p .y3) (p .y4)) (h .E0) in
-    let q14 : T (upright (m4 f (p .y1) (p .y2) (p .y3) (p .y4) (p .y5))) = row-calm f (m3 f (p .y1) (p .y2) (p .y3) (p .y4)) (m4 f (p .y1) (p .y2) (p .y3) (p .y4) (p .y5)) (m3 f (p .y2) (p .y3) (p .y4) (p .y5)) g13 g23 (upright-calm f (m3 f (p .y1) (p .y2) (p .y3) (p .y4)) q13) (upright-calm f (m3 f (p .y2) (p .y3) (p .y4) (p .y5)) q23) (h .E1) in
-    let g14 = row-fits f (m3 f (p .y1) (p .y2) (p .y3) (p .y4)) (m4 f (p .y1) (p .y2) (p .y3) (p .y4) (p .y5)) (m3 f (p .y2) (p .y3) (p .y4) (p .y5)) (h .E1) in
-    let q05 : T (upright (m5 f (p .y0) (p .y1) (p .y2) (p .y3) (p .y4) (p .y5))) = row-calm f (m4 f (p .y0) (p .y1) (p .y2) (p .y3) (p .y4)) (m5 f (p .y0) (p .y1) (p .y2) (p .y3) (p .y4) (p .y5)) (m4 f (p .y1) (p .y2) (p .y3) (p .y4) (p .y5)) g04 g14 (upright-calm f (m4 f (p .y0) (p .y1) (p .y2) (p .y3) (p .y4)) q04) (upright-calm f (m4 f (p .y1) (p .y2) (p .y3) (p .y4) (p .y5)) q14) (h .U) in
+calm-halves : (f : Format) (p : Six) → All (fits f) p → Calm f p → Halves f p
+calm-halves f p w c =
+    let q1' : T (upright (q1 f p)) = calm-calm f (p .y1) (p .y2) (w .h1) (w .h2) (c .h1) (c .h2) in
+    let q2' : T (upright (q2 f p)) = calm-calm f (p .y2) (p .y3) (w .h2) (w .h3) (c .h2) (c .h3) in
+    let q3' : T (upright (q3 f p)) = calm-calm f (p .y3) (p .y4) (w .h3) (w .h4) (c .h3) (c .h4) in
+    let q4' : T (upright (q4 f p)) = calm-calm f (p .y4) (p .y5) (w .h4) (w .h5) (c .h4) (c .h5) in
+    let q5' : T (upright (q5 f p)) = calm-calm f (p .y5) (p .y6) (w .h5) (w .h6) (c .h5) (c .h6) in
+    let r1' : T (upright (r1 f p)) = row f (q1 f p) (q2 f p) (mid-fits f (p .y1) (p .y2)) (mid-fits f (p .y2) (p .y3)) q1' q2' in
+    let r2' : T (upright (r2 f p)) = row f (q2 f p) (q3 f p) (mid-fits f (p .y2) (p .y3)) (mid-fits f (p .y3) (p .y4)) q2' q3' in
+    let r3' : T (upright (r3 f p)) = row f (q3 f p) (q4 f p) (mid-fits f (p .y3) (p .y4)) (mid-fits f (p .y4) (p .y5)) q3' q4' in
+    let r4' : T (upright (r4 f p)) = row f (q4 f p) (q5 f p) (mid-fits f (p .y4) (p .y5)) (mid-fits f (p .y5) (p .y6)) q4' q5' in
+    let s1' : T (upright (s1 f p)) = row f (r1 f p) (r2 f p) (mid-fits f (q1 f p) (q2 f p)) (mid-fits f (q2 f p) (q3 f p)) r1' r2' in
+    let s2' : T (upright (s2 f p)) = row f (r2 f p) (r3 f p) (mid-fits f (q2 f p) (q3 f p)) (mid-fits f (q3 f p) (q4 f p)) r2' r3' in
+    let s3' : T (upright (s3 f p)) = row f (r3 f p) (r4 f p) (mid-fits f (q3 f p) (q4 f p)) (mid-fits f (q4 f p) (q5 f p)) r3' r4' in
+    let t1' : T (upright (t1 f p)) = row f (s1 f p) (s2 f p) (mid-fits f (r1 f p) (r2 f p)) (mid-fits f (r2 f p) (r3 f p)) s1' s2' in
+    let t2' : T (upright (t2 f p)) = row f (s2 f p) (s3 f p) (mid-fits f (r2 f p) (r3 f p)) (mid-fits f (r3 f p) (r4 f p)) s2' s3' in
+    let u' : T (upright (u f p)) = row f (t1 f p) (t2 f p) (mid-fits f (s1 f p) (s2 f p)) (mid-fits f (s2 f p) (s3 f p)) t1' t2' in
     record {
-      l = record { u1 = q01; u2 = q02; u3 = q03; u4 = q04; u5 = q05 };
-      r = record { u1 = q05; u2 = q14; u3 = q23; u4 = q32; u5 = q41 };
+      l = record { u1 = q1'; u2 = r1'; u3 = s1'; u4 = t1'; u5 = u' };
+      r = record { u1 = u'; u2 = t2'; u3 = s3'; u4 = r4'; u5 = q5' };
     }
 
 nn : (b : Bool) → T b → T (not (not b))
@@ -147,39 +113,36 @@ only-right : (x y n : ℕ) → x ≡ 0 → y ≤ n → x + y ≤ n
 only-right x y n h k = omega arith
 
 -- ---- one end that may be below zero
-upL : (f : Format) (d : ℕ) (p : Six) → FitSix f p → T (not (deep f (p .y0))) → Up5 (p .y1) (p .y2) (p .y3) (p .y4) (p .y5) → liveAt f d p ≤ bit (below (p .y0))
+upL : (f : Format) (d : ℕ) (p : Six) → All (fits f) p → T (not (deep f (p .y1))) → Up5 (p .y2) (p .y3) (p .y4) (p .y5) (p .y6) → liveAt f d p ≤ bit (below (p .y1))
 unfolding liveAt
-upL f zero p w k v = first6 (below (p .y0)) (below (p .y1)) (below (p .y2)) (below (p .y3)) (below (p .y4)) (below (p .y5)) (nn (upright (p .y1)) (v .u1)) (nn (upright (p .y2)) (v .u2)) (nn (upright (p .y3)) (v .u3)) (nn (upright (p .y4)) (v .u4)) (nn (upright (p .y5)) (v .u5))
+upL f zero p w k v = first6 (below (p .y1)) (below (p .y2)) (below (p .y3)) (below (p .y4)) (below (p .y5)) (below (p .y6)) (nn (upright (p .y2)) (v .u1)) (nn (upright (p .y3)) (v .u2)) (nn (upright (p .y4)) (v .u3)) (nn (upright (p .y5)) (v .u4)) (nn (upright (p .y6)) (v .u5))
 upL f (suc d) p w k v =
-    stepB (live p && fine f p) (liveAt f d (left f p)) (liveAt f d (right f p)) (bit (below (p .y0))) (λ (t : T (live p && fine f p)).
-    let h = halved f p (and-r (live p) (fine f p) t) in
-    let c : Calm6 f p = record { k0 = k; k1 = upright-calm f (p .y1) (v .u1); k2 = upright-calm f (p .y2) (v .u2); k3 = upright-calm f (p .y3) (v .u3); k4 = upright-calm f (p .y4) (v .u4); k5 = upright-calm f (p .y5) (v .u5) } in
-    let q = calm-halves f p w h c in
-    only-left (liveAt f d (left f p)) (liveAt f d (right f p)) (bit (below (p .y0))) (upL f d (left f p) (fit-left f p w h) k (q .l))
-    (deadAt f d (right f p) (flat6 (below (right f p .y0)) (below (right f p .y1)) (below (right f p .y2)) (below (right f p .y3)) (below (right f p .y4)) (below (p .y5))
-    (nn (upright (right f p .y0)) (q .r .u1)) (nn (upright (right f p .y1)) (q .r .u2)) (nn (upright (right f p .y2)) (q .r .u3)) (nn (upright (right f p .y3)) (q .r .u4)) (nn (upright (right f p .y4)) (q .r .u5)) (nn (upright (p .y5)) (v .u5)))))
+    stepB (live p && fine f p) (liveAt f d (left f p)) (liveAt f d (right f p)) (bit (below (p .y1))) (λ (t : T (live p && fine f p)).
+    let c : Calm f p = record { h1 = k; h2 = upright-calm f (p .y2) (v .u1); h3 = upright-calm f (p .y3) (v .u2); h4 = upright-calm f (p .y4) (v .u3); h5 = upright-calm f (p .y5) (v .u4); h6 = upright-calm f (p .y6) (v .u5) } in
+    let q = calm-halves f p w c in
+    only-left (liveAt f d (left f p)) (liveAt f d (right f p)) (bit (below (p .y1))) (upL f d (left f p) (fit-left f p w) k (q .l))
+    (deadAt f d (right f p) (flat6 (below (right f p .y1)) (below (right f p .y2)) (below (right f p .y3)) (below (right f p .y4)) (below (right f p .y5)) (below (p .y6))
+    (nn (upright (right f p .y1)) (q .r .u1)) (nn (upright (right f p .y2)) (q .r .u2)) (nn (upright (right f p .y3)) (q .r .u3)) (nn (upright (right f p .y4)) (q .r .u4)) (nn (upright (right f p .y5)) (q .r .u5)) (nn (upright (p .y6)) (v .u5)))))
 
-upR : (f : Format) (d : ℕ) (p : Six) → FitSix f p → T (not (deep f (p .y5))) → Up5 (p .y0) (p .y1) (p .y2) (p .y3) (p .y4) → liveAt f d p ≤ bit (below (p .y5))
+upR : (f : Format) (d : ℕ) (p : Six) → All (fits f) p → T (not (deep f (p .y6))) → Up5 (p .y1) (p .y2) (p .y3) (p .y4) (p .y5) → liveAt f d p ≤ bit (below (p .y6))
 unfolding liveAt
-upR f zero p w k v = last6 (below (p .y0)) (below (p .y1)) (below (p .y2)) (below (p .y3)) (below (p .y4)) (below (p .y5)) (nn (upright (p .y0)) (v .u1)) (nn (upright (p .y1)) (v .u2)) (nn (upright (p .y2)) (v .u3)) (nn (upright (p .y3)) (v .u4)) (nn (upright (p .y4)) (v .u5))
+upR f zero p w k v = last6 (below (p .y1)) (below (p .y2)) (below (p .y3)) (below (p .y4)) (below (p .y5)) (below (p .y6)) (nn (upright (p .y1)) (v .u1)) (nn (upright (p .y2)) (v .u2)) (nn (upright (p .y3)) (v .u3)) (nn (upright (p .y4)) (v .u4)) (nn (upright (p .y5)) (v .u5))
 upR f (suc d) p w k v =
-    stepB (live p && fine f p) (liveAt f d (left f p)) (liveAt f d (right f p)) (bit (below (p .y5))) (λ (t : T (live p && fine f p)).
-    let h = halved f p (and-r (live p) (fine f p) t) in
-    let c : Calm6 f p = record { k0 = upright-calm f (p .y0) (v .u1); k1 = upright-calm f (p .y1) (v .u2); k2 = upright-calm f (p .y2) (v .u3); k3 = upright-calm f (p .y3) (v .u4); k4 = upright-calm f (p .y4) (v .u5); k5 = k } in
-    let q = calm-halves f p w h c in
-    only-right (liveAt f d (left f p)) (liveAt f d (right f p)) (bit (below (p .y5)))
-    (deadAt f d (left f p) (flat6 (below (p .y0)) (below (left f p .y1)) (below (left f p .y2)) (below (left f p .y3)) (below (left f p .y4)) (below (left f p .y5))
-    (nn (upright (p .y0)) (v .u1)) (nn (upright (left f p .y1)) (q .l .u1)) (nn (upright (left f p .y2)) (q .l .u2)) (nn (upright (left f p .y3)) (q .l .u3)) (nn (upright (left f p .y4)) (q .l .u4)) (nn (upright (left f p .y5)) (q .l .u5))))
-    (upR f d (right f p) (fit-right f p w h) k (q .r)))
+    stepB (live p && fine f p) (liveAt f d (left f p)) (liveAt f d (right f p)) (bit (below (p .y6))) (λ (t : T (live p && fine f p)).
+    let c : Calm f p = record { h1 = upright-calm f (p .y1) (v .u1); h2 = upright-calm f (p .y2) (v .u2); h3 = upright-calm f (p .y3) (v .u3); h4 = upright-calm f (p .y4) (v .u4); h5 = upright-calm f (p .y5) (v .u5); h6 = k } in
+    let q = calm-halves f p w c in
+    only-right (liveAt f d (left f p)) (liveAt f d (right f p)) (bit (below (p .y6)))
+    (deadAt f d (left f p) (flat6 (below (p .y1)) (below (left f p .y2)) (below (left f p .y3)) (below (left f p .y4)) (below (left f p .y5)) (below (left f p .y6))
+    (nn (upright (p .y1)) (v .u1)) (nn (upright (left f p .y2)) (q .l .u1)) (nn (upright (left f p .y3)) (q .l .u2)) (nn (upright (left f p .y4)) (q .l .u3)) (nn (upright (left f p .y5)) (q .l .u4)) (nn (upright (left f p .y6)) (q .l .u5))))
+    (upR f d (right f p) (fit-right f p w) k (q .r)))
 
 add-le : (x y m n : ℕ) → x ≤ m → y ≤ n → x + y ≤ m + n
 add-le x y m n h k = omega arith
 
 -- Lemma 3: no deep height
-pub calm-ends : (f : Format) (d : ℕ) (p : Six) → FitSix f p → Calm6 f p → liveAt f (suc d) p ≤ bit (below (p .y0)) + bit (below (p .y5))
+pub calm-ends : (f : Format) (d : ℕ) (p : Six) → All (fits f) p → Calm f p → liveAt f (suc d) p ≤ bit (below (p .y1)) + bit (below (p .y6))
 unfolding liveAt
 calm-ends f d p w c =
-    stepB (live p && fine f p) (liveAt f d (left f p)) (liveAt f d (right f p)) (bit (below (p .y0)) + bit (below (p .y5))) (λ (t : T (live p && fine f p)).
-    let h = halved f p (and-r (live p) (fine f p) t) in
-    let q = calm-halves f p w h c in
-    add-le (liveAt f d (left f p)) (liveAt f d (right f p)) (bit (below (p .y0))) (bit (below (p .y5))) (upL f d (left f p) (fit-left f p w h) (c .k0) (q .l)) (upR f d (right f p) (fit-right f p w h) (c .k5) (q .r)))
+    stepB (live p && fine f p) (liveAt f d (left f p)) (liveAt f d (right f p)) (bit (below (p .y1)) + bit (below (p .y6))) (λ (t : T (live p && fine f p)).
+    let q = calm-halves f p w c in
+    add-le (liveAt f d (left f p)) (liveAt f d (right f p)) (bit (below (p .y1))) (bit (below (p .y6))) (upL f d (left f p) (fit-left f p w) (c .h1) (q .l)) (upR f d (right f p) (fit-right f p w) (c .h6) (q .r)))

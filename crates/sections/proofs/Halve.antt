@@ -1,5 +1,5 @@
--- Halving six heights never adds a change between deep and not deep. Assumes nothing.
-use mathlib.Core.Path.{_≡_, sym, ap, _∙_, subst}
+-- Halving six heights adds no change between deep and not deep, and none of sign (Lemma 2); where the last midpoint is finite, all are. Assumes nothing.
+use mathlib.Core.Path.{_≡_, ap, _∙_}
 use Prim.Native.Nat.{ℕ, zero, suc, _+_, _*_, _^_, _≤_, _<_}
 use native.Mathlib.Nat.{zero-mul}
 use native.Mathlib.Omega.{arith}
@@ -9,18 +9,20 @@ use lib.Ieee.{Float, nan, inf, fin, Format, low, up, down, mul, fits}
 use lib.Ieee.Fits.{down-pos, add-fits}
 use lib.Ieee.Scale.{finite}
 use lib.Ieee.Bits.{is-true, is-false}
+use Rattle.quintic.specs.declared.numbers.Six.{Six}
 use Rattle.sections.specs.Mid.{half, mid, deep, upright, sign}
-use Rattle.sections.proofs.Signs.{deep-deep}
+use Rattle.sections.specs.Halving.{All, q1, q2, q3, q4, q5, r1, r2, r3, r4, s1, s2, s3, t1, t2, u, left, right, fine, vary}
+use Rattle.sections.proofs.Signs.{deep-deep, mid-back}
 use Rattle.sections.proofs.Calm.{calm-calm}
 use Rattle.sections.proofs.Sign.{sign-between}
-use Rattle.sections.proofs.Vary.{Between, between, changes, halving}
+use Rattle.sections.proofs.Vary.{Between, between, halving}
 
 none : (d z : ℕ) → 0 < d → 2 * d ≤ z → z ≡ 0 → ⊥
 none d z h k e = omega arith
 
 pub upright-calm : (f : Format) (z : Float) → T (upright z) → T (not (deep f z))
 upright-calm f nan t = tt
-upright-calm f (inf s) t = tt
+upright-calm f (inf s) t = t
 upright-calm f (fin false m e) t = tt
 upright-calm f (fin true (suc m) e) t = absurd t
 upright-calm f (fin true zero e) t =
@@ -40,90 +42,108 @@ deep-between f x y v w t = go (deep f x) (deep f y) (deep-deep f x y) (calm-calm
 pub mid-fits : (f : Format) (x y : Float) → T (fits f (mid f x y))
 mid-fits f x y = add-fits f (mul f x half) (mul f y half)
 
--- the rows of midpoints, and that each is finite
-abbrev pub Row : Format → Float → Float → Float → Type 0
-Row f x m y = (m ≡ mid f x y) × T (finite m)
+-- all midpoints are finite
+pub record Rows (f : Format) (p : Six) : Type 0 where
+  pub q1-fine : T (finite (q1 f p))
+  pub q2-fine : T (finite (q2 f p))
+  pub q3-fine : T (finite (q3 f p))
+  pub q4-fine : T (finite (q4 f p))
+  pub q5-fine : T (finite (q5 f p))
+  pub r1-fine : T (finite (r1 f p))
+  pub r2-fine : T (finite (r2 f p))
+  pub r3-fine : T (finite (r3 f p))
+  pub r4-fine : T (finite (r4 f p))
+  pub s1-fine : T (finite (s1 f p))
+  pub s2-fine : T (finite (s2 f p))
+  pub s3-fine : T (finite (s3 f p))
+  pub t1-fine : T (finite (t1 f p))
+  pub t2-fine : T (finite (t2 f p))
+  pub u-fine : T (finite (u f p))
 
-pub record Halved (f : Format) (a0 a1 a2 a3 a4 a5 b0 b1 b2 b3 b4 c0 c1 c2 c3 d0 d1 d2 e0 e1 u : Float) : Type 0 where
-  pub B0 : Row f a0 b0 a1
-  pub B1 : Row f a1 b1 a2
-  pub B2 : Row f a2 b2 a3
-  pub B3 : Row f a3 b3 a4
-  pub B4 : Row f a4 b4 a5
-  pub C0 : Row f b0 c0 b1
-  pub C1 : Row f b1 c1 b2
-  pub C2 : Row f b2 c2 b3
-  pub C3 : Row f b3 c3 b4
-  pub D0 : Row f c0 d0 c1
-  pub D1 : Row f c1 d1 c2
-  pub D2 : Row f c2 d2 c3
-  pub E0 : Row f d0 e0 d1
-  pub E1 : Row f d1 e1 d2
-  pub U : Row f e0 u e1
+pub rows : (f : Format) (p : Six) → T (fine f p) → Rows f p
+rows f p h =
+    let t = mid-back f (t1 f p) (t2 f p) h in
+    let s = mid-back f (s1 f p) (s2 f p) (t .0) in
+    let s' = mid-back f (s2 f p) (s3 f p) (t .1) in
+    let r = mid-back f (r1 f p) (r2 f p) (s .0) in
+    let r' = mid-back f (r2 f p) (r3 f p) (s .1) in
+    let r'' = mid-back f (r3 f p) (r4 f p) (s' .1) in
+    let q = mid-back f (q1 f p) (q2 f p) (r .0) in
+    let q' = mid-back f (q2 f p) (q3 f p) (r .1) in
+    let q'' = mid-back f (q3 f p) (q4 f p) (r' .1) in
+    let q''' = mid-back f (q4 f p) (q5 f p) (r'' .1) in
+    record {
+      q1-fine = q .0;
+      q2-fine = q .1;
+      q3-fine = q' .1;
+      q4-fine = q'' .1;
+      q5-fine = q''' .1;
+      r1-fine = r .0;
+      r2-fine = r .1;
+      r3-fine = r' .1;
+      r4-fine = r'' .1;
+      s1-fine = s .0;
+      s2-fine = s .1;
+      s3-fine = s' .1;
+      t1-fine = t .0;
+      t2-fine = t .1;
+      u-fine = h;
+    }
 
-pub row-fits : (f : Format) (x m y : Float) → Row f x m y → T (fits f m)
-row-fits f x m y r = subst (λ (z : Float). T (fits f z)) (sym (r .0)) (mid-fits f x y)
+pub finite-six : (f : Format) (p : Six) → Rows f p → All finite p
+finite-six f p h =
+    let b = mid-back f (p .y1) (p .y2) (h .q1-fine) in
+    let b' = mid-back f (p .y3) (p .y4) (h .q3-fine) in
+    let b'' = mid-back f (p .y5) (p .y6) (h .q5-fine) in
+    record { h1 = b .0; h2 = b .1; h3 = b' .0; h4 = b' .1; h5 = b'' .0; h6 = b'' .1 }
 
-row-between : (f : Format) (x m y : Float) → T (fits f x) → T (fits f y) → Row f x m y → Between (deep f x) (deep f m) (deep f y)
-row-between f x m y v w r =
-    subst (λ (z : Float). Between (deep f x) (deep f z) (deep f y)) (sym (r .0)) (deep-between f x y v w (subst (λ (z : Float). T (finite z)) (r .0) (r .1)))
+-- the heights of the halves are of the format
+module _ (f : Format) (p : Six) (w : All (fits f) p) where
+  pub fit-left : All (fits f) (left f p)
+  fit-left = record {
+    h1 = w .h1;
+    h2 = mid-fits f (p .y1) (p .y2);
+    h3 = mid-fits f (q1 f p) (q2 f p);
+    h4 = mid-fits f (r1 f p) (r2 f p);
+    h5 = mid-fits f (s1 f p) (s2 f p);
+    h6 = mid-fits f (t1 f p) (t2 f p);
+  }
 
-pub record Fit6 (f : Format) (a0 a1 a2 a3 a4 a5 : Float) : Type 0 where
-  pub f0 : T (fits f a0)
-  pub f1 : T (fits f a1)
-  pub f2 : T (fits f a2)
-  pub f3 : T (fits f a3)
-  pub f4 : T (fits f a4)
-  pub f5 : T (fits f a5)
+  pub fit-right : All (fits f) (right f p)
+  fit-right = record {
+    h1 = mid-fits f (t1 f p) (t2 f p);
+    h2 = mid-fits f (s2 f p) (s3 f p);
+    h3 = mid-fits f (r3 f p) (r4 f p);
+    h4 = mid-fits f (q4 f p) (q5 f p);
+    h5 = mid-fits f (p .y5) (p .y6);
+    h6 = w .h6;
+  }
 
--- a class that a midpoint takes over: V(left) + V(right) ≤ V(whole)
-pub class-halving : (f : Format) (cls : Float → Bool) (law : (x m y : Float) → T (fits f x) → T (fits f y) → Row f x m y → Between (cls x) (cls m) (cls y)) (a0 a1 a2 a3 a4 a5 b0 b1 b2 b3 b4 c0 c1 c2 c3 d0 d1 d2 e0 e1 u : Float)
-    → Fit6 f a0 a1 a2 a3 a4 a5 → Halved f a0 a1 a2 a3 a4 a5 b0 b1 b2 b3 b4 c0 c1 c2 c3 d0 d1 d2 e0 e1 u
-    → changes (cls a0) (cls b0) (cls c0) (cls d0) (cls e0) (cls u) + changes (cls u) (cls e1) (cls d2) (cls c3) (cls b4) (cls a5)
-    ≤ changes (cls a0) (cls a1) (cls a2) (cls a3) (cls a4) (cls a5)
-class-halving f cls law a0 a1 a2 a3 a4 a5 b0 b1 b2 b3 b4 c0 c1 c2 c3 d0 d1 d2 e0 e1 u w h =
-    let g0 = row-fits f a0 b0 a1 (h .B0) in
-    let g1 = row-fits f a1 b1 a2 (h .B1) in
-    let g2 = row-fits f a2 b2 a3 (h .B2) in
-    let g3 = row-fits f a3 b3 a4 (h .B3) in
-    let g4 = row-fits f a4 b4 a5 (h .B4) in
-    let k0 = row-fits f b0 c0 b1 (h .C0) in
-    let k1 = row-fits f b1 c1 b2 (h .C1) in
-    let k2 = row-fits f b2 c2 b3 (h .C2) in
-    let k3 = row-fits f b3 c3 b4 (h .C3) in
-    let l0 = row-fits f c0 d0 c1 (h .D0) in
-    let l1 = row-fits f c1 d1 c2 (h .D1) in
-    let l2 = row-fits f c2 d2 c3 (h .D2) in
-    let n0 = row-fits f d0 e0 d1 (h .E0) in
-    let n1 = row-fits f d1 e1 d2 (h .E1) in
-    halving (cls a0) (cls a1) (cls a2) (cls a3) (cls a4) (cls a5) (cls b0) (cls b1) (cls b2) (cls b3) (cls b4)
-    (cls c0) (cls c1) (cls c2) (cls c3) (cls d0) (cls d1) (cls d2) (cls e0) (cls e1) (cls u)
-    (record {
-      B0 = law a0 b0 a1 (w .f0) (w .f1) (h .B0);
-      B1 = law a1 b1 a2 (w .f1) (w .f2) (h .B1);
-      B2 = law a2 b2 a3 (w .f2) (w .f3) (h .B2);
-      B3 = law a3 b3 a4 (w .f3) (w .f4) (h .B3);
-      B4 = law a4 b4 a5 (w .f4) (w .f5) (h .B4);
-      C0 = law b0 c0 b1 g0 g1 (h .C0);
-      C1 = law b1 c1 b2 g1 g2 (h .C1);
-      C2 = law b2 c2 b3 g2 g3 (h .C2);
-      C3 = law b3 c3 b4 g3 g4 (h .C3);
-      D0 = law c0 d0 c1 k0 k1 (h .D0);
-      D1 = law c1 d1 c2 k1 k2 (h .D1);
-      D2 = law c2 d2 c3 k2 k3 (h .D2);
-      E0 = law d0 e0 d1 l0 l1 (h .E0);
-      E1 = law d1 e1 d2 l1 l2 (h .E1);
-      U = law e0 u e1 n0 n1 (h .U);
-    })
+  -- a class that a midpoint takes over: V(left) + V(right) ≤ V(whole)
+  class-halving : (c : Float → Bool) → ((x y : Float) → T (fits f x) → T (fits f y) → T (finite (mid f x y)) → Between (c x) (c (mid f x y)) (c y))
+      → Rows f p → vary c (left f p) + vary c (right f p) ≤ vary c p
+  class-halving c law h =
+      halving (c (p .y1)) (c (p .y2)) (c (p .y3)) (c (p .y4)) (c (p .y5)) (c (p .y6)) (c (q1 f p)) (c (q2 f p)) (c (q3 f p)) (c (q4 f p)) (c (q5 f p)) (c (r1 f p)) (c (r2 f p)) (c (r3 f p)) (c (r4 f p)) (c (s1 f p)) (c (s2 f p)) (c (s3 f p)) (c (t1 f p)) (c (t2 f p)) (c (u f p))
+      (record {
+        B0 = law (p .y1) (p .y2) (w .h1) (w .h2) (h .q1-fine);
+        B1 = law (p .y2) (p .y3) (w .h2) (w .h3) (h .q2-fine);
+        B2 = law (p .y3) (p .y4) (w .h3) (w .h4) (h .q3-fine);
+        B3 = law (p .y4) (p .y5) (w .h4) (w .h5) (h .q4-fine);
+        B4 = law (p .y5) (p .y6) (w .h5) (w .h6) (h .q5-fine);
+        C0 = law (q1 f p) (q2 f p) (mid-fits f (p .y1) (p .y2)) (mid-fits f (p .y2) (p .y3)) (h .r1-fine);
+        C1 = law (q2 f p) (q3 f p) (mid-fits f (p .y2) (p .y3)) (mid-fits f (p .y3) (p .y4)) (h .r2-fine);
+        C2 = law (q3 f p) (q4 f p) (mid-fits f (p .y3) (p .y4)) (mid-fits f (p .y4) (p .y5)) (h .r3-fine);
+        C3 = law (q4 f p) (q5 f p) (mid-fits f (p .y4) (p .y5)) (mid-fits f (p .y5) (p .y6)) (h .r4-fine);
+        D0 = law (r1 f p) (r2 f p) (mid-fits f (q1 f p) (q2 f p)) (mid-fits f (q2 f p) (q3 f p)) (h .s1-fine);
+        D1 = law (r2 f p) (r3 f p) (mid-fits f (q2 f p) (q3 f p)) (mid-fits f (q3 f p) (q4 f p)) (h .s2-fine);
+        D2 = law (r3 f p) (r4 f p) (mid-fits f (q3 f p) (q4 f p)) (mid-fits f (q4 f p) (q5 f p)) (h .s3-fine);
+        E0 = law (s1 f p) (s2 f p) (mid-fits f (r1 f p) (r2 f p)) (mid-fits f (r2 f p) (r3 f p)) (h .t1-fine);
+        E1 = law (s2 f p) (s3 f p) (mid-fits f (r2 f p) (r3 f p)) (mid-fits f (r3 f p) (r4 f p)) (h .t2-fine);
+        U = law (t1 f p) (t2 f p) (mid-fits f (s1 f p) (s2 f p)) (mid-fits f (s2 f p) (s3 f p)) (h .u-fine);
+      })
 
--- the two classes
-pub deep-law : (f : Format) (x m y : Float) → T (fits f x) → T (fits f y) → Row f x m y → Between (deep f x) (deep f m) (deep f y)
-deep-law f x m y v w r = row-between f x m y v w r
+  pub deep-down : Rows f p → vary (deep f) (left f p) + vary (deep f) (right f p) ≤ vary (deep f) p
+  deep-down h = class-halving (deep f) (deep-between f) h
 
-pub sign-law : (f : Format) (x m y : Float) → T (fits f x) → T (fits f y) → Row f x m y → Between (sign x) (sign m) (sign y)
-sign-law f x m y v w r =
-    subst (λ (z : Float). Between (sign x) (sign z) (sign y)) (sym (r .0)) (sign-between f x y (subst (λ (z : Float). T (finite z)) (r .0) (r .1)))
-
--- three heights that are not deep have no midpoint below zero
-pub row-calm : (f : Format) (x m y : Float) → T (fits f x) → T (fits f y) → T (not (deep f x)) → T (not (deep f y)) → Row f x m y → T (upright m)
-row-calm f x m y v w p q r = subst (λ (z : Float). T (upright z)) (sym (r .0)) (calm-calm f x y v w p q)
+  pub sign-down : Rows f p → vary sign (left f p) + vary sign (right f p) ≤ vary sign p
+  sign-down h = class-halving sign (λ x y v w. sign-between f x y) h

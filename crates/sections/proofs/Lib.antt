@@ -3,7 +3,6 @@ pub mod Calm
 pub mod Vary
 pub mod Halve
 pub mod Sign
-pub mod Tree
 pub mod Ends
 pub mod Bound
 pub mod Total

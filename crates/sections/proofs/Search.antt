@@ -7,14 +7,15 @@ use native.Mathlib.Nat.{le-refl, zero-mul, mul-pos, zero-lt-suc}
 use native.Mathlib.Omega.{arith}
 use borrow.Author.Tests.{lt-ltb, eqb-false}
 use lib.Dec.{T, ltb, eqb}
-use lib.Ieee.{Float, nan, inf, fin, binary64, up, down, lt, le, eq, sub, add, mul, ofBits}
+use lib.Ieee.{Float, nan, inf, fin, binary64, fits, up, down, lt, le, eq, sub, add, mul, ofBits}
 use lib.Ieee.Fits.{add-fits, up-pos}
 use lib.Ieee.Scale.{finite as finite?}
+use lib.Ieee.Bits.{is-true}
 use Rattle.float.specs.Number.{finite, f0, f1}
 use Rattle.float.specs.Answer.{Answer, ok, refused, unless, outcome}
 use Rattle.float.specs.Answer.{_>>=_ as chain}
 use Rattle.float.proofs.Truth.{never, and-left, and-right, not-so}
-use Rattle.float.proofs.Strict.{Fin, add-finite, mul-finite}
+use Rattle.float.proofs.Strict.{Fin}
 use Rattle.float.proofs.Ranks.{says, said}
 use Rattle.plane.specs.Plane.{plus, times}
 use Rattle.plane.specs.declared.Point.{Point}
@@ -25,6 +26,7 @@ use Rattle.quintic.specs.Heights.{sumsOf, weightedBy, sectionOf, distanceForm}
 use Rattle.plane.specs.Range.{pointFinite}
 use Rattle.quintic.specs.Tests.{heightsFinite, halvesFinite}
 use Rattle.quintic.proofs.Fine.{subdivide6-same}
+use Rattle.quintic.specs.declared.numbers.Six.{Six}
 use Rattle.quintic.specs.declared.points.Section.{Section}
 use Rattle.quintic.specs.declared.points.Halves.{Halves}
 use Rattle.flat.specs.Flat.{crosses, crossings, flatEnough}
@@ -33,17 +35,15 @@ use Rattle.roots.specs.Find.{half, Seen, nothing, root, halved, rootSeen, halve
 use Rattle.roots.specs.declared.find.Waiting.{Waiting}
 use Rattle.roots.proofs.Stack.{halved-low}
 use Rattle.sections.specs.Mid.{mid, upright}
-use Rattle.sections.proofs.Vary.{ch}
-use Rattle.sections.proofs.Tree.{Six, left, right, m2, m3, m4, vary, below, live, fine, FitSix, HalvedSix}
-use Rattle.sections.proofs.Tree.{halved as halved-six}
-use Rattle.sections.proofs.Ends.{fit-left, fit-right}
-use Rattle.sections.proofs.Bound.{Creators}
+use Rattle.sections.specs.Halving.{All, left, right, fine, ch, vary, below, live, Creators}
+use Rattle.sections.specs.Never.{Never2049}
+use Rattle.sections.proofs.Halve.{Rows, rows, fit-left, fit-right}
 use Rattle.sections.proofs.Total.{taken, no-2049}
 use Rattle.sections.proofs.Test.{test-is}
 
 -- ---- the heights of a section, and those of its halves
 abbrev pub six : Section → Six
-six s = record { y0 = s .w1 .y; y1 = s .w2 .y; y2 = s .w3 .y; y3 = s .w4 .y; y4 = s .w5 .y; y5 = s .w6 .y }
+six s = record { y1 = s .w1 .y; y2 = s .w2 .y; y3 = s .w3 .y; y4 = s .w4 .y; y5 = s .w5 .y; y6 = s .w6 .y }
 
 rest-half : sub binary64 f1 half ≡ half
 unfolding ofBits sub add
@@ -66,97 +66,45 @@ unfolding subdivide6Of
 right-is s = simp middle-is
 
 -- ---- a halving that was fine had finite heights
-finite-is : (x : Float) → Fin x → finite? x ≡ true
+is-finite : (x : Float) → Fin x → T (finite? x)
 unfolding finite
-finite-is nan h = h
-finite-is (inf s) h = h
-finite-is (fin s m e) h = refl
+is-finite nan h = never h
+is-finite (inf s) h = never h
+is-finite (fin s m e) h = tt
 
-mid-back : (x y : Float) → Fin (mid binary64 x y) → Fin x × Fin y
-mid-back x y h =
-    let s = add-finite binary64 _ _ h in
-    (mul-finite binary64 x _ (s .0) .0, mul-finite binary64 y _ (s .1) .0)
-
--- where the last midpoint is finite, all are
-module _ (p : Six) (last : Fin (left binary64 p .y5)) where
-  abbrev M2 : Float → Float → Float → Float
-  M2 = m2 binary64
-
-  abbrev M3 : Float → Float → Float → Float → Float
-  M3 = m3 binary64
-
-  fine-back : fine binary64 p ≡ true
-  fine-back =
-      let e = mid-back (m4 binary64 (p .y0) (p .y1) (p .y2) (p .y3) (p .y4)) (m4 binary64 (p .y1) (p .y2) (p .y3) (p .y4) (p .y5)) last in
-      let d0 = mid-back (M3 (p .y0) (p .y1) (p .y2) (p .y3)) (M3 (p .y1) (p .y2) (p .y3) (p .y4)) (e .0) in
-      let d1 = mid-back (M3 (p .y1) (p .y2) (p .y3) (p .y4)) (M3 (p .y2) (p .y3) (p .y4) (p .y5)) (e .1) in
-      let c0 = mid-back (M2 (p .y0) (p .y1) (p .y2)) (M2 (p .y1) (p .y2) (p .y3)) (d0 .0) in
-      let c1 = mid-back (M2 (p .y1) (p .y2) (p .y3)) (M2 (p .y2) (p .y3) (p .y4)) (d0 .1) in
-      let c2 = mid-back (M2 (p .y2) (p .y3) (p .y4)) (M2 (p .y3) (p .y4) (p .y5)) (d1 .1) in
-      let b0 = mid-back (mid binary64 (p .y0) (p .y1)) (mid binary64 (p .y1) (p .y2)) (c0 .0) in
-      let b1 = mid-back (mid binary64 (p .y1) (p .y2)) (mid binary64 (p .y2) (p .y3)) (c0 .1) in
-      let b2 = mid-back (mid binary64 (p .y2) (p .y3)) (mid binary64 (p .y3) (p .y4)) (c1 .1) in
-      let b3 = mid-back (mid binary64 (p .y3) (p .y4)) (mid binary64 (p .y4) (p .y5)) (c2 .1) in
-      let f = finite-is in
-      simp (f _ (b0 .0), f _ (b0 .1), f _ (b1 .1), f _ (b2 .1), f _ (b3 .1), f _ (c0 .0), f _ (c0 .1), f _ (c1 .1), f _ (c2 .1), f _ (d0 .0), f _ (d0 .1), f _ (d1 .1), f _ (e .0), f _ (e .1), f _ last)
-
--- ---- heights that are finite and held by the format
+-- heights that are finite and held by the format
 pub record Sound (p : Six) : Type 0 where
-  pub held : FitSix binary64 p
-  pub n0 : Fin (p .y0)
-  pub n1 : Fin (p .y1)
-  pub n2 : Fin (p .y2)
-  pub n3 : Fin (p .y3)
-  pub n4 : Fin (p .y4)
-  pub n5 : Fin (p .y5)
+  pub held : All (fits binary64) p
+  pub all : All finite? p
 
 module _ (s : Section) (w : Sound (six s)) (all : subdivide6Of half s .fine ≡ true) where
-  last-finite : Fin (left binary64 (six s) .y5)
+  pub halving-fine : T (fine binary64 (six s))
   unfolding halvesFinite pointFinite
-  last-finite =
+  halving-fine =
       let m = subdivide6Of half s .val .left .w6 in
       let k : finite (m .x) && finite (m .y) ≡ true = sym (subdivide6-same half s) ∙ all in
-      subst (λ (q : Six). Fin (q .y5)) (left-is s) (and-right (finite (m .x)) (finite (m .y)) k)
+      subst (λ (q : Six). T (finite? (q .y6))) (left-is s) (is-finite (m .y) (and-right (finite (m .x)) (finite (m .y)) k))
 
-  pub halving-fine : fine binary64 (six s) ≡ true
-  halving-fine = fine-back (six s) last-finite
-
-  abbrev H : HalvedSix binary64 (six s)
-  H = halved-six binary64 (six s) (subst T (sym halving-fine) tt)
-
-  plain : (x : Float) → T (finite? x) → Fin x
-  unfolding finite
-  plain nan t = absurd t
-  plain (inf s) t = absurd t
-  plain (fin s m e) t = refl
+  abbrev midpoints : Rows binary64 (six s)
+  midpoints = rows binary64 (six s) halving-fine
 
   pub left-sound : Sound (six (subdivide6Of half s .val .left))
   left-sound = subst Sound (sym (left-is s)) (record {
-    held = fit-left binary64 (six s) (w .held) H;
-    n0 = w .n0;
-    n1 = plain _ (H .B0 .1);
-    n2 = plain _ (H .C0 .1);
-    n3 = plain _ (H .D0 .1);
-    n4 = plain _ (H .E0 .1);
-    n5 = plain _ (H .U .1);
+    held = fit-left binary64 (six s) (w .held);
+    all = record { h1 = w .all .h1; h2 = midpoints .q1-fine; h3 = midpoints .r1-fine; h4 = midpoints .s1-fine; h5 = midpoints .t1-fine; h6 = midpoints .u-fine };
   })
 
   pub right-sound : Sound (six (subdivide6Of half s .val .right))
   right-sound = subst Sound (sym (right-is s)) (record {
-    held = fit-right binary64 (six s) (w .held) H;
-    n0 = plain _ (H .U .1);
-    n1 = plain _ (H .E1 .1);
-    n2 = plain _ (H .D2 .1);
-    n3 = plain _ (H .C3 .1);
-    n4 = plain _ (H .B4 .1);
-    n5 = w .n5;
+    held = fit-right binary64 (six s) (w .held);
+    all = record { h1 = midpoints .u-fine; h2 = midpoints .t2-fine; h3 = midpoints .s3-fine; h4 = midpoints .r4-fine; h5 = midpoints .q5-fine; h6 = w .all .h6 };
   })
 
 -- ---- a section with a crossing is live
-zero-under : (y : Float) → Fin y → le f0 y ≡ upright y
-unfolding ofBits finite le lt eq
-zero-under nan h = never h
-zero-under (inf s) h = never h
+zero-under : (y : Float) → T (finite? y) → le f0 y ≡ upright y
+unfolding ofBits le lt eq
+zero-under nan h = absurd h
+zero-under (inf s) h = absurd h
 zero-under (fin false m e) h = said false (0 * 1 * down e) false (m * up e * 1) (subst (λ (n : ℕ). n ≤ m * up e * 1) (sym (zero-mul (down e))) zero-le)
 zero-under (fin true zero e) h = said false (0 * 1 * down e) true (0 * up e * 1) (zero-mul (down e), ap (λ (n : ℕ). n * 1) (zero-mul (up e)))
 zero-under (fin true (suc m) e) h = not-so _ (λ k. none (suc m * up e * 1) (mul-pos (mul-pos (zero-lt-suc m) (up-pos e)) (zero-lt-suc 0)) (says false (0 * 1 * down e) true (suc m * up e * 1) k .1))
@@ -164,10 +112,10 @@ zero-under (fin true (suc m) e) h = not-so _ (λ k. none (suc m * up e * 1) (mul
     none : (n : ℕ) → 0 < n → n ≡ 0 → ⊥
     none n h e = omega arith
 
-crosses-is : (x y : Float) → Fin x → Fin y → crosses x y ≡ ch (below x) (below y)
+crosses-is : (x y : Float) → T (finite? x) → T (finite? y) → crosses x y ≡ ch (below x) (below y)
 unfolding crosses ofBits
 crosses-is x y hx hy =
-    simp (test-is x (subst T (sym (finite-is x hx)) tt), test-is y (subst T (sym (finite-is y hy)) tt), zero-under x hx, zero-under y hy) (go (upright x) (upright y))
+    simp (test-is, zero-under x hx, zero-under y hy) (go (upright x) (upright y))
   where
     go : (a b : Bool) → cond (not a && b) 1 (cond (a && not b) 1 0) ≡ ch (not a) (not b)
     go true true = refl
@@ -177,7 +125,7 @@ crosses-is x y hx hy =
 
 live-is : (s : Section) → Sound (six s) → eqb (crossings s) 0 ≡ false → live (six s) ≡ true
 unfolding crossings
-live-is s w h = some (vary below (six s)) (simp (crosses-is _ _ (w .n0) (w .n1), crosses-is _ _ (w .n1) (w .n2), crosses-is _ _ (w .n2) (w .n3), crosses-is _ _ (w .n3) (w .n4), crosses-is _ _ (w .n4) (w .n5)) at h)
+live-is s w h = some (vary below (six s)) (simp (crosses-is (s .w1 .y) (s .w2 .y) (w .all .h1) (w .all .h2), crosses-is (s .w2 .y) (s .w3 .y) (w .all .h2) (w .all .h3), crosses-is (s .w3 .y) (s .w4 .y) (w .all .h3) (w .all .h4), crosses-is (s .w4 .y) (s .w5 .y) (w .all .h4) (w .all .h5), crosses-is (s .w5 .y) (s .w6 .y) (w .all .h5) (w .all .h6)) at h)
   where
     some : (n : ℕ) → eqb n 0 ≡ false → ltb 0 n ≡ true
     some n h = lt-ltb 0 n (above n (eqb-false n 0 h))
@@ -236,28 +184,28 @@ taken-some (suc n) p = one _
     one : (k : ℕ) → 1 ≤ 1 + k
     one k = omega arith
 
-find-none : (n : ℕ) → find n [] ≡ ok []
+find-none : (full n : ℕ) → find full n [] ≡ ok []
 unfolding find
-find-none zero = refl
-find-none (suc n) = refl
+find-none full zero = refl
+find-none full (suc n) = refl
 
 taken-halves : (n : ℕ) (s : Section) → Sound (six s) → (h : Halves) → Split s h → taken binary64 (suc n) (six s) ≡ 1 + (taken binary64 n (six (h .left)) + taken binary64 n (six (h .right)))
 unfolding taken
-taken-halves n s w h e = simp (live-is s w (e .crossed), halving-fine s w (e .all), e .is, left-is s, right-is s)
+taken-halves n s w h e = simp (live-is s w (e .crossed), is-true (fine binary64 (six s)) (halving-fine s w (e .all)), e .is, left-is s, right-is s)
 
-pub enough : (n m : ℕ) → n ≤ m → (ws : List Waiting) → Sounds ws → total ws ≤ n → find m ws ≡ find n ws
+pub enough : (full other n m : ℕ) → n ≤ m → (ws : List Waiting) → Sounds ws → total ws ≤ n → find full m ws ≡ find other n ws
 unfolding find
-enough zero m h [] g k = find-none m
-enough zero m h (w ∷ ws) g k = absurd (no (weight w) (total ws) (taken-some (64 - w .depth) (six (w .section))) k)
+enough full other zero m h [] g k = find-none full m
+enough full other zero m h (w ∷ ws) g k = absurd (no (weight w) (total ws) (taken-some (64 - w .depth) (six (w .section))) k)
   where
     no : (a b : ℕ) → 1 ≤ a → a + b ≤ 0 → ⊥
     no a b h k = omega arith
-enough (suc n) zero h ws g k = absurd (no n h)
+enough full other (suc n) zero h ws g k = absurd (no n h)
   where
     no : (n : ℕ) → suc n ≤ 0 → ⊥
     no n h = omega arith
-enough (suc n) (suc m) h [] g k = refl
-enough (suc n) (suc m) h (w ∷ ws) g k = go (λ (l : List Waiting) (s : Sounds l) (r : total l ≤ n). enough n m (less n m h) l s r) (lookOf (w .section) (w .depth)) refl
+enough full other (suc n) (suc m) h [] g k = refl
+enough full other (suc n) (suc m) h (w ∷ ws) g k = go (λ (l : List Waiting) (s : Sounds l) (r : total l ≤ n). enough full other n m (less n m h) l s r) (lookOf (w .section) (w .depth)) refl
   where
     less : (n m : ℕ) → suc n ≤ suc m → n ≤ m
     less n m h = omega arith
@@ -265,7 +213,7 @@ enough (suc n) (suc m) h (w ∷ ws) g k = go (λ (l : List Waiting) (s : Sounds 
     rest : total ws ≤ n
     rest = omega (arith, taken-some (64 - w .depth) (six (w .section)))
 
-    go : ((l : List Waiting) → Sounds l → total l ≤ n → find m l ≡ find n l) → (a : Answer Seen) → lookOf (w .section) (w .depth) ≡ a → chain a (next (find m) (w .depth) ws) ≡ chain a (next (find n) (w .depth) ws)
+    go : ((l : List Waiting) → Sounds l → total l ≤ n → find full m l ≡ find other n l) → (a : Answer Seen) → lookOf (w .section) (w .depth) ≡ a → chain a (next (find full m) (w .depth) ws) ≡ chain a (next (find other n) (w .depth) ws)
     go ih (refused j) e = refl
     go ih (ok nothing) e = unfold next in ih ws (g .1) rest
     go ih (ok (root t)) e = unfold next in ap (λ a. chain a (λ ts. ok (t ∷ ts))) (ih ws (g .1) rest)
@@ -294,13 +242,13 @@ enough (suc n) (suc m) h (w ∷ ws) g k = go (λ (l : List Waiting) (s : Sounds 
         fewer : total (wait (h .left) (w .depth + 1) ∷ wait (h .right) (w .depth + 1) ∷ ws) ≤ n
         fewer = sum _ _ (weight w) (total ws) n whole k
 
--- ---- so a 2,049th section is never taken: with room for more of them the search comes to the same
+-- ---- so a 2,049th section is never taken: what is refused by there, and where, makes no difference
 at-most : (x : ℕ) → x < 2049 → x + 0 ≤ 2048
 at-most x h = omega arith
 
-pub no-more : Creators binary64 → (points : Section) → Sound (six points) → (m : ℕ) → 2048 ≤ m → find m (wait points 0 ∷ []) ≡ findRoots points
+pub no-more : Creators binary64 → (points : Section) → Sound (six points) → (full m : ℕ) → 2048 ≤ m → find full m (wait points 0 ∷ []) ≡ findRoots points
 unfolding findRoots
-no-more hyp points w m h = enough 2048 m h (wait points 0 ∷ []) (w, tt) (at-most (weight (wait points 0)) (no-2049 binary64 hyp (six points) (w .held)))
+no-more hyp points w full m h = enough full 8 2048 m h (wait points 0 ∷ []) (w, tt) (at-most (weight (wait points 0)) (no-2049 binary64 hyp (six points) (w .held)))
 
 -- ---- the curve of six points whose roots the nearest point needs
 form-sound : (c : Curve) (p : Point) → heightsFinite (distanceForm c p .val) ≡ true → Sound (six (distanceForm c p .val))
@@ -313,21 +261,23 @@ form-sound c p h =
     let r' = and-right (finite (v .w4 .y)) _ r in
     record {
       held = record {
-        f0 = add-fits binary64 _ _;
-        f1 = add-fits binary64 _ _;
-        f2 = add-fits binary64 _ _;
-        f3 = add-fits binary64 _ _;
-        f4 = add-fits binary64 _ _;
-        f5 = add-fits binary64 _ _;
+        h1 = add-fits binary64 _ _;
+        h2 = add-fits binary64 _ _;
+        h3 = add-fits binary64 _ _;
+        h4 = add-fits binary64 _ _;
+        h5 = add-fits binary64 _ _;
+        h6 = add-fits binary64 _ _;
       };
-      n0 = and-left _ _ l;
-      n1 = and-left _ _ l';
-      n2 = and-right (finite (v .w2 .y)) _ l';
-      n3 = and-left _ _ r;
-      n4 = and-left _ _ r';
-      n5 = and-right (finite (v .w5 .y)) _ r';
+      all = record {
+        h1 = is-finite _ (and-left _ _ l);
+        h2 = is-finite _ (and-left _ _ l');
+        h3 = is-finite _ (and-right (finite (v .w2 .y)) _ l');
+        h4 = is-finite _ (and-left _ _ r);
+        h5 = is-finite _ (and-left _ _ r');
+        h6 = is-finite _ (and-right (finite (v .w5 .y)) _ r');
+      };
     }
 
--- for no curve and no point does the search meet its bound on sections: where its heights are finite, any larger bound gives the same roots and the same refusal
-pub never-2049 : Creators binary64 → (c : Curve) (p : Point) → heightsFinite (distanceForm c p .val) ≡ true → (m : ℕ) → 2048 ≤ m → find m (wait (distanceForm c p .val) 0 ∷ []) ≡ findRoots (distanceForm c p .val)
-never-2049 hyp c p h m k = no-more hyp (distanceForm c p .val) (form-sound c p h) m k
+-- the end of docs/SECTIONS.md
+pub never-2049 : Creators binary64 → Never2049
+never-2049 hyp c p h full m k = no-more hyp (distanceForm c p .val) (form-sound c p h) full m k

@@ -1,4 +1,4 @@
--- The sign bit of a midpoint of two heights with the same sign bit. Assumes nothing.
+-- The sign bit of a midpoint of two heights with the same sign bit (Lemma 1 (c)). Assumes nothing.
 use mathlib.Core.Path.{_≡_, refl, sym, ap, _∙_}
 use Prim.Native.Nat.{ℕ, zero, suc, _+_, _*_, _^_}
 use mathlib.Core.Bool.{Bool, true, false, cond, true≢false, false≢true}

@@ -1,4 +1,4 @@
--- The class of a rounded midpoint: of two heights that are two smallest values below zero or more, the midpoint is; of two that are not, it is not below zero. Assumes nothing.
+-- Of two heights that are two smallest values below zero or more, the midpoint is too (Lemma 1 (a)). Assumes nothing.
 use mathlib.Core.Path.{_≡_, refl, sym, ap, _∙_, subst}
 use Prim.Native.Nat.{ℕ, zero, suc, _+_, _*_, _^_, _≤_, _<_}
 use native.Mathlib.Nat.{le-trans, le-of-eq, mul-one, one-mul, mul-comm, mul-right-comm, add-mul, mul-le-mul-right, mul-pos, zero-lt-suc}
@@ -40,7 +40,7 @@ positive-of (fin false m e) a t = a
 
 big-of : (f : Format) (k : ℕ) (y : Float) → T (positive y) → k * den y ≤ num y * 2 ^ low f → T (big f false k y)
 big-of f k nan p h = p
-big-of f k (inf s) p h = p
+big-of f k (inf s) p h = absurd p
 big-of f k (fin true m e) p h = p
 big-of f k (fin false m e) p h = le→leb (k * down e) (m * up e * 2 ^ low f) h
 
@@ -96,34 +96,11 @@ halved d n h = omega arith
 half-deep : (f : Format) (x : Float) → T (big f true 2 x) → T (finite (mul f x half)) → T (big f true 1 (mul f x half))
 unfolding mul
 half-deep f nan d t = absurd d
-half-deep f (inf s) d t = absurd d
+half-deep f (inf s) d t = absurd t
 half-deep f (fin false m e) d t = absurd d
 half-deep f (fin true m e) d t =
     ge-true f 1 (m * up e * 1) (down e * 2) (zero-lt-suc 0) (one-small f) (one-fine f) (mul-pos (down-pos e) (zero-lt-suc 1))
     (subst (λ (z : ℕ). 1 * (down e * 2) ≤ z * 2 ^ low f) (sym (mul-one (m * up e))) (halved (down e) (m * up e * 2 ^ low f) (leb→le (2 * down e) (m * up e * 2 ^ low f) d))) t
-
-both : (a b c L : ℕ) → c ≤ a * L → c ≤ b * L → 2 * c ≤ (a + b) * L
-both a b c L h k = le-trans (twice c (a * L) (b * L) h k) (le-of-eq (sym (add-mul a b L)))
-  where
-    twice : (c x y : ℕ) → c ≤ x → c ≤ y → 2 * c ≤ x + y
-    twice c x y h k = omega arith
-
-add-deep : (f : Format) (x y : Float) → T (big f true 1 x) → T (big f true 1 y) → T (finite (add f x y)) → T (big f true 2 (add f x y))
-unfolding add sum
-add-deep f nan y p q t = absurd p
-add-deep f (inf s) y p q t = absurd p
-add-deep f (fin false m e) y p q t = absurd p
-add-deep f (fin true m e) nan p q t = absurd q
-add-deep f (fin true m e) (inf s) p q t = absurd q
-add-deep f (fin true m e) (fin false n d) p q t = absurd q
-add-deep f (fin true m e) (fin true n d) p q t =
-    let L = 2 ^ low f in
-    let hp : down e ≤ m * up e * L = subst (λ (z : ℕ). z ≤ m * up e * L) (one-mul (down e)) (leb→le (1 * down e) (m * up e * L) p) in
-    let hq : down d ≤ n * up d * L = subst (λ (z : ℕ). z ≤ n * up d * L) (one-mul (down d)) (leb→le (1 * down d) (n * up d * L) q) in
-    ge-true f 2 (m * up e * down d + n * up d * down e) (down e * down d) (zero-lt-suc 1) (two-small f) (two-fine f) (mul-pos (down-pos e) (down-pos d))
-    (both (m * up e * down d) (n * up d * down e) (down e * down d) L
-    (le-trans (mul-le-mul-right (down d) hp) (le-of-eq (mul-right-comm (m * up e) L (down d))))
-    (le-trans (le-of-eq (mul-comm (down e) (down d))) (le-trans (mul-le-mul-right (down e) hq) (le-of-eq (mul-right-comm (n * up d) L (down e)))))) t
 
 -- a finite sum has finite terms
 pub finite-l : (f : Format) (x y : Float) → T (finite (add f x y)) → T (finite x)
@@ -150,7 +127,43 @@ finite-r f (fin s m e) nan t = t
 finite-r f (fin s m e) (inf u) t = t
 finite-r f (fin s m e) (fin u n d) t = tt
 
--- Lemma 1: deep and deep have a deep midpoint
+both : (a b c L : ℕ) → c ≤ a * L → c ≤ b * L → 2 * c ≤ (a + b) * L
+both a b c L h k = le-trans (twice c (a * L) (b * L) h k) (le-of-eq (sym (add-mul a b L)))
+  where
+    twice : (c x y : ℕ) → c ≤ x → c ≤ y → 2 * c ≤ x + y
+    twice c x y h k = omega arith
+
+add-deep : (f : Format) (x y : Float) → T (big f true 1 x) → T (big f true 1 y) → T (finite (add f x y)) → T (big f true 2 (add f x y))
+unfolding add sum
+add-deep f nan y p q t = absurd p
+add-deep f (inf s) y p q t = absurd (finite-l f (inf s) y t)
+add-deep f (fin false m e) y p q t = absurd p
+add-deep f (fin true m e) nan p q t = absurd q
+add-deep f (fin true m e) (inf s) p q t = absurd t
+add-deep f (fin true m e) (fin false n d) p q t = absurd q
+add-deep f (fin true m e) (fin true n d) p q t =
+    let L = 2 ^ low f in
+    let hp : down e ≤ m * up e * L = subst (λ (z : ℕ). z ≤ m * up e * L) (one-mul (down e)) (leb→le (1 * down e) (m * up e * L) p) in
+    let hq : down d ≤ n * up d * L = subst (λ (z : ℕ). z ≤ n * up d * L) (one-mul (down d)) (leb→le (1 * down d) (n * up d * L) q) in
+    ge-true f 2 (m * up e * down d + n * up d * down e) (down e * down d) (zero-lt-suc 1) (two-small f) (two-fine f) (mul-pos (down-pos e) (down-pos d))
+    (both (m * up e * down d) (n * up d * down e) (down e * down d) L
+    (le-trans (mul-le-mul-right (down d) hp) (le-of-eq (mul-right-comm (m * up e) L (down d))))
+    (le-trans (le-of-eq (mul-comm (down e) (down d))) (le-trans (mul-le-mul-right (down e) hq) (le-of-eq (mul-right-comm (n * up d) L (down e)))))) t
+
+-- a finite midpoint has finite ends
+half-back : (f : Format) (x : Float) → T (finite (mul f x half)) → T (finite x)
+unfolding mul
+half-back f nan t = t
+half-back f (inf s) t = t
+half-back f (fin s m e) t = tt
+
+pub mid-back : (f : Format) (x y : Float) → T (finite (mid f x y)) → T (finite x) × T (finite y)
+mid-back f x y t =
+    let a = mul f x half in
+    let b = mul f y half in
+    (half-back f x (finite-l f a b t), half-back f y (finite-r f a b t))
+
+-- Lemma 1 (a): of two deep heights the midpoint is deep
 pub deep-deep : (f : Format) (x y : Float) → T (deep f x) → T (deep f y) → T (finite (mid f x y)) → T (deep f (mid f x y))
 deep-deep f x y p q t =
     let a = mul f x half in

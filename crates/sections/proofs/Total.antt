@@ -5,11 +5,12 @@ use native.Mathlib.Nat.{le-refl}
 use native.Mathlib.Omega.{arith}
 use mathlib.Core.Bool.{Bool, true, false, _&&_}
 use lib.Dec.{T}
-use lib.Ieee.{Format}
+use lib.Ieee.{Format, fits}
 use lib.Ieee.Fits.{and-l}
 use lib.Ieee.Bits.{is-true}
-use Rattle.sections.proofs.Tree.{Six, left, right, live, fine, bit, step, liveAt, FitSix}
-use Rattle.sections.proofs.Bound.{Creators, at-most-15}
+use Rattle.quintic.specs.declared.numbers.Six.{Six}
+use Rattle.sections.specs.Halving.{All, left, right, live, fine, bit, step, liveAt, Creators}
+use Rattle.sections.proofs.Bound.{at-most-15}
 
 -- the sections taken below p, itself included, where all live ones above the n-th level are halved
 unfoldable pub taken : Format → ℕ → Six → ℕ
@@ -56,7 +57,7 @@ less n h = omega arith
 under : (n : ℕ) → suc n ≤ 64 → n ≤ 63
 under n h = omega arith
 
-lives-15 : (f : Format) → Creators f → (n : ℕ) → n ≤ 64 → (p : Six) → FitSix f p → lives f n p ≤ 15 * n
+lives-15 : (f : Format) → Creators f → (n : ℕ) → n ≤ 64 → (p : Six) → All (fits f) p → lives f n p ≤ 15 * n
 unfolding lives
 lives-15 f hyp zero h p w = zero-le
 lives-15 f hyp (suc n) h p w = add15 (lives f n p) (liveAt f n p) n (lives-15 f hyp n (less n h) p w) (at-most-15 f hyp n (under n h) p w)
@@ -65,5 +66,5 @@ final : (x s : ℕ) → x ≤ 1 + 2 * s → s ≤ 15 * 64 → x < 2049
 final x s h k = omega arith
 
 -- The bound: no 2,049th section
-pub no-2049 : (f : Format) → Creators f → (p : Six) → FitSix f p → taken f 64 p < 2049
+pub no-2049 : (f : Format) → Creators f → (p : Six) → All (fits f) p → taken f 64 p < 2049
 no-2049 f hyp p w = final (taken f 64 p) (lives f 64 p) (taken-lives f 64 p) (lives-15 f hyp 64 (le-refl 64) p w)

@@ -17,12 +17,22 @@ slice-aggregate-find-bezier-roots c = search needs
 find-bezier-roots-requires : tie.Need-find-bezier-roots-requires
 find-bezier-roots-requires c κs = search needs
 
-enum-known-n : tie.Need-enum-known-n
-enum-known-n c = search needs
+enum-known-found : tie.Need-enum-known-found
+enum-known-found c = search needs
 
-prefix : (c : tie.After-known-told) → c .before .n .given .0 .0 ≤ length (c .before .before .before .before .find-bezier-roots .last .1 .0)
+enum-told : tie.Need-enum-told
+enum-told c = search needs
+
+refusal-of-requires : tie.Need-refusal-of-requires
+refusal-of-requires c κs = search needs
+
+returns : tie.Need-returns
+unfolding nearestAnswer
+returns c = none-found _ _ _ _ _ (c .before .before .before .before .find-bezier-roots .ensures .0) _ (c .before .enum-told .given .1) _ (c .refusal-of .ensures)
+
+prefix : (c : tie.After-known-told) → c .before .found .given .0 .0 ≤ length (c .before .before .before .before .find-bezier-roots .last .1 .0)
 unfolding countOf
-prefix c = omega (arith, c .before .before .before .roots2 .given, c .before .before .before .before .find-bezier-roots .ensures .1, ap countOf (c .before .n .given .1))
+prefix c = omega (arith, c .before .before .before .roots2 .given, c .before .before .before .before .find-bezier-roots .ensures .1, ap countOf (c .before .found .given .1))
 
 array-share-prefix-roots : tie.Need-array-share-prefix-roots
 array-share-prefix-roots c = prefix c
@@ -33,24 +43,17 @@ slice-aggregate-choose c = simp length-take (omega (arith, prefix (c .before)))
 choose-requires : tie.Need-choose-requires
 choose-requires c κs = search needs
 
-returns : tie.Need-returns
-unfolding nearestAnswer runOf
-returns c =
-    let known = c .before .before .before .before in
-    chosen _ _ _ _ _ (known .before .before .before .find-bezier-roots .ensures .0) _ (known .n .given .1) _ (c .before .choose .ensures) (c .if1 .taken)
-
-enum-known-n-2 : tie.Need-enum-known-n-2
-enum-known-n-2 c = search needs
-
 returns-2 : tie.Need-returns-2
-unfolding nearestAnswer
+unfolding nearestAnswer runOf
 returns-2 c =
     let known = c .before .before .before .before in
-    unchosen _ _ _ _ _ (known .before .before .before .find-bezier-roots .ensures .0) _ (known .n .given .1) _ (c .before .choose .ensures) (c .if1 .left)
+    chosen _ _ _ _ _ (known .before .before .before .find-bezier-roots .ensures .0) _ (known .found .given .1) _ (c .before .choose .ensures) (c .if1 .taken)
 
 returns-3 : tie.Need-returns-3
 unfolding nearestAnswer
-returns-3 c = none-found _ _ _ _ _ (c .before .before .before .before .find-bezier-roots .ensures .0) _ (c .before .n2 .given .1)
+returns-3 c =
+    let known = c .before .before .before .before in
+    unchosen _ _ _ _ _ (known .before .before .before .find-bezier-roots .ensures .0) _ (known .found .given .1) _ (c .before .choose .ensures) (c .if1 .left)
 
 pub nearest-by-spec : {M : Type 1} → statement M
 nearest-by-spec =
@@ -58,11 +61,12 @@ nearest-by-spec =
     (tie.spec
     slice-aggregate-find-bezier-roots
     find-bezier-roots-requires
-    enum-known-n
+    enum-known-found
+    enum-told
+    refusal-of-requires
+    returns
     array-share-prefix-roots
     slice-aggregate-choose
     choose-requires
-    returns
-    enum-known-n-2
     returns-2
     returns-3)

@@ -11,13 +11,13 @@ use Rattle.roots.proofs.find.find_bezier_roots.Statement.{statement}
 use Rattle.roots.proofs.find.find_bezier_roots.Tie as tie
 
 abbrev Inv-loop : tie.InvT-loop
-Inv-loop roots₀ sections₀ waiting₀ left₀ found₀ roots sections waiting left found = Going (find left₀ (stackOf waiting₀ sections₀)) (length roots₀) roots sections waiting left found
+Inv-loop roots₀ sections₀ waiting₀ left₀ found₀ roots sections waiting left found = Going (find 8 left₀ (stackOf waiting₀ sections₀)) (length roots₀) roots sections waiting left found
 
 abbrev μ-loop : tie.MeasureT-loop
 μ-loop roots₀ sections₀ waiting₀ left₀ found₀ roots sections waiting left found = left
 
 loop-holds : tie.Need-loop-holds Inv-loop μ-loop
-loop-holds c = start _ _ (c .before .pre) refl
+loop-holds c = start _ _ _ (c .before .pre) refl (omega arith)
 
 same-length : tie.Need-same-length Inv-loop μ-loop
 same-length c = c .before .before .loop .inv .kept
