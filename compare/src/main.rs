@@ -8,6 +8,7 @@ use std::cell::{Cell, RefCell};
 use std::io::*;
 use std::ops::*;
 use std::rc::Rc;
+use std::str;
 
 thread_local! { static LOST: Cell<bool> = Cell::new(false); }
 /// Passes a number on, and notes one that is not finite.
@@ -185,7 +186,7 @@ fn check_line(w: &[&str]) -> Option<String> {
     if w.len() != count_at + 1 + k.checked_mul(9)? + n { return None; }
     let (mut firsts, mut curves) = (vec![], vec![]);
     for c in w[count_at + 1..count_at + 1 + 9 * k].chunks(9) {
-        firsts.push(whole(c[0])?);
+        firsts.push(u32::try_from(whole(c[0])?).ok()? as usize);
         curves.push(<[f64; 8]>::try_from(numbers(&c[1..])?).ok()?);
     }
     Some(check(number(w[0])?, &points(&numbers(&w[2..count_at])?), &firsts, &curves, &numbers(&w[count_at + 1 + 9 * k..])?))
@@ -251,10 +252,10 @@ fn answer(line: &str) -> Option<String> {
 fn all() {
     std::panic::set_hook(Box::new(|_| {}));
     let mut out = BufWriter::new(stdout().lock());
-    for line in stdin().lock().lines() {
-        let line = line.expect("a line of text");
+    for line in stdin().lock().split(b'\n') {
+        let line = line.expect("standard input");
         LOST.with(|l| l.set(false));
-        let said = std::panic::catch_unwind(|| answer(&line).unwrap_or("BAD".into())).unwrap_or("PANIC".into());
+        let said = std::panic::catch_unwind(|| str::from_utf8(&line).ok().and_then(answer).unwrap_or("BAD".into())).unwrap_or("PANIC".into());
         let lost = LOST.with(|l| l.get()) && !said.contains('\t');
         writeln!(out, "{}{}", said, if lost { "\tlost" } else { "" }).expect("standard output");
     }

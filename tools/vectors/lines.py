@@ -1,0 +1,291 @@
+"""replay: lines of cases, and lines that are none.
+
+Square roots, nearest points and border cases are those of the other programs; single curves, outlines and lists that are read from the kept
+input are asked of the Rust again; lists with one thing changed are judged by the document's rules (shared/checker.py). A line that is no case is
+BAD; the Rust side, which reads lines too, has to say so as well, but for what is only too long for the program. The last line has no newline."""
+import math
+
+from shared import kept
+from shared.command import Stop
+from shared.words import INFINITY, MINUS, NAN, bits, numbers, pattern_of, patterns_of, word, word_of, words
+from vectors import lists, near, outlines, roots, single
+
+NAME = 'replay'
+ROOM = 1 << 20     # bytes of a line that the program has room for
+MOST_MARKS = 4200  # marks of a line
+KEPT_CURVES = 230  # calls on single curves, 30 of them refused by 6
+KEPT_OUTLINES = 132
+KEPT_LISTS = 11    # sound lists; then four more, each with its changed copies
+SPOILT_LISTS = 4
+
+
+def values(*floats):
+    return ' '.join(word_of(value) for value in floats)
+
+
+# ---- cases of the other programs
+
+def root_lines():
+    return [(f'sqrt {word(pattern)}', f'0 {word(root)}') for pattern, root in roots.roots()[::6]]
+
+
+def curve_borders():
+    """Every third of the border cases, kind by kind."""
+    borders = list(single.borders())
+    by_kind = [line for kind in single.KINDS for line in borders if line.startswith(kind + ' ')]
+    return by_kind[::3]
+
+
+def nearest_lines():
+    """Every eighth, and then all that are refused."""
+    cases = near.answers()
+    return cases[::8] + [case for case in cases if not case[1].startswith('0 ')]
+
+
+def nearest_borders():
+    base = [0.0, 0.0, 0.0, 1.0, 1.0, 1.0, 1.0, 0.0, 0.5, 2.0]
+    for place in (0, 5, 7, 8, 9):
+        for value in numbers(single.BEYOND):
+            yield 'nearest ' + values(*base[:place], value, *base[place + 1:])
+
+
+def outline_borders():
+    """The room is always enough, so there is no 4; what only shows the room's part in the order is left out."""
+    cases = [outline for outline in outlines.kept_borders() if outline.refusal() != 4 and outline.count < 64]
+    return list(dict.fromkeys(outline.line() for outline in cases))
+
+
+def long_lines():
+    """More marks than the fits take, and more than a line holds. The marks are all one, so that the input packs well."""
+    mark = values(1, 2)
+    tolerance = values(0.5)
+    return [
+        (' '.join(['joined', tolerance] + [mark] * MOST_MARKS), '2'),
+        (' '.join(['direct', values(0.5, 1, 0, 0, 1)] + [mark] * 513), '2'),
+        (' '.join(['source', tolerance] + [mark] * MOST_MARKS + [values(1)]), 'BAD'),
+        (' '.join(['joined', tolerance] + [mark] * (MOST_MARKS + 1)), 'BAD')]
+
+
+# ---- lists
+
+def claim_of(line):
+    """The list on a line of `check`."""
+    _, tolerance, count, *rest = line.split(' ')
+    count = int(count)
+    marks, rest = rest[:2 * count], rest[2 * count:]
+    claimed, rest = int(rest[0]), rest[1:]
+    nines = [rest[9 * k:9 * k + 9] for k in range(claimed)]
+
+    def floats(texts):
+        return numbers([pattern_of(text) for text in texts])
+    curves = floats(text for nine in nines for text in nine[1:])
+    return lists.Claim(floats([tolerance])[0], floats(marks), claimed, curves, [int(nine[0]) for nine in nines], floats(rest[9 * claimed:]))
+
+
+def judged(line):
+    return line, lists.line_answer(claim_of(line).answer())
+
+
+def parts_of(claim):
+    """A list in patterns: tolerance, marks, curves as pairs of first mark and eight patterns, parameters."""
+    curves = patterns_of(*claim.curves)
+    pairs = [(first, curves[8 * k:8 * k + 8]) for k, first in enumerate(claim.firsts)]
+    return bits(claim.tolerance), patterns_of(*claim.marks), pairs, patterns_of(*claim.params)
+
+
+def check_line(tolerance, marks, curves, params):
+    parts = ['check', word(tolerance), str(len(marks) // 2)] + [word(mark) for mark in marks] + [str(len(curves))]
+    parts += [f'{first} {words(eight)}' for first, eight in curves]
+    return ' '.join(parts + [word(t) for t in params])
+
+
+def spoilt(line):
+    """A list that passes, and the same with one thing changed."""
+    tolerance, marks, curves, params = parts_of(claim_of(line))
+    put = lists.put
+    count, last = len(params), len(curves) - 1
+
+    def with_curves(other):
+        return check_line(tolerance, marks, other, params)
+
+    def with_first(k, first):
+        return with_curves(put(curves, k, (first, curves[k][1])))
+
+    def with_number(k, place, pattern):
+        first, eight = curves[k]
+        return with_curves(put(curves, k, (first, put(eight, place, pattern))))
+    yield with_curves(curves)
+    yield with_curves([])
+    yield with_curves(curves + curves * count)
+    yield with_curves(curves[:-1])
+    for first in (1, count - 1, lists.LARGEST_FIRST):
+        yield with_first(0, first)
+    for first in (0, curves[last][0] + 1, count - 2, count - 1, count):
+        yield with_first(last, first)
+    for k in sorted({0, last}):
+        for place in range(8):
+            here = curves[k][1][place]
+            for pattern in (NAN, INFINITY, here ^ 1, here ^ MINUS):
+                yield with_number(k, place, pattern)
+    above_one = bits(math.nextafter(1.0, 2.0))
+    for place in sorted({0, 1, curves[last][0], count - 2, count - 1}):
+        for pattern in (MINUS, 0, bits(1.0), above_one, MINUS + 1, NAN, INFINITY, bits(0.75)):
+            yield check_line(tolerance, marks, curves, put(params, place, pattern))
+    for other in (0, MINUS, MINUS + 1, NAN, INFINITY):
+        yield check_line(other, marks, curves, params)
+    for pattern in (NAN, INFINITY, outlines.ABOVE, marks[3] ^ 1):
+        yield check_line(tolerance, put(marks, 3, pattern), curves, params)
+    yield check_line(tolerance, marks[:2], [], params[:1])
+    yield check_line(tolerance, [], [], [])
+
+
+# ---- lines that are no case
+
+ARCH = words(single.ARCH)
+QUERY = values(0.5, 2)
+HALF = values(0.5)
+TWO = values(0, 0, 4, 0)
+GOOD = [
+    f'sqrt {HALF}', f'basis {HALF} {ARCH}', f'de_casteljau4 {HALF} {ARCH}', f'coefficients 1 {ARCH}', f'subdivide4 {HALF} {ARCH}',
+    f'de_casteljau3 {HALF} {values(0, 0, 1, 0, 2, 0)}', f'de_casteljau2 {HALF} {TWO}', f'refine {ARCH} {QUERY} {HALF} 3', f'nearest {ARCH} {QUERY}',
+    f'direct {HALF} {values(1, 0, -1, 0)} {TWO}', f'source {HALF} {TWO}', f'loop {HALF} {TWO}', f'joined {HALF} {TWO}',
+    f'check {HALF} 2 {TWO} 1 0 {values(0, 0, 1.32, 0, 2.64, 0, 4, 0)} {values(0, 1)}']
+
+
+def misspelt(line):
+    """A good line with a blank, a tab, a carriage return or a word too many, a word too few, or another spelling."""
+    name, rest = line.split(' ', 1)
+    head, last = line.rsplit(' ', 1)
+    yield from [
+        ' ' + line, line + ' ', line.replace(' ', '  ', 1), head + '  ' + last, line.replace(' ', '\t', 1), line + '\r', line + ' x',
+        name.upper() + ' ' + rest, name[:-1] + ' ' + rest, name + 'x ' + rest, line[:-1], line + '+']
+    for digit in 'G@/:':
+        yield head + ' ' + digit * 16
+    if name not in ('source', 'loop', 'joined', 'direct'):
+        yield from [head, f'{line} {HALF}', line + ' 1']
+    if HALF in line:
+        for other in ('3fe0000000000000', '3FE000000000000', '3FE00000000000000', '0x3FE00000000000', '+3FE000000000000', '0.5'):
+            yield line.replace(HALF, other, 1)
+
+
+def counted(marks='2', curves='1', first='0', params=values(0, 1)):
+    return f'check {HALF} {marks} {TWO} {curves} {first} {ARCH} {params}'
+
+
+def miscounted():
+    """Whole numbers that are none, and counts that are others than the line has."""
+    for text in ('', '-1', '+1', '01', '00', '1.0', '1e0', '0x1', 'A', '18446744073709551616', '99999999999999999999', '100000000000000000000', '1' * 40):
+        yield from [
+            f'coefficients {text} {ARCH}', f'refine {ARCH} {QUERY} {HALF} {text}', counted(marks=text), counted(curves=text), counted(first=text)]
+    for text in ('0', '1', '3', '4201', '18446744073709551615'):
+        yield counted(marks=text)
+        yield counted(curves=text) if text != '1' else 'x'
+    for text in ('4294967296', '18446744073709551615'):
+        yield counted(first=text)
+    yield from [counted(params=values(0)), counted(params=values(0, 1, 1)), f'check {HALF} 2 {TWO}', f'check {HALF} 2 {TWO} 0', f'check {HALF}', f'check {HALF} 0']
+
+
+def bad():
+    yield from ['', ' ', '  ', 'BAD', 'x', '0', HALF]
+    yield from ['sqrt', 'basis', 'coefficients', 'refine', 'nearest', 'direct', 'source', 'loop', 'joined', 'check']
+    for line in GOOD:
+        yield from misspelt(line)
+    yield from [f'direct {HALF} {values(1, 0, -1)}', f'direct {HALF}']
+    yield from miscounted()
+    yield from [f'sqrt {HALF}\0', '\0', 'sqrt\xa0' + HALF, '\x7f' * 200, f'sqrt {HALF} ', f'sqrt {HALF} ' + ' ' * 70000]
+
+
+def whole():
+    """Whole numbers that are well formed are handed on."""
+    for text in ('2', '10', '18446744073709551615'):
+        yield f'coefficients {text} {ARCH}'
+    for text in ('65', '100', '18446744073709551615'):
+        yield f'refine {ARCH} {QUERY} {HALF} {text}'
+
+
+def nans():
+    """Every NaN pattern stands for NaN."""
+    for text in ('7FF0000000000001', '7FFFFFFFFFFFFFFF', 'FFF0000000000001', 'FFF8000000000000', 'FFFFFFFFFFFFFFFF'):
+        yield from [
+            (f'sqrt {text}', f'0 {word(NAN)}'), (f'basis {text} {ARCH}', '5'), (f'nearest {ARCH} {text} {values(1)}', '5'), (f'source {text} {ARCH}', '5'),
+            (f'joined {HALF} {ARCH} {text} {values(1)}', '5')]
+
+
+# ---- the file
+
+LAST = [(f'sqrt {values(4)}', f'0 {values(2)}')]
+
+
+def mixed(rows, others):
+    """The others are spread among the rows, one after each so many; what is over comes after them."""
+    step = max(1, len(rows) // len(others))
+    left = list(others)
+    out = []
+    for place, row in enumerate(rows):
+        out.append(row)
+        if place % step == 0 and left:
+            out.append(left.pop(0))
+    return out + left
+
+
+def unmixed(lines, others):
+    """The rows of which `mixed` made these lines."""
+    count = len(lines) - len(others)
+    places = mixed([True] * count, [False] * len(others))
+    return [line for line, is_row in zip(lines, places) if is_row]
+
+
+class Reader:
+    """The kept rows, taken at the place that the new ones have come to."""
+
+    def __init__(self, rows):
+        self.rows, self.made = rows, []
+
+    def add(self, rows):
+        self.made += rows
+
+    def kept(self, count):
+        place = len(self.made)
+        if len(self.rows) < place + count:
+            raise Stop(f'crates/{NAME}/stdin has {len(self.rows)} cases, of which the first {place + count} are wanted')
+        return self.rows[place:place + count]
+
+
+def cases(rows, rust):
+    """Every case with its answer, in the order of the file."""
+    reader = Reader(rows)
+
+    def asked(lines):
+        lines = list(lines)
+        reader.add(zip(lines, rust.answer_all(lines)))
+    reader.add(root_lines())
+    asked(reader.kept(KEPT_CURVES))
+    asked(curve_borders())
+    reader.add(nearest_lines())
+    reader.add((line, '5') for line in nearest_borders())
+    asked(reader.kept(KEPT_OUTLINES))
+    asked(outline_borders())
+    asked(whole())
+    reader.add(nans())
+    reader.add(map(judged, reader.kept(KEPT_LISTS)))
+    for _ in range(SPOILT_LISTS):
+        reader.add(map(judged, spoilt(reader.kept(1)[0])))
+    return reader.made
+
+
+def hold(lines, rust):
+    """The Rust side says BAD to these lines too."""
+    for line, (said, _) in zip(lines, rust.ask(lines)):
+        if said != 'BAD':
+            raise Stop(f'the Rust side takes a line that is no case: {line[:200]!r}', 1)
+
+
+def make(rust):
+    before = kept.read_stdin(NAME).decode('latin-1').split('\n')
+    wrong = list(bad())
+    hold(wrong, rust)
+    end = long_lines() + LAST
+    rows = unmixed(before[:-len(end)], wrong)
+    found = mixed(cases(rows, rust), [(line, 'BAD') for line in wrong]) + end
+    stdin = '\n'.join(line for line, _ in found).encode('latin-1')
+    return kept.Made(NAME, stdin, ''.join(said + '\n' for _, said in found), len(found), len(before), kept.tally(said for _, said in found))
