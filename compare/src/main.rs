@@ -1,4 +1,5 @@
-//! Answers the lines of `replay` (compare/README.md lists them) with the functions of flo_curves, one line of answer for each.
+//! Answers the lines of `replay` (compare/README.md lists them) with the functions of flo_curves, one line of answer for each, for compare/run and
+//! tools/make_vectors.py.
 //! It refuses only where the crate can't be asked: an odd number of coordinates (3), fewer than two marks (1), a tolerance that is NaN
 //! or below zero (5), a dimension above 1 (5). A panic of the crate is PANIC, a nearest search that does not end is ENDLESS.
 //! After a tab may follow what the comparison wants to know: `lost` where an operation on the way was not finite, `depth D` of a search.
@@ -57,7 +58,8 @@ fn eight<C: BezierCurve>(c: &C) -> [f64; 8] where C::Point: Coordinate2D {
     let (s, (a, b), e) = c.all_points();
     [s.x(), s.y(), a.x(), a.y(), b.x(), b.y(), e.x(), e.y()]
 }
-fn bits(v: f64) -> u64 { if v.is_nan() { 0x7FF8_0000_0000_0000 } else { v.to_bits() } }
+/// A number's bits, one pattern for all NaNs. The test is of whole numbers: one of floats may be taken away by the compiler, to which all NaNs are alike.
+fn bits(v: f64) -> u64 { let b = v.to_bits(); if b << 1 > 0xFFE0_0000_0000_0000 { 0x7FF8_0000_0000_0000 } else { b } }
 fn hex(v: &[f64]) -> String { v.iter().map(|x| format!(" {:016X}", bits(*x))).collect() }
 fn points(v: &[f64]) -> Vec<Coord2> { v.chunks(2).map(|c| Coord2(c[0], c[1])).collect() }
 fn number(w: &str) -> Option<f64> {

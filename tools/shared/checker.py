@@ -2,18 +2,15 @@
 import math
 import struct
 
+from shared.basis import point_at
+
 PASSED, FAULT_A, FAULT_B, FAULT_C, FAULT_D, REFUSED = range(6)
 
 
 def distance(x, y, curve, t):
     """As max_error_for_curve works it out: the curve's point by `basis`, the offset, its dot product with itself, the root."""
-    s = 1.0 - t
-    t2, s2 = t * t, s * s
-    t3, s3 = t2 * t, s2 * s
-
-    def at(axis):
-        return curve[axis] * s3 + curve[axis + 2] * 3.0 * s2 * t + curve[axis + 4] * 3.0 * s * t2 + curve[axis + 6] * t3
-    dx, dy = x - at(0), y - at(1)
+    px, py = point_at(curve, t)
+    dx, dy = x - px, y - py
     return math.sqrt(dx * dx + dy * dy)
 
 

@@ -1,6 +1,7 @@
 """The nearest point of a curve by the document's formulas. It shares nothing with the port: binary64 is Python's own."""
 import math
 
+from shared.basis import point_at
 from shared.words import bits, number, word
 
 WEIGHTS = ((1.0, 0.6, 0.3, 0.1), (0.4, 0.6, 0.6, 0.4), (0.1, 0.3, 0.6, 1.0))
@@ -154,21 +155,14 @@ def roots_of(section):
     return found
 
 
-def point_at(curve, t):
-    """By basis.rs."""
-    s = 1.0 - t
-    t2, s2 = t * t, s * s
-    t3, s3 = t2 * t, s2 * s
-    return tuple(p * s3 + q * 3.0 * s2 * t + r * 3.0 * s * t2 + e * t3 for p, q, r, e in zip(*curve))
-
-
 def nearest(curve, point):
     """Parameter and squared distance: of 0, the roots strictly between 0 and 1, and 1; the later wins a tie."""
+    eight = [value for corner in curve for value in corner]
     heights = heights_of(curve, point)
     roots = roots_of([(Watched(k / 5), height) for k, height in enumerate(heights)])
     best = None
     for t in [Watched(0.0)] + [root for root in roots if 0.0 < root < 1.0] + [Watched(1.0)]:
-        offset = minus(point_at(curve, t), point)
+        offset = minus(point_at(eight, t), point)
         far = dot(offset, offset)
         if best is None or far <= best[1]:
             best = t, far
