@@ -1,7 +1,7 @@
 //! Answers the lines of `replay` (compare/README.md lists them) with the functions of flo_curves, one line of answer for each, for compare/run and
 //! tools/make_vectors.py.
-//! It refuses only where the crate can't be asked: an odd number of coordinates (3), fewer than two marks (1), a tolerance that is NaN
-//! or below zero (5), a dimension above 1 (5). A panic of the crate is PANIC, a nearest search that does not end is ENDLESS.
+//! It refuses only where the crate can't be asked: an odd number of coordinates (3), fewer than two marks (1), a dimension above 1 (5).
+//! A panic of the crate is PANIC, a nearest search that does not end is ENDLESS.
 //! After a tab may follow what the comparison wants to know: `lost` where an operation on the way was not finite, `depth D` of a search.
 use flo_curves::bezier::*;
 use flo_curves::line::*;
@@ -245,8 +245,7 @@ fn answer(line: &str) -> Option<String> {
             let v = numbers(w)?;
             let (tolerance, rest) = (v[0], &v[if kind == "direct" { 5 } else { 1 }..]);
             let tangents = if kind == "direct" { Some((Coord2(v[1], v[2]), Coord2(v[3], v[4]))) } else { None };
-            if rest.len() % 2 == 1 { "3".into() } else if rest.len() < 4 { "1".into() } else if !(tolerance >= 0.0) { "5".into() }
-            else { fitted(kind, tolerance, tangents, &points(rest)) }
+            if rest.len() % 2 == 1 { "3".into() } else if rest.len() < 4 { "1".into() } else { fitted(kind, tolerance, tangents, &points(rest)) }
         }
     })
 }
