@@ -25,7 +25,7 @@ from shared.table import LARGEST
 from shared.words import number, numbers, pattern_of
 
 COLOURS = ('#1f5fa8', '#d9730d')  # curves, in turn
-INK, GREY, RED = '#222222', '#777777', '#c2185b'
+INK, RED = '#222222', '#c2185b'
 WIDE = 0.56                       # a letter's width in its height, at most, for the fonts below
 
 MEANING = {

@@ -111,7 +111,9 @@ class Compare(Case):
 
     def test_usage(self):
         flo, cases = self.in_copy('flo curves'), self.in_copy('cases.txt')
-        for rest in ([], ['--help'], [flo, '--answers'], [flo, cases, '--answers'], [flo, '--answers', cases], [flo, '--what', cases], [flo, cases, cases, '--answers', cases]):
+        for rest in (
+                [], ['--help'], [flo, '--answers'], [flo, cases, '--answers'], [flo, '--answers', cases], [flo, '--what', cases],
+                [flo, cases, cases, '--answers', cases]):
             self.compare(2, 'usage: compare/run', *rest)
 
     def test_checkout(self):

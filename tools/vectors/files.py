@@ -54,8 +54,8 @@ def again(data, held, room):
 
 # ---- the listing
 
-def refused(number_):
-    return f'REFUSED {number_}\n'
+def refused(refusal):
+    return f'REFUSED {refusal}\n'
 
 
 def listing_refusal(data):
@@ -78,9 +78,9 @@ def joined_line(data):
 
 
 def listing(data, rust):
-    number_ = listing_refusal(data)
-    if number_:
-        return refused(number_)
+    refusal = listing_refusal(data)
+    if refusal:
+        return refused(refusal)
     said = rust.answer_all([joined_line(data)])[0]
     if not said.startswith('0 '):
         return refused(said)
@@ -113,17 +113,17 @@ class Makers:
 TWO = house.build(HALF, outlines.LINE_OF_TWO)
 
 
-def listings(make_, before):
+def listings(makers, before):
     """From no marks to 513, 4,094 and 4,095; curves in the file do not count, and do not turn 2 into 4."""
     for count in (0, 1, 2, 3, 9):
-        yield make_.plain(count)
+        yield makers.plain(count)
     yield TWO
     yield from [data for _, data, _ in before[OUTLINES]]
-    yield house.build(bits(1e-4), make_.marks(512))
+    yield house.build(bits(1e-4), makers.marks(512))
     for count in (513, 4094, 4095):
-        yield make_.plain(count)
+        yield makers.plain(count)
     for count, curves in ((3, 1), (3, 2), (9, 8), (512, 100), (513, 1), (513, 512), (683, 682), (2726, 1)):
-        yield make_.full(count, curves)
+        yield makers.full(count, curves)
     yield house.build(HALF, outlines.LINE_OF_TWO, [(65535, [NAN] * 8)], [INFINITY, NAN])
 
 
@@ -142,13 +142,13 @@ def listing_numbers():
     yield house.build(HALF, patterns_of(1e6, -1e6, -1e6, 1e6))
 
 
-def no_files(make_):
+def no_files(makers):
     """What is no file, with 9 before 1 and 2."""
-    yield from (b'', b'\0', TWO[:-1], TWO + b'\0', make_.full(513, 1) + b'\0', bytes(65536), bytes(65537))
+    yield from (b'', b'\0', TWO[:-1], TWO + b'\0', makers.full(513, 1) + b'\0', bytes(65536), bytes(65537))
 
 
-def list_cases(make_, before):
-    for data in [*listings(make_, before), *listing_numbers(), *no_files(make_)]:
+def list_cases(makers, before):
+    for data in [*listings(makers, before), *listing_numbers(), *no_files(makers)]:
         yield LIST, data, ROOM
     for data, room in ((TWO, 156), (TWO, 155), (TWO + b'\0', 10), (TWO + b'\0', 9)):  # room for the text, and a byte less
         yield LIST, data, ROOM[:4] + [room]
@@ -168,31 +168,31 @@ def out_of_turn():
         one + marks + struct.pack('>IH', 68, 3) + bytes(66) + four)
 
 
-def read_cases(make_):
+def read_cases(makers):
     """Files that are whole; 9, then 2, then 4; each slice one too short."""
     for count, curves in ((0, 0), (1, 0), (2, 0), (2, 1), (9, 8), (512, 511), (513, 512), (4096, 0), (4096, 2), (683, 682)):
-        yield READ, make_.full(count, curves), ROOM
+        yield READ, makers.full(count, curves), ROOM
     odd_numbers = [(65535, [NAN + j for j in range(8)])]
     yield READ, house.build(NAN + 1, [MINUS + NAN + 7, 1, INFINITY, MINUS], odd_numbers, [MINUS, INFINITY + 1]), ROOM
-    nine = make_.full(9, 3)
+    nine = makers.full(9, 3)
     yield READ, nine + b'\0', NO_ROOM
-    yield READ, make_.plain(4097), ROOM
-    yield READ, make_.plain(4097), NO_ROOM
+    yield READ, makers.plain(4097), ROOM
+    yield READ, makers.plain(4097), NO_ROOM
     exact = [18, 3, 24, 9, len(nine)]
     yield READ, nine, exact
     for place in range(5):
         yield READ, nine, [have - (place == i) for i, have in enumerate(exact)]
-    yield READ, make_.full(9, 0), [18, 0, 0, 0, 164]
-    yield READ, make_.full(9, 0), [17, 0, 0, 0, 164]
+    yield READ, makers.full(9, 0), [18, 0, 0, 0, 164]
+    yield READ, makers.full(9, 0), [17, 0, 0, 0, 164]
     for data in out_of_turn():
         yield READ, data, ROOM
 
 
 def cases(before):
-    make_ = Makers(before)
-    yield from list_cases(make_, before)
-    yield from read_cases(make_)
-    for data in (TWO, make_.full(2, 1), make_.full(3, 2)):
+    makers = Makers(before)
+    yield from list_cases(makers, before)
+    yield from read_cases(makers)
+    for data in (TWO, makers.full(2, 1), makers.full(3, 2)):
         yield PREFIXES, data, ROOM
         yield CHANGES, data, ROOM
 

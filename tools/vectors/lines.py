@@ -38,8 +38,8 @@ def curve_borders():
 
 def nearest_lines():
     """Every eighth, and then all that are refused."""
-    cases = near.answers()
-    return cases[::8] + [case for case in cases if not case[1].startswith('0 ')]
+    found = near.answers()
+    return found[::8] + [case for case in found if not case[1].startswith('0 ')]
 
 
 def nearest_borders():
@@ -51,8 +51,8 @@ def nearest_borders():
 
 def outline_borders():
     """The room is always enough, so there is no 4; what only shows the room's part in the order is left out."""
-    cases = [outline for outline in outlines.kept_borders() if outline.refusal() != 4 and outline.count < 64]
-    return list(dict.fromkeys(outline.line() for outline in cases))
+    shown = [outline for outline in outlines.kept_borders() if outline.refusal() != 4 and outline.count < 64]
+    return list(dict.fromkeys(outline.line() for outline in shown))
 
 
 def long_lines():
@@ -86,23 +86,10 @@ def judged(line):
     return line, lists.line_answer(claim_of(line).answer())
 
 
-def parts_of(claim):
-    """A list in patterns: tolerance, marks, curves as pairs of first mark and eight patterns, parameters."""
-    curves = patterns_of(*claim.curves)
-    pairs = [(first, curves[8 * k:8 * k + 8]) for k, first in enumerate(claim.firsts)]
-    return bits(claim.tolerance), patterns_of(*claim.marks), pairs, patterns_of(*claim.params)
-
-
-def check_line(tolerance, marks, curves, params):
-    parts = ['check', word(tolerance), str(len(marks) // 2)] + [word(mark) for mark in marks] + [str(len(curves))]
-    parts += [f'{first} {words(eight)}' for first, eight in curves]
-    return ' '.join(parts + [word(t) for t in params])
-
-
 def spoilt(line):
     """A list that passes, and the same with one thing changed."""
-    tolerance, marks, curves, params = parts_of(claim_of(line))
-    put = lists.put
+    tolerance, marks, curves, params = claim_of(line).parts()
+    put, check_line = lists.put, lists.check_line
     count, last = len(params), len(curves) - 1
 
     def with_curves(other):

@@ -9,7 +9,7 @@ import math
 from shared import kept
 from shared.checker import FAULT_B, PASSED, REFUSED, check, distance
 from shared.command import Stop
-from shared.words import bits, digest_of, number, numbers, patterns_of, words
+from shared.words import bits, digest_of, number, numbers, patterns_of, word, words
 from vectors import outlines
 
 NAME = 'check_cases'
@@ -35,19 +35,22 @@ class Claim:
         lengths = len(self.marks) % 2, len(self.curves), len(self.firsts), len(self.params)
         return lengths == (0, 8 * self.claimed, self.claimed, len(self.marks) // 2)
 
-    def line(self):
-        """The line of replay."""
-        eights = [words(patterns_of(*self.curves[8 * k:8 * k + 8])) for k in range(self.claimed)]
-        parts = ['check', words(patterns_of(self.tolerance)), str(len(self.marks) // 2)]
-        parts += [words(patterns_of(*self.marks))] if self.marks else []
-        parts.append(str(self.claimed))
-        parts += [f'{first} {eight}' for first, eight in zip(self.firsts, eights)]
-        parts += [words(patterns_of(*self.params))] if self.params else []
-        return ' '.join(parts)
+    def parts(self):
+        """In patterns: tolerance, marks, curves as pairs of first mark and eight patterns, parameters."""
+        curves = patterns_of(*self.curves)
+        pairs = [(first, curves[8 * k:8 * k + 8]) for k, first in enumerate(self.firsts)]
+        return bits(self.tolerance), patterns_of(*self.marks), pairs, patterns_of(*self.params)
 
     def record(self):
         lengths = [len(self.marks), self.claimed, len(self.curves), len(self.firsts), len(self.params), int(self.damage)]
         return kept.packed(lengths + patterns_of(self.tolerance, *self.marks, *self.curves, *self.params) + self.firsts)
+
+
+def check_line(tolerance, marks, curves, params):
+    """The line of replay for a list in patterns."""
+    parts = ['check', word(tolerance), str(len(marks) // 2)] + [word(mark) for mark in marks] + [str(len(curves))]
+    parts += [f'{first} {words(eight)}' for first, eight in curves]
+    return ' '.join(parts + [word(t) for t in params])
 
 
 def line_answer(answer):
@@ -257,7 +260,7 @@ def hold(claims, rust):
 def hold_checkers(claims, rust):
     """The Rust side has a list checker of its own: the two must agree on every list that a line can carry."""
     whole = [claim for claim in claims if claim.is_whole()]
-    said = rust.ask([claim.line() for claim in whole])
+    said = rust.ask([check_line(*claim.parts()) for claim in whole])
     for claim, (answer, _) in zip(whole, said):
         if answer != line_answer(claim.answer()):
             raise Stop(f'the two checkers differ: {answer} and {line_answer(claim.answer())}', 1)
@@ -271,5 +274,6 @@ def make(rust):
     claims = made + claims
     hold_checkers(claims, rust)
     kinds = [claim.answer()[0] for claim in claims]
-    note = f'{kinds.count(PASSED)} passed, {len(kinds) - kinds.count(PASSED) - kinds.count(REFUSED)} with a fault, {kinds.count(REFUSED)} refused; the Rust gives {again} lists again'
+    passed, refused = kinds.count(PASSED), kinds.count(REFUSED)
+    note = f'{passed} passed, {len(kinds) - passed - refused} with a fault, {refused} refused; the Rust gives {again} lists again'
     return kept.Made(NAME, b''.join(claim.record() for claim in claims), ''.join(map(text, claims)), len(claims), len(before), note)

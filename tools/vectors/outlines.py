@@ -175,8 +175,8 @@ class Lists:
     def __init__(self, said):
         count, rest = int(said.split(' ')[1]), said.split(' ')[2:]
         nines = [rest[9 * k:9 * k + 9] for k in range(count)]
-        self.curves = [(int(nine[0]), [pattern_of(text) for text in nine[1:]]) for nine in nines]
-        self.params = [pattern_of(text) for text in rest[9 * count:]]
+        self.curves = [(int(nine[0]), [pattern_of(word) for word in nine[1:]]) for nine in nines]
+        self.params = [pattern_of(word) for word in rest[9 * count:]]
 
     def eights(self):
         return [pattern for _, eight in self.curves for pattern in eight]
@@ -213,8 +213,8 @@ def text(outline, said):
 def answers(outlines, rust):
     """The answers in replay's form, with 4 in its place."""
     refused = [outline.refusal() for outline in outlines]
-    said = iter(rust.answer_all([outline.line() for outline, number in zip(outlines, refused) if not number]))
-    return [str(number) if number else next(said) for number in refused]
+    said = iter(rust.answer_all([outline.line() for outline, refusal in zip(outlines, refused) if not refusal]))
+    return [str(refusal) if refusal else next(said) for refusal in refused]
 
 
 def make(rust):
