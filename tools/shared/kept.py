@@ -1,4 +1,5 @@
 """The kept input and output of the programs: crates/NAME/stdin and stdout."""
+import collections
 import os
 import struct
 import tempfile
@@ -48,11 +49,23 @@ def packed(patterns):
     return struct.pack('<%dQ' % len(patterns), *patterns)
 
 
-def first_of(rows, count, name):
-    """The rows that are kept, and that no generator makes."""
+def at_least(rows, count, name):
+    """The rows that were collected, which no generator makes: they must not become fewer."""
     if len(rows) < count:
-        raise Stop(f'crates/{name}/stdin has {len(rows)} records, of which {count} are wanted')
-    return rows[:count]
+        raise Stop(f'crates/{name}/stdin has {len(rows)} collected cases where {count} are wanted')
+    return rows
+
+
+def without(rows, made):
+    """The rows that are left if those that were made are taken out, each as often as it was made, the last ones first."""
+    out = collections.Counter(made)
+    left = []
+    for row in reversed(rows):
+        if out[row]:
+            out[row] -= 1
+        else:
+            left.append(row)
+    return left[::-1]
 
 
 class Made:

@@ -15,7 +15,7 @@ from vectors import outlines
 NAME = 'house_cases'
 LIST, READ, PREFIXES, CHANGES = range(4)
 HEAD = 7
-OUTLINES = slice(6, 8)  # where the outlines stand that are read from the kept input: 201 and 512 marks
+KEPT = 2  # outlines, of 201 and 512 marks
 HALF = bits(0.5)
 ROOM = [8192, 1024, 8192, 4096, 70000]  # marks, first marks, curves, parameters and bytes: enough for every file here
 NO_ROOM = [0] * 5
@@ -113,12 +113,12 @@ class Makers:
 TWO = house.build(HALF, outlines.LINE_OF_TWO)
 
 
-def listings(makers, before):
+def listings(makers, collected):
     """From no marks to 513, 4,094 and 4,095; curves in the file do not count, and do not turn 2 into 4."""
     for count in (0, 1, 2, 3, 9):
         yield makers.plain(count)
     yield TWO
-    yield from [data for _, data, _ in before[OUTLINES]]
+    yield from collected
     yield house.build(bits(1e-4), makers.marks(512))
     for count in (513, 4094, 4095):
         yield makers.plain(count)
@@ -147,8 +147,8 @@ def no_files(makers):
     yield from (b'', b'\0', TWO[:-1], TWO + b'\0', makers.full(513, 1) + b'\0', bytes(65536), bytes(65537))
 
 
-def list_cases(makers, before):
-    for data in [*listings(makers, before), *listing_numbers(), *no_files(makers)]:
+def list_cases(makers, collected):
+    for data in [*listings(makers, collected), *listing_numbers(), *no_files(makers)]:
         yield LIST, data, ROOM
     for data, room in ((TWO, 156), (TWO, 155), (TWO + b'\0', 10), (TWO + b'\0', 9)):  # room for the text, and a byte less
         yield LIST, data, ROOM[:4] + [room]
@@ -188,9 +188,16 @@ def read_cases(makers):
         yield READ, data, ROOM
 
 
+def collected_in(before, makers):
+    """The listed files that are not made here."""
+    made = [data for _, data, _ in list_cases(makers, [])]
+    files = [data for todo, data, _ in before if todo == LIST]
+    return kept.at_least(kept.without(files, made), KEPT, NAME)
+
+
 def cases(before):
     makers = Makers(before)
-    yield from list_cases(makers, before)
+    yield from list_cases(makers, collected_in(before, makers))
     yield from read_cases(makers)
     for data in (TWO, makers.full(2, 1), makers.full(3, 2)):
         yield PREFIXES, data, ROOM

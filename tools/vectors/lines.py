@@ -7,6 +7,7 @@ import math
 
 from shared import kept
 from shared.command import Stop
+from shared.table import FITS
 from shared.words import INFINITY, MINUS, NAN, bits, numbers, pattern_of, patterns_of, word, word_of, words
 from vectors import lists, near, outlines, roots, single
 
@@ -15,8 +16,8 @@ ROOM = 1 << 20     # bytes of a line that the program has room for
 MOST_MARKS = 4200  # marks of a line
 KEPT_CURVES = 230  # calls on single curves, 30 of them refused by 6
 KEPT_OUTLINES = 132
-KEPT_LISTS = 11    # sound lists; then four more, each with its changed copies
-SPOILT_LISTS = 4
+KEPT_LISTS = 15    # sound lists, the last four with changed copies
+COLLECTED = {'curves': single.KINDS, 'outlines': FITS, 'lists': ['check']}
 
 
 def values(*floats):
@@ -215,49 +216,44 @@ def mixed(rows, others):
     return out + left
 
 
-def unmixed(lines, others):
-    """The rows of which `mixed` made these lines."""
-    count = len(lines) - len(others)
-    places = mixed([True] * count, [False] * len(others))
-    return [line for line, is_row in zip(lines, places) if is_row]
-
-
-class Reader:
-    """The kept rows, taken at the place that the new ones have come to."""
-
-    def __init__(self, rows):
-        self.rows, self.made = rows, []
-
-    def add(self, rows):
-        self.made += rows
-
-    def kept(self, count):
-        place = len(self.made)
-        if len(self.rows) < place + count:
-            raise Stop(f'crates/{NAME}/stdin has {len(self.rows)} cases, of which the first {place + count} are wanted')
-        return self.rows[place:place + count]
-
-
-def cases(rows, rust):
-    """Every case with its answer, in the order of the file."""
-    reader = Reader(rows)
-
+def plain_rows(rust):
+    """The cases that are made here or by the other programs' modules, in their parts."""
     def asked(lines):
         lines = list(lines)
-        reader.add(zip(lines, rust.answer_all(lines)))
-    reader.add(root_lines())
-    asked(reader.kept(KEPT_CURVES))
-    asked(curve_borders())
-    reader.add(nearest_lines())
-    reader.add((line, '5') for line in nearest_borders())
-    asked(reader.kept(KEPT_OUTLINES))
-    asked(outline_borders())
-    asked(whole())
-    reader.add(nans())
-    reader.add(map(judged, reader.kept(KEPT_LISTS)))
-    for _ in range(SPOILT_LISTS):
-        reader.add(map(judged, spoilt(reader.kept(1)[0])))
-    return reader.made
+        return list(zip(lines, rust.answer_all(lines)))
+    return {
+        'roots': root_lines(), 'curve borders': asked(curve_borders()), 'nearest': nearest_lines() + [(line, '5') for line in nearest_borders()],
+        'outline borders': asked(outline_borders()), 'whole': asked(whole()), 'nans': list(nans())}
+
+
+def collected_lists(lines):
+    """Each collected list, and whether its changed copies follow it."""
+    found, left = [], lines
+    while left:
+        line, left = left[0], left[1:]
+        copies = list(spoilt(line))[1:] if claim_of(line).claimed else []
+        has_copies = bool(copies) and left[:1] == copies[:1]
+        found.append((line, has_copies))
+        if has_copies:
+            left = kept.without(left[::-1], copies)[::-1]  # the first ones first: a later list may have a copy in common
+    return found
+
+
+def list_rows(lines):
+    for line, has_copies in lines:
+        yield from map(judged, spoilt(line) if has_copies else [line])
+
+
+def cases(before, made, rust):
+    """Every case with its answer, in the order of the file. What was collected is what is left of the file before without all that is made."""
+    left = kept.without(before, [line for rows in made.values() for line, _ in rows])
+    by_kind = {name: [line for line in left if line.split(' ')[0] in kinds] for name, kinds in COLLECTED.items()}
+    curves = kept.at_least(by_kind['curves'], KEPT_CURVES, NAME)
+    fits = kept.at_least(by_kind['outlines'], KEPT_OUTLINES, NAME)
+    claims = kept.at_least(collected_lists(by_kind['lists']), KEPT_LISTS, NAME)
+    rows = made['roots'] + list(zip(curves, rust.answer_all(curves))) + made['curve borders'] + made['nearest']
+    rows += list(zip(fits, rust.answer_all(fits))) + made['outline borders'] + made['whole'] + made['nans']
+    return rows + list(list_rows(claims))
 
 
 def hold(lines, rust):
@@ -272,7 +268,7 @@ def make(rust):
     wrong = list(bad())
     hold(wrong, rust)
     end = long_lines() + LAST
-    rows = unmixed(before[:-len(end)], wrong)
-    found = mixed(cases(rows, rust), [(line, 'BAD') for line in wrong]) + end
+    rest = kept.without(before, wrong + [line for line, _ in end])
+    found = mixed(cases(rest, plain_rows(rust), rust), [(line, 'BAD') for line in wrong]) + end
     stdin = '\n'.join(line for line, _ in found).encode('latin-1')
     return kept.Made(NAME, stdin, ''.join(said + '\n' for _, said in found), len(found), len(before), kept.tally(said for _, said in found))

@@ -268,10 +268,9 @@ def hold_checkers(claims, rust):
 
 def make(rust):
     before = list(read())
-    made = list(borders())
-    claims = kept.first_of(before[len(made):], KEPT, NAME)
+    claims = kept.at_least(before[-KEPT:], KEPT, NAME)
     again = hold(claims, rust)
-    claims = made + claims
+    claims = list(borders()) + claims
     hold_checkers(claims, rust)
     kinds = [claim.answer()[0] for claim in claims]
     passed, refused = kinds.count(PASSED), kinds.count(REFUSED)

@@ -219,7 +219,7 @@ def answers(outlines, rust):
 
 def make(rust):
     before = list(read())
-    outlines = kept.first_of(before, KEPT, NAME) + list(kept_borders())
+    outlines = kept.at_least(before[:KEPT], KEPT, NAME) + list(kept_borders())
     said = answers(outlines, rust)
     stdin = b''.join(outline.record() for outline in outlines)
     stdout = ''.join(text(outline, answer) for outline, answer in zip(outlines, said))

@@ -79,7 +79,7 @@ def inputs():
 
 def roots():
     """Every pattern of this program's input with its root."""
-    first = kept.first_of(inputs(), PUBLISHED, NAME)
+    first = kept.at_least(inputs()[:PUBLISHED], PUBLISHED, NAME)
     return [(pattern, exact(pattern)) for pattern in first + list(edges())]
 
 

@@ -80,7 +80,7 @@ def make(rust):
     before = []
     while source:
         before.append(line_of(source.take(RECORD)))
-    cases = kept.first_of(before, KEPT, NAME) + list(borders())
+    cases = kept.at_least(before[:KEPT], KEPT, NAME) + list(borders())
     said = rust.answer_all(cases)
     stdin = b''.join(kept.packed(record_of(case)) for case in cases)
     stdout = ''.join(answer.lower() + '\n' for answer in said)
