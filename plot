@@ -4,18 +4,28 @@
     ./plot examples/cover.house > cover.svg
     ./plot examples/cover.house --listing kept.txt > cover.svg      draws a listing that was kept, and runs nothing
 
-The curves are those that the program `listing` prints (build it with `rt check listing`); plot itself fits nothing. A refused outline
-draws nothing: its number and meaning go to standard error, and the exit status is 1. Any other trouble is status 2.
+The curves are those that the program `listing` prints (build it with `rt check listing`); plot itself fits nothing. A listing that was kept is
+held against the marks first. A refused outline draws nothing: its number and meaning go to standard error, and the exit status is 1. Any other
+trouble is status 2.
 """
 import math
 import os
-import struct
+import re
 import subprocess
 import sys
 
+sys.dont_write_bytecode = True
 ROOT = os.path.dirname(os.path.realpath(__file__))
+sys.path.insert(0, os.path.join(ROOT, 'tools'))
+
+from shared import house
+from shared.checker import first_marks_fault
+from shared.command import Stop, read_lines, run
+from shared.table import LARGEST
+from shared.words import number, numbers, pattern_of
+
 COLOURS = ('#1f5fa8', '#d9730d')  # curves, in turn
-INK, GREY, RED = '#222222', '#777777', '#c2185b'
+INK, RED = '#222222', '#c2185b'
 WIDE = 0.56                       # a letter's width in its height, at most, for the fonts below
 
 MEANING = {
@@ -31,46 +41,77 @@ MEANING = {
 }
 
 
-def stop(status, words):
-    print(f'plot: {words}', file=sys.stderr)
-    sys.exit(status)
-
-
 # ---- reading
 
-def read_house(data):
-    """Tolerance and marks of a file that the listing program has taken: kinds 1 and 2 stand first."""
-    tolerance, = struct.unpack_from('<d', data, 6)
-    length, = struct.unpack_from('<I', data, 14)
-    return tolerance, [struct.unpack_from('<2d', data, 20 + 16 * i) for i in range((length - 2) // 16)]
+def meaning(refusal, data):
+    """A refusal in words. A file that is well formed and refused with 9 is longer than the listing reads."""
+    if refusal == 9 and len(data) > house.MOST_BYTES and house.parse(data):
+        count = house.parse(data).count
+        return f'the file is well formed, but its {count:,} marks and {len(data):,} bytes are more than the listing takes (512 marks, {house.MOST_BYTES:,} bytes)'
+    return MEANING[refusal]
 
 
 def run_listing(data):
-    done = subprocess.run([os.path.join(ROOT, 'tools', 'run_program'), 'listing'], input=data, stdout=subprocess.PIPE)
+    done = subprocess.run([os.path.join(ROOT, 'tools', 'run_program'), 'listing'], input=data, capture_output=True)
     if done.returncode:
-        stop(2, f'the listing program ended with status {done.returncode}')
-    return done.stdout.decode()
+        raise Stop(done.stderr.decode('utf-8', 'replace') or f'the listing program ended with status {done.returncode}')
+    return done.stdout.decode('latin-1').split('\n')[:-1]
 
 
-def number(bits):
-    return struct.unpack('<d', int(bits, 16).to_bytes(8, 'little'))[0]
+def read_listing(lines, name, data):
+    """How many marks it is of, and the curves as pairs of first mark and eight patterns; a refusal ends the run."""
+    head = lines[0] if lines else ''
+    refused = re.fullmatch('REFUSED ([1-9])', head)
+    if refused and len(lines) == 1:
+        raise Stop(f'{name} is refused with {refused[1]}: {meaning(int(refused[1]), data)}', 1)
+    outline = re.fullmatch('OUTLINE ([0-9]{1,4}) ([0-9]{1,4})', head)
+    if not outline:
+        raise Stop(f'this is no listing: its first line is {head[:60]!r}')
+    if len(lines) != 1 + int(outline[2]):
+        raise Stop(f'the listing has {len(lines) - 1} lines below its first, which says {outline[2]} curves')
+    curves = []
+    for place, line in enumerate(lines[1:], 2):
+        piece = re.fullmatch('PIECE ([0-9]{1,4})((?: [0-9A-F]{16}){8})', line)
+        if not piece:
+            raise Stop(f'line {place} of the listing is no curve: {line[:60]!r}')
+        curves.append((int(piece[1]), [pattern_of(text) for text in piece[2].split()]))
+    return int(outline[1]), curves
 
 
-def read_listing(text, name):
-    """First marks and curves, each of four points; a refusal ends the run."""
-    lines = text.split('\n')
-    words = lines[0].split(' ')
-    if words[0] == 'REFUSED' and len(words) == 2:
-        stop(1, f'{name} is refused with {words[1]}: {MEANING.get(int(words[1]), "no number of the table")}')
-    if words[0] != 'OUTLINE' or len(words) != 3:
-        stop(2, f'this is no listing: {lines[0][:60]!r}')
-    firsts, curves = [], []
-    for line in lines[1:1 + int(words[2])]:
-        words = line.split(' ')
-        v = [number(w) for w in words[2:]]
-        firsts.append(int(words[1]))
-        curves.append([(v[0], v[1]), (v[2], v[3]), (v[4], v[5]), (v[6], v[7])])
-    return firsts, curves
+def read_house(data, name):
+    """The file that a listing was kept of: one that the listing can have taken."""
+    held = house.parse(data)
+    if held is None:
+        raise Stop(f'{name} is no house file, or a damaged one')
+    wild = next((i // 2 for i, mark in enumerate(held.marks) if not abs(number(mark)) <= LARGEST), None)
+    if wild is not None:
+        raise Stop(f'mark {wild} of {name} is no number, or too far off: no listing has curves of it')
+    if not 0 <= number(held.tolerance) < math.inf:
+        raise Stop(f'the tolerance of {name} is bad: no listing has curves of it')
+    return held
+
+
+def hold(count, curves, held, name):
+    """The listing's curves begin and end on marks of this file, as those of a fit do."""
+    other = f'this is not the listing of {name}'
+    if count != held.count:
+        raise Stop(f'{other}: it is of {count} marks, and the file has {held.count}')
+    firsts = [first for first, _ in curves]
+    fault = first_marks_fault(count, len(curves), firsts)
+    if fault:
+        raise Stop(f'{other}: the first mark of curve {fault[1]} is out of turn' if curves else f'{other}: it has no curves')
+    for k, (first, eight) in enumerate(curves):
+        end = firsts[k + 1] if k + 1 < len(curves) else count - 1
+        if eight[:2] != held.marks[2 * first:2 * first + 2] or eight[6:] != held.marks[2 * end:2 * end + 2]:
+            raise Stop(f'{other}: curve {k} does not run from mark {first} to mark {end}')
+        if not all(map(math.isfinite, numbers(eight))):
+            raise Stop(f'{other}: a control point of curve {k} is no number')
+
+
+def pairs(patterns):
+    """Points of patterns."""
+    values = numbers(patterns)
+    return list(zip(values[0::2], values[1::2]))
 
 
 # ---- measuring
@@ -82,15 +123,21 @@ def at(curve, t):
 
 
 SAMPLES = 64
+MANY = 8192  # samples for a mark that seems to be too far off
+
+
+def sampled(curve, count=SAMPLES):
+    return [at(curve, i / count) for i in range(count + 1)]
 
 
 def distance(mark, curve, seen):
     """From a mark to the nearest point of a curve: the samples' low places, each refined by thirds."""
     far = [math.dist(mark, p) for p in seen]
     best = min(far)
-    for i in range(SAMPLES + 1):
-        if far[i] <= far[max(i - 1, 0)] and far[i] <= far[min(i + 1, SAMPLES)]:
-            low, high = max(i - 1, 0) / SAMPLES, min(i + 1, SAMPLES) / SAMPLES
+    last = len(seen) - 1
+    for i in range(last + 1):
+        if far[i] <= far[max(i - 1, 0)] and far[i] <= far[min(i + 1, last)]:
+            low, high = max(i - 1, 0) / last, min(i + 1, last) / last
             for _ in range(60):
                 a, b = low + (high - low) / 3, high - (high - low) / 3
                 if math.dist(mark, at(curve, a)) <= math.dist(mark, at(curve, b)):
@@ -101,17 +148,23 @@ def distance(mark, curve, seen):
     return best
 
 
-def worst(marks, firsts, curves, samples):
-    """The largest distance of a mark from its curve (the nearer one at a joint), its mark and its curve."""
+def distances(marks, firsts, curves, samples):
+    """(distance, mark, curve) of every mark and its curve; a joint has two."""
     ends = firsts[1:] + [len(marks) - 1]
-    found = (-1.0, 0, 0)
     for k, curve in enumerate(curves):
         for i in range(firsts[k], ends[k] + 1):
             joint = i in (firsts[k], ends[k])
-            far = 0.0 if joint and marks[i] in (curve[0], curve[3]) else distance(marks[i], curve, samples[k])
-            if far > found[0]:
-                found = (far, i, k)
-    return found
+            yield 0.0 if joint and marks[i] in (curve[0], curve[3]) else distance(marks[i], curve, samples[k]), i, k
+
+
+def hold_distances(marks, firsts, curves, tolerance, name):
+    """The marks lie within the tolerance of their curves, as those of a fit do; rounding is given a millionth of a millimetre."""
+    allowed = tolerance + 1e-6
+    for far, mark, under in distances(marks, firsts, curves, [sampled(curve) for curve in curves]):
+        if far > allowed:
+            far = distance(marks[mark], curves[under], sampled(curves[under], MANY))
+        if far > allowed:
+            raise Stop(f'this is not the listing of {name} at its tolerance of {said(tolerance, 4)} mm: mark {mark} is {said(far, 3)} mm from curve {under}')
 
 
 # ---- drawing
@@ -183,14 +236,15 @@ class Sheet:
 
 
 def draw(name, tolerance, marks, firsts, curves):
-    samples = [[at(c, i / SAMPLES) for i in range(SAMPLES + 1)] for c in curves]
+    samples = [sampled(curve) for curve in curves]
     seen = [p for s in samples for p in s] + marks
     left, right = min(x for x, _ in seen), max(x for x, _ in seen)
     low, high = min(y for _, y in seen), max(y for _, y in seen)
     wide, tall = right - left, high - low
     size = max(wide, tall)
 
-    far, mark, under = worst(marks, firsts, curves, samples)
+    # the largest distance of a mark from its curve; the first of equals
+    far, mark, under = max(distances(marks, firsts, curves, samples), key=lambda found: found[0])
     notes = [
         f'{name}: {len(marks)} marks, {len(curves)} curve{"s" * (len(curves) != 1)}, tolerance {said(tolerance, 4)} mm',
         f'Largest distance from a mark to its curve: {said(far, 3)} mm, at mark {mark} (ringed),',
@@ -289,22 +343,22 @@ def draw(name, tolerance, marks, firsts, curves):
 
 def main(words):
     if len(words) not in (1, 3) or words[0].startswith('-') or (len(words) == 3 and words[1] != '--listing'):
-        stop(2, 'usage: ./plot FILE.house [--listing FILE] > out.svg')
-    try:
-        with open(words[0], 'rb') as file:
-            data = file.read()
-        if len(words) == 3:
-            with open(words[2], encoding='ascii') as file:
-                text = file.read()
-        else:
-            text = run_listing(data)
-    except OSError as trouble:
-        stop(2, str(trouble))
+        raise Stop('usage: ./plot FILE.house [--listing FILE] > out.svg')
     name = os.path.basename(words[0])
-    firsts, curves = read_listing(text, name)
-    tolerance, marks = read_house(data)
+    with open(words[0], 'rb') as file:
+        data = file.read()
+    kept = len(words) == 3
+    count, listed = read_listing(read_lines(words[2]) if kept else run_listing(data), name, data)
+    held = read_house(data, name)
+    hold(count, listed, held, name)
+    firsts = [first for first, _ in listed]
+    curves = [pairs(eight) for _, eight in listed]
+    marks, tolerance = pairs(held.marks), number(held.tolerance)
+    if kept:
+        hold_distances(marks, firsts, curves, tolerance, name)
     sys.stdout.write(draw(name, tolerance, marks, firsts, curves))
+    return 0
 
 
 if __name__ == '__main__':
-    main(sys.argv[1:])
+    run('plot', main)

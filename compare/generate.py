@@ -4,22 +4,30 @@
 Single curves, nearest points, outlines (smooth, noisy, long, damaged), lists for the checker, and both sides of every limit.
 """
 import math
+import os
 import random
-import struct
 import sys
 
+sys.dont_write_bytecode = True
+sys.path.insert(0, os.path.join(os.path.dirname(os.path.dirname(os.path.realpath(__file__))), 'tools'))
+
+from shared.basis import point_at
+from shared.command import Stop, run
+from shared.words import word_of
+
 BIG, NAN, INF, LEAST = 1e6, math.nan, math.inf, 5e-324
+hand = random.Random()  # main gives it its seed
 
 
-def hx(v):
-    return '7FF8000000000000' if v != v else '%016X' % struct.unpack('<Q', struct.pack('<d', v))
+def spelt(part):
+    """A whole number, a number, or several numbers, as words of a line."""
+    if isinstance(part, (list, tuple)):
+        return [word_of(value) for value in part]
+    return [str(part) if isinstance(part, int) else word_of(part)]
 
 
-def line(kind, *words):
-    flat = []
-    for w in words:
-        flat += [hx(v) for v in w] if isinstance(w, (list, tuple)) else [str(w) if isinstance(w, int) else hx(w)]
-    return ' '.join([kind] + flat)
+def line(kind, *parts):
+    return ' '.join([kind] + [text for part in parts for text in spelt(part)])
 
 
 def above(v):
@@ -177,14 +185,6 @@ def near():
 
 # ---- lists for the checker: curves drawn first, and marks laid on them
 
-def point(t, c):
-    """basis.rs, operation by operation, so that a mark laid at t is at distance 0."""
-    s = 1.0 - t
-    t2, s2 = t * t, s * s
-    t3, s3 = t2 * t, s2 * s
-    return [c[i] * s3 + c[i + 2] * 3.0 * s2 * t + c[i + 4] * 3.0 * s * t2 + c[i + 6] * t3 for i in (0, 1)]
-
-
 def drawn(count):
     """Curves that meet, with 2 to 6 marks each: marks, first marks, curves, parameters."""
     marks, firsts, curves_, at = [], [], [], []
@@ -197,7 +197,7 @@ def drawn(count):
         marks += here
         at.append(hand.choice([0.0, -0.0]))
         for t in sorted(hand.random() for _ in range(hand.randint(0, 4))):
-            marks += point(t, c)
+            marks += point_at(c, t)  # at distance 0, since the checkers work it out alike
             at.append(t)
         here = end
     return marks + here, firsts, curves_, at + [1.0]
@@ -256,8 +256,15 @@ def nonsense():
     yield 'check 3FF0000000000000 2 0000000000000000 0000000000000000'
 
 
-if __name__ == '__main__':
-    hand = random.Random(int(sys.argv[1]) if len(sys.argv) > 1 else 1)
+def main(words):
+    if len(words) > 1 or not all(text.isdecimal() for text in words):
+        raise Stop('usage: compare/generate.py [SEED], SEED a whole number')
+    hand.seed(int(words[0]) if words else 1)
     for part in (single, near, outlines, limits, lists, nonsense):
         for case in part():
             print(case)
+    return 0
+
+
+if __name__ == '__main__':
+    run('generate', main)

@@ -1,21 +1,29 @@
 #!/usr/bin/env python3
-"""make_examples.py: writes the house files of examples/, the same bytes on every run.
+"""make_examples.py [--write]: makes the house files of examples/, the same bytes on every run, and holds them against those that are there.
 
 Shapes are drawn by formula, walked at a given spacing, shaken by a seeded hand where the outline is traced by hand, and put on the
-grid of a digitising table (0.05 mm). Units are millimetres.
+grid of a digitising table (0.05 mm). Units are millimetres. Nothing is written but with --write.
+Exit status: 0 the files are as they are made, or were written; 1 some differ; 2 misuse.
 """
 import math
 import os
 import random
-import struct
+import sys
+
+sys.dont_write_bytecode = True
+sys.path.insert(0, os.path.dirname(os.path.realpath(__file__)))
+
+from shared.command import Stop, run
+from shared.house import build
+from shared.kept import ROOT, replace
+from shared.words import bits, patterns_of
 
 GRID = 20  # marks are whole twentieths of a millimetre
 
 
 def house(tolerance, marks):
     """A house file of kinds 1 and 2: tolerance and marks."""
-    body = b''.join(struct.pack('<2d', x, y) for x, y in marks)
-    return struct.pack('<IHd', 10, 1, tolerance) + struct.pack('<IH', 2 + len(body), 2) + body
+    return build(bits(tolerance), [pattern for mark in marks for pattern in patterns_of(*mark)])
 
 
 def grid(marks):
@@ -154,11 +162,31 @@ def rested():
     return house(0.5, [(412.35, 118.6)] * 3)
 
 
+def settle(make, write):
+    """Says how an example stands, and puts it in place if asked to; whether all is well."""
+    data = make()
+    path = os.path.join(ROOT, 'examples', make.__name__ + '.house')
+    about = f'{make.__name__}.house: {len(data)} bytes, {(len(data) - 20) // 16} marks'
+    before = b''
+    if os.path.isfile(path):
+        with open(path, 'rb') as file:
+            before = file.read()
+    if before == data:
+        print(f'{about}: as kept')
+    elif write:
+        replace(path, data)
+        print(f'{about}: written')
+    else:
+        print(f'{about}: not as kept')
+    return write or before == data
+
+
+def main(words):
+    if words not in ([], ['--write']):
+        raise Stop('usage: tools/make_examples.py [--write]')
+    well = [settle(make, bool(words)) for make in (cover, luff, window, hood, lost, rested)]
+    return 0 if all(well) else 1
+
+
 if __name__ == '__main__':
-    folder = os.path.join(os.path.dirname(os.path.abspath(__file__)), '..', 'examples')
-    os.makedirs(folder, exist_ok=True)
-    for make in (cover, luff, window, hood, lost, rested):
-        data = make()
-        with open(os.path.join(folder, make.__name__ + '.house'), 'wb') as out:
-            out.write(data)
-        print(f'{make.__name__}.house: {len(data)} bytes, {(len(data) - 20) // 16} marks')
+    run('make_examples', main)

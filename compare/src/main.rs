@@ -1,6 +1,7 @@
-//! Answers the lines of `replay` (compare/README.md lists them) with the functions of flo_curves, one line of answer for each.
-//! It refuses only where the crate can't be asked: an odd number of coordinates (3), fewer than two marks (1), a tolerance that is NaN
-//! or below zero (5), a dimension above 1 (5). A panic of the crate is PANIC, a nearest search that does not end is ENDLESS.
+//! Answers the lines of `replay` (compare/README.md lists them) with the functions of flo_curves, one line of answer for each, for compare/run and
+//! tools/make_vectors.py.
+//! It refuses only where the crate can't be asked: an odd number of coordinates (3), fewer than two marks (1), a dimension above 1 (5).
+//! A panic of the crate is PANIC, a nearest search that does not end is ENDLESS.
 //! After a tab may follow what the comparison wants to know: `lost` where an operation on the way was not finite, `depth D` of a search.
 use flo_curves::bezier::*;
 use flo_curves::line::*;
@@ -8,6 +9,7 @@ use std::cell::{Cell, RefCell};
 use std::io::*;
 use std::ops::*;
 use std::rc::Rc;
+use std::str;
 
 thread_local! { static LOST: Cell<bool> = Cell::new(false); }
 /// Passes a number on, and notes one that is not finite.
@@ -56,7 +58,8 @@ fn eight<C: BezierCurve>(c: &C) -> [f64; 8] where C::Point: Coordinate2D {
     let (s, (a, b), e) = c.all_points();
     [s.x(), s.y(), a.x(), a.y(), b.x(), b.y(), e.x(), e.y()]
 }
-fn bits(v: f64) -> u64 { if v.is_nan() { 0x7FF8_0000_0000_0000 } else { v.to_bits() } }
+/// A number's bits, one pattern for all NaNs. The test is of whole numbers: one of floats may be taken away by the compiler, to which all NaNs are alike.
+fn bits(v: f64) -> u64 { let b = v.to_bits(); if b << 1 > 0xFFE0_0000_0000_0000 { 0x7FF8_0000_0000_0000 } else { b } }
 fn hex(v: &[f64]) -> String { v.iter().map(|x| format!(" {:016X}", bits(*x))).collect() }
 fn points(v: &[f64]) -> Vec<Coord2> { v.chunks(2).map(|c| Coord2(c[0], c[1])).collect() }
 fn number(w: &str) -> Option<f64> {
@@ -185,7 +188,7 @@ fn check_line(w: &[&str]) -> Option<String> {
     if w.len() != count_at + 1 + k.checked_mul(9)? + n { return None; }
     let (mut firsts, mut curves) = (vec![], vec![]);
     for c in w[count_at + 1..count_at + 1 + 9 * k].chunks(9) {
-        firsts.push(whole(c[0])?);
+        firsts.push(u32::try_from(whole(c[0])?).ok()? as usize);
         curves.push(<[f64; 8]>::try_from(numbers(&c[1..])?).ok()?);
     }
     Some(check(number(w[0])?, &points(&numbers(&w[2..count_at])?), &firsts, &curves, &numbers(&w[count_at + 1 + 9 * k..])?))
@@ -242,8 +245,7 @@ fn answer(line: &str) -> Option<String> {
             let v = numbers(w)?;
             let (tolerance, rest) = (v[0], &v[if kind == "direct" { 5 } else { 1 }..]);
             let tangents = if kind == "direct" { Some((Coord2(v[1], v[2]), Coord2(v[3], v[4]))) } else { None };
-            if rest.len() % 2 == 1 { "3".into() } else if rest.len() < 4 { "1".into() } else if !(tolerance >= 0.0) { "5".into() }
-            else { fitted(kind, tolerance, tangents, &points(rest)) }
+            if rest.len() % 2 == 1 { "3".into() } else if rest.len() < 4 { "1".into() } else { fitted(kind, tolerance, tangents, &points(rest)) }
         }
     })
 }
@@ -251,10 +253,10 @@ fn answer(line: &str) -> Option<String> {
 fn all() {
     std::panic::set_hook(Box::new(|_| {}));
     let mut out = BufWriter::new(stdout().lock());
-    for line in stdin().lock().lines() {
-        let line = line.expect("a line of text");
+    for line in stdin().lock().split(b'\n') {
+        let line = line.expect("standard input");
         LOST.with(|l| l.set(false));
-        let said = std::panic::catch_unwind(|| answer(&line).unwrap_or("BAD".into())).unwrap_or("PANIC".into());
+        let said = std::panic::catch_unwind(|| str::from_utf8(&line).ok().and_then(answer).unwrap_or("BAD".into())).unwrap_or("PANIC".into());
         let lost = LOST.with(|l| l.get()) && !said.contains('\t');
         writeln!(out, "{}{}", said, if lost { "\tlost" } else { "" }).expect("standard output");
     }

@@ -1,0 +1,458 @@
+#!/usr/bin/env python3
+"""tools_test.py: tests plot, compare and the tools, above all where something is wrong with their words or files.
+
+They run on what `rt check` has built (target/bin/listing and target/bin/replay), in a copy of the repository whose path has a blank in it, with a
+stand-in for cargo whose Rust side is the port itself: so neither Rust nor a network is wanted. The last line is `N passed, M failed`.
+"""
+import filecmp
+import os
+import shutil
+import stat
+import struct
+import subprocess
+import sys
+import tempfile
+import unittest
+
+sys.dont_write_bytecode = True
+ROOT = os.path.dirname(os.path.dirname(os.path.realpath(__file__)))
+sys.path.insert(0, os.path.join(ROOT, 'tools'))
+
+from shared import house
+from shared.words import INFINITY, NAN, bits, patterns_of, word_of, words
+
+CARGO = '''#!/bin/sh
+# stands in for cargo: its Rust side answers as $RUST_SIDE says
+while [ "$1" != --target-dir ]; do shift; done
+[ "${RUST_SIDE:-}" != unbuilt ] || exit 101
+mkdir -p "$2/release"
+cp "$0.side" "$2/release/compare"
+'''
+SIDE = '''#!/bin/sh
+answer() { "%s/tools/run_program" replay; }
+case "${RUST_SIDE:-alike}" in
+    alike) answer ;;
+    nan-signs) answer | sed 's/7FF8000000000000/FFF8000000000001/g' ;;
+    other) answer | sed 's/^0 4/0 3/' ;;
+    early) answer | head -n 1 ;;
+    panic) answer | sed 's/.*/PANIC/' ;;
+esac
+'''
+LINES = [f'sqrt {word_of(4.0)}', f'sqrt {word_of(-1.0)}']
+copy = None  # the folder of the copy
+
+
+def setUpModule():
+    global copy
+    for name in ('listing', 'replay'):
+        if not os.path.isfile(os.path.join(ROOT, 'target', 'bin', name)):
+            raise AssertionError(f'there is no target/bin/{name}; build it with: rt check {name}')
+    copy = os.path.join(tempfile.mkdtemp(), 'a copy')
+    os.mkdir(copy)
+    for name in ('compare', 'crates', 'docs', 'examples', 'tools'):
+        shutil.copytree(os.path.join(ROOT, name), os.path.join(copy, name), ignore=shutil.ignore_patterns('proofs', 'src' if name == 'crates' else '', 'must-fail'))
+    for name in ('plot', 'crates.txt'):
+        shutil.copy2(os.path.join(ROOT, name), copy)
+    os.mkdir(os.path.join(copy, 'target'))
+    os.symlink(os.path.join(ROOT, 'target', 'bin'), os.path.join(copy, 'target', 'bin'))
+    write('bin/cargo', CARGO, runs=True)
+    write('bin/cargo.side', SIDE % copy, runs=True)
+    write('flo curves/Cargo.toml', '[package]\nname = "flo_curves" # as it is called\nversion = "0.8.0"\n')
+    write('cases.txt', ''.join(line + '\n' for line in LINES))
+
+
+def tearDownModule():
+    shutil.rmtree(os.path.dirname(copy))
+
+
+def write(name, data, runs=False):
+    """A file of the copy; its path."""
+    path = os.path.join(copy, name)
+    os.makedirs(os.path.dirname(path), exist_ok=True)
+    with open(path, 'wb') as file:
+        file.write(data.encode('utf-8') if isinstance(data, str) else data)
+    if runs:
+        os.chmod(path, os.stat(path).st_mode | stat.S_IXUSR)
+    return path
+
+
+def read(name):
+    with open(os.path.join(copy, name), 'rb') as file:
+        return file.read()
+
+
+class Case(unittest.TestCase):
+    def call(self, *command, side='alike', path=None):
+        """Runs a command of the copy, from another folder: status, standard output, standard error."""
+        found = path if path is not None else os.path.join(copy, 'bin') + os.pathsep + os.environ['PATH']
+        done = subprocess.run(
+            [os.path.join(copy, command[0]), *command[1:]], cwd=os.path.dirname(copy), capture_output=True, env={**os.environ, 'PATH': found, 'RUST_SIDE': side})
+        said = done.stderr.decode('utf-8')
+        self.assertNotIn('Traceback', said)
+        return done.returncode, done.stdout.decode('utf-8'), said
+
+    def says(self, status, piece, *command, **more):
+        """The command ends with this status and says one line with this piece in it on standard error, and nothing else."""
+        got, out, said = self.call(*command, **more)
+        self.assertEqual((got, out, said.count('\n')), (status, '', 1), said)
+        self.assertIn(piece, said)
+
+    def in_copy(self, name):
+        return os.path.join(copy, name)
+
+
+class Compare(Case):
+    def compare(self, status, piece, *rest, **more):
+        self.says(status, piece, 'compare/run', *rest, **more)
+
+    def counts(self, status, last, *rest, **more):
+        got, out, _ = self.call('compare/run', self.in_copy('flo curves'), *rest, **more)
+        self.assertEqual((got, out.split('\n')[-2]), (status, last), out)
+
+    def test_usage(self):
+        flo, cases = self.in_copy('flo curves'), self.in_copy('cases.txt')
+        for rest in (
+                [], ['--help'], [flo, '--answers'], [flo, cases, '--answers'], [flo, '--answers', cases], [flo, '--what', cases],
+                [flo, cases, cases, '--answers', cases]):
+            self.compare(2, 'usage: compare/run', *rest)
+
+    def test_checkout(self):
+        self.compare(2, 'has no Cargo.toml', self.in_copy('nowhere'))
+        self.compare(2, 'has no Cargo.toml', self.in_copy('docs'))
+        write('space/Cargo.toml', '[workspace]\nmembers = ["flo"]\n[workspace.package]\nname = "none"\n')
+        self.compare(2, 'a workspace', self.in_copy('space'))
+        write('empty/Cargo.toml', '')
+        self.compare(2, 'names no package', self.in_copy('empty'))
+
+    def test_workspace_that_is_a_package(self):
+        write('both/Cargo.toml', '[workspace]\nmembers = ["demo"]\n\n[dependencies]\nname = "0.1"\n[ package ]\n[package]\n  name = \'flo_curves\'\n')
+        got, out, _ = self.call('compare/run', self.in_copy('both'), self.in_copy('cases.txt'))
+        self.assertEqual(got, 0, out)
+        self.assertIn('package = "flo_curves"', read('target/compare/Cargo.toml').decode())
+
+    def test_cargo(self):
+        flo, cases = self.in_copy('flo curves'), self.in_copy('cases.txt')
+        bare = write('bare/python3', f'#!/bin/sh\nexec "{sys.executable}" "$@"\n', runs=True)
+        self.compare(2, 'cargo is not on the path', flo, cases, path=os.path.dirname(bare))
+        self.compare(2, 'was not built', flo, cases, side='unbuilt')
+        self.compare(2, 'the Rust ended with status 0 after 1 of 2 answers', flo, cases, side='early')
+
+    def test_port_not_built(self):
+        os.rename(self.in_copy('target/bin'), self.in_copy('target/away'))
+        try:
+            self.compare(2, 'rt check replay', self.in_copy('flo curves'))
+        finally:
+            os.rename(self.in_copy('target/away'), self.in_copy('target/bin'))
+
+    def test_cases(self):
+        flo = self.in_copy('flo curves')
+        self.compare(2, 'is empty', flo, write('none.txt', ''))
+        self.compare(2, 'No such file', flo, self.in_copy('nowhere.txt'))
+        self.compare(2, 'Is a directory', flo, self.in_copy('docs'))
+        self.compare(2, 'line 2 is not plain text', flo, write('accent.txt', LINES[0] + '\nsqrt é\n'))
+        self.compare(2, 'line 1 is not plain text', flo, write('bytes.txt', bytes(range(128, 256))))
+        mark = words(patterns_of(1.0, 2.0))
+        long_fit = ' '.join(['joined', word_of(0.5)] + [mark] * 4201)
+        self.compare(2, 'line 2 has more than the 4,200 marks', flo, write('long.txt', f'{LINES[0]}\n{long_fit}\n'))
+        self.compare(2, 'line 1 has more than the 4,200 marks', flo, write('long.txt', f'check {word_of(0.5)} 4201 {mark}\n'))
+
+    def test_last_line_without_newline(self):
+        self.counts(0, '2 cases, 0 different', write('open.txt', '\n'.join(LINES)))
+        self.counts(0, '1 cases, 0 different', write('open.txt', LINES[0]))
+        self.counts(0, '2 cases, 0 different', write('open.txt', '\r\n'.join(LINES) + '\r\n'))
+        self.counts(0, '4 cases, 0 different', self.in_copy('cases.txt'), self.in_copy('cases.txt'))
+
+    def test_nan_equals_nan(self):
+        self.counts(0, '2 cases, 0 different', self.in_copy('cases.txt'), side='nan-signs')
+
+    def test_different(self):
+        self.counts(1, '2 cases, 1 different', self.in_copy('cases.txt'), side='other')
+
+    def test_answers(self):
+        flo, cases = self.in_copy('flo curves'), self.in_copy('cases.txt')
+        good = [f'0 {word_of(2.0)}', f'0 {word_of(float("nan"))}']
+        self.counts(0, '2 cases, 0 different', '--answers', write('answers.txt', '\n'.join(good)), cases)
+        self.compare(2, '1 answers for 2 cases', flo, '--answers', write('answers.txt', good[0] + '\n'), cases)
+        self.compare(2, 'is empty', flo, '--answers', write('answers.txt', ''), cases)
+        self.compare(2, 'No such file', flo, '--answers', self.in_copy('nowhere.txt'), cases)
+
+    def test_junk_answers_are_different(self):
+        near = 'nearest ' + words(patterns_of(0, 0, 0, 1, 1, 1, 1, 0, 0.5, 2))
+        wild = 'nearest ' + words(patterns_of(0, 0, 0, 1, 1, 1, 1, 0, 0.5) + [NAN])
+        cases = write('near.txt', f'{near}\n{near}\n{near}\n{wild}\n{wild}\n')
+        junk = ['0', '0 x y', f'0 {word_of(0.5)} {word_of(-1.0)}', '5 5', '']
+        self.counts(1, '5 cases, 5 different', '--answers', write('junk.txt', '\n'.join(junk) + '\n'), cases)
+
+    def test_generator(self):
+        made = [subprocess.run([sys.executable, self.in_copy('compare/generate.py'), *seed], capture_output=True) for seed in ([], ['1'], ['x'], ['1', '2'])]
+        self.assertEqual([done.returncode for done in made], [0, 0, 2, 2])
+        self.assertEqual(made[0].stdout, made[1].stdout)
+        self.assertGreater(made[0].stdout.count(b'\n'), 5000)
+
+
+def marks_file(count, tolerance=0.5, **change):
+    """A house file of so many marks on a shallow curve; change names patterns by their place, as p3=NAN."""
+    marks = patterns_of(*(value for i in range(count) for value in (float(i), (i % 7) * 0.01)))
+    for place, pattern in change.items():
+        marks[int(place[1:])] = pattern
+    return house.build(bits(tolerance), marks)
+
+
+class Plot(Case):
+    def listing(self, name):
+        with open(self.in_copy(f'examples/{name}.house'), 'rb') as file:
+            return subprocess.run([self.in_copy('tools/run_program'), 'listing'], stdin=file, capture_output=True, check=True).stdout.decode('ascii')
+
+    def refuses(self, piece, listing, name='cover'):
+        """A listing that is held against an outline: status 2 and one line."""
+        self.says(2, piece, 'plot', self.in_copy(f'examples/{name}.house'), '--listing', write('kept.txt', listing))
+
+    def test_usage(self):
+        for rest in ([], ['--listing'], ['a', 'b'], ['a', '--listing'], ['a', '--list', 'b'], ['a', '--listing', 'b', 'c']):
+            self.says(2, 'usage: ./plot', 'plot', *rest)
+
+    def test_files(self):
+        self.says(2, 'No such file', 'plot', self.in_copy('nowhere.house'))
+        self.says(2, 'Is a directory', 'plot', self.in_copy('docs'))
+        self.says(2, 'No such file', 'plot', self.in_copy('examples/cover.house'), '--listing', self.in_copy('nowhere'))
+
+    def test_drawing(self):
+        for name in ('cover', 'luff', 'window', 'hood'):
+            got, drawn, said = self.call('plot', self.in_copy(f'examples/{name}.house'))
+            self.assertEqual((got, said, drawn[:5], drawn[-7:]), (0, '', '<svg ', '</svg>\n'))
+            kept = write('kept.txt', self.listing(name))
+            self.assertEqual(self.call('plot', self.in_copy(f'examples/{name}.house'), '--listing', kept), (0, drawn, ''))
+
+    def test_two_equal_marks(self):
+        path = write('spot.house', house.build(bits(0.5), patterns_of(3, 5, 3, 5)))
+        self.assertEqual(self.call('plot', path)[0], 0)
+
+    def test_refusals(self):
+        self.says(1, 'refused with 5', 'plot', self.in_copy('examples/lost.house'))
+        self.says(1, 'refused with 6', 'plot', self.in_copy('examples/rested.house'))
+        self.says(1, 'refused with 1', 'plot', write('one.house', marks_file(1)))
+        self.says(1, 'refused with 2', 'plot', write('many.house', marks_file(513)))
+        self.says(1, 'refused with 9: the house file is badly formed', 'plot', write('junk.house', b'no house file'))
+        self.says(1, 'refused with 9: the house file is badly formed', 'plot', write('none.house', b''))
+        self.says(1, 'refused with 9: the house file is badly formed', 'plot', write('zeros.house', bytes(70000)))
+
+    def test_a_long_file_is_not_badly_formed(self):
+        self.says(1, 'refused with 2', 'plot', write('long.house', marks_file(4094)))
+        for count in (4095, 4096, 5000):
+            self.says(1, 'refused with 9: the file is well formed, but its', 'plot', write('long.house', marks_file(count)))
+
+    def test_curves_may_make_a_file_too_long(self):
+        curves = [(i, patterns_of(*[0.0] * 8)) for i in range(682)]
+        for count, number in ((683, 2), (684, 9)):
+            data = house.build(bits(0.5), patterns_of(*range(2 * count)), curves, patterns_of(*[0.0] * count))
+            self.says(1, f'refused with {number}', 'plot', write('full.house', data))
+
+    def test_junk_for_a_listing(self):
+        for junk, piece in (
+                ('', 'is empty'), ('\n', 'no listing'), ('no listing\n', 'no listing'), ('OUTLINE\n', 'no listing'), ('OUTLINE 142 x\n', 'no listing'),
+                ('OUTLINE -142 24\n', 'no listing'), ('REFUSED\n', 'no listing'), ('REFUSED x\n', 'no listing'), ('REFUSED 10\n', 'no listing'), ('REFUSED 0\n', 'no listing'),
+                ('REFUSED 5\nREFUSED 5\n', 'no listing'), (bytes(range(256)), 'not plain text'), ('OUTLINE 142 0\n', 'has no curves'),
+                ('OUTLINE 142 2\nPIECE 0\n', 'which says 2 curves'), ('OUTLINE 142 1\nPIECE 0\n', 'line 2 of the listing is no curve')):
+            self.refuses(piece, junk)
+        with open(self.in_copy('docs/cover.png'), 'rb') as file:
+            self.refuses('not plain text', file.read())
+
+    def test_kept_refusal(self):
+        self.says(1, 'refused with 6', 'plot', self.in_copy('examples/rested.house'), '--listing', write('kept.txt', 'REFUSED 6\n'))
+
+    def test_listing_of_another_outline(self):
+        self.refuses('it is of 53 marks, and the file has 142', self.listing('luff'))
+
+    def test_listing_with_a_thing_changed(self):
+        lines = self.listing('cover').split('\n')[:-1]
+
+        def changed(place, word, text):
+            """The listing with one word of a line in place of another."""
+            copied = list(lines)
+            pieces = copied[place].split(' ')
+            pieces[word] = text
+            copied[place] = ' '.join(pieces)
+            return '\n'.join(copied) + '\n'
+        self.refuses('the file has 142', changed(0, 1, '141'))
+        self.refuses('which says 23 curves', changed(0, 2, '23'))
+        self.refuses('which says 24 curves', '\n'.join(lines[:-1]) + '\n')
+        self.refuses('which says 24 curves', '\n'.join(lines + lines[-1:]) + '\n')
+        self.refuses('out of turn', changed(1, 1, '1'))
+        self.refuses('out of turn', changed(3, 1, '1'))
+        self.refuses('out of turn', changed(24, 1, '141'))
+        self.refuses('does not run from mark', changed(4, 1, '10'))
+        self.refuses('does not run from mark', changed(5, 2, word_of(1773.5)))
+        self.refuses('does not run from mark', changed(5, 9, word_of(0.0)))
+        self.refuses('a control point of curve 4', changed(5, 4, '%016X' % NAN))
+        self.refuses('a control point of curve 4', changed(5, 5, '%016X' % INFINITY))
+        self.refuses('no curve', changed(5, 4, 'zzzz'))
+        self.refuses('no curve', changed(5, 4, word_of(1.5).lower()))
+        self.refuses('mm from curve 4', changed(5, 4, word_of(2000.0)))
+        self.assertEqual(self.call('plot', self.in_copy('examples/cover.house'), '--listing', write('kept.txt', changed(0, 0, 'OUTLINE')))[0], 0)
+
+    def test_house_file_beside_a_listing(self):
+        kept = write('kept.txt', self.listing('cover'))
+        data = read('examples/cover.house')
+        for other, piece in (
+                (b'', 'no house file'), (b'junk', 'no house file'), (data[:-1], 'no house file'), (data + b'\0', 'no house file'),
+                (data[:6] + struct.pack('<d', -1.0) + data[14:], 'the tolerance'), (data[:6] + struct.pack('<d', float('nan')) + data[14:], 'the tolerance'),
+                (data[:500] + struct.pack('<d', float('nan')) + data[508:], 'mark 30 of'), (data[:500] + struct.pack('<d', 2e6) + data[508:], 'mark 30 of'),
+                (data[:500] + struct.pack('<d', 1500.0) + data[508:], 'mark 30 is'), (data[:6] + struct.pack('<d', 1e-9) + data[14:], 'at its tolerance of')):
+            self.says(2, piece, 'plot', write('other.house', other), '--listing', kept)
+
+    def test_not_built(self):
+        os.rename(self.in_copy('target/bin'), self.in_copy('target/away'))
+        try:
+            self.says(2, 'rt check listing', 'plot', self.in_copy('examples/cover.house'))
+        finally:
+            os.rename(self.in_copy('target/away'), self.in_copy('target/bin'))
+
+
+class Vectors(Case):
+    def make(self, status, piece, *rest, **more):
+        self.says(status, piece, 'tools/make_vectors.py', *rest, **more)
+
+    def kept(self, name):
+        return [read(f'crates/{name}/{part}') for part in ('stdin', 'stdout')]
+
+    def restore(self, name):
+        for part in ('stdin', 'stdout'):
+            shutil.copy2(os.path.join(ROOT, 'crates', name, part), self.in_copy(f'crates/{name}/{part}'))
+
+    def test_usage(self):
+        flo = self.in_copy('flo curves')
+        for rest in ([flo, flo], ['--wrote'], [flo, '-w'], [flo, 'fit_case', 'eval_cases']):
+            self.make(2, 'usage: tools/make_vectors.py', *rest)
+        for rest in ([], ['fit_cases'], ['--write']):
+            self.make(2, 'give a checkout of flo_curves', *rest)
+        for rest in (['--published'], ['--published', 'x'], ['--published', 'x', 'y', 'z']):
+            self.make(2, 'usage: tools/make_vectors.py --published', *rest)
+        self.make(2, 'No such file', '--published', 'x', 'y')
+        table = write('table.txt', 'no table\n')
+        self.make(2, 'there is no table', '--published', table, table)
+
+    def test_mistyped_folder(self):
+        before = self.kept('fit_cases')
+        for folder in ('nowhere', 'docs'):
+            self.make(2, 'has no Cargo.toml', self.in_copy(folder), 'fit_cases', '--write')
+        self.make(2, 'was not built', self.in_copy('flo curves'), 'fit_cases', '--write', side='unbuilt')
+        self.make(2, 'the Rust says PANIC', self.in_copy('flo curves'), 'fit_cases', '--write', side='panic')
+        self.make(2, 'the Rust ended', self.in_copy('flo curves'), 'fit_cases', '--write', side='early')
+        self.assertEqual(self.kept('fit_cases'), before)
+
+    def test_as_kept(self):
+        got, out, _ = self.call('tools/make_vectors.py', 'sqrt_cases')
+        self.assertEqual((got, out), (0, 'sqrt_cases: 599 cases (56 published): as kept\n'))
+
+    def test_difference_and_write(self):
+        write('crates/sqrt_cases/stdout', read('crates/sqrt_cases/stdout').replace(b'3ff0', b'3ff1'))
+        got, out, _ = self.call('tools/make_vectors.py', 'sqrt_cases')
+        self.assertEqual(got, 1)
+        self.assertIn('stdout is not as kept, first at line', out)
+        got, out, _ = self.call('tools/make_vectors.py', 'sqrt_cases', '--write')
+        self.assertEqual(got, 0)
+        self.assertIn('written, stdout changed', out)
+        for part in ('stdin', 'stdout'):
+            self.assertTrue(filecmp.cmp(os.path.join(ROOT, 'crates/sqrt_cases', part), self.in_copy(f'crates/sqrt_cases/{part}'), shallow=False))
+
+    def test_never_fewer(self):
+        more = read('crates/sqrt_cases/stdin') + bytes(8)
+        write('crates/sqrt_cases/stdin', more)
+        try:
+            self.make(2, '599 cases would take the place of 600', 'sqrt_cases', '--write')
+            self.assertEqual(read('crates/sqrt_cases/stdin'), more)
+        finally:
+            self.restore('sqrt_cases')
+
+    def test_broken_inputs(self):
+        flo = self.in_copy('flo curves')
+        for name in ('sqrt_cases', 'eval_cases', 'fit_cases', 'check_cases', 'nearest_cases', 'house_cases', 'replay'):
+            try:
+                for data in (b'', read(f'crates/{name}/stdin')[:100]):
+                    write(f'crates/{name}/stdin', data)
+                    self.make(2, f'crates/{name}/stdin', flo, name, '--write')
+                    self.assertEqual(read(f'crates/{name}/stdin'), data)
+            finally:
+                self.restore(name)
+        os.remove(self.in_copy('crates/sqrt_cases/stdin'))
+        self.make(2, 'crates/sqrt_cases/stdin: No such file', 'sqrt_cases', '--write')
+        self.restore('sqrt_cases')
+
+    def test_nearest_points_by_the_document(self):
+        from vectors import near
+        said = [line.split(' ') for line in self.kept('nearest_cases')[1].decode('ascii').split('\n')[:-2]]
+        kept = [line for line in said if line[0] != 'OTHER']
+        self.assertEqual([answer.lower().split(' ') for _, answer in near.answers()], kept)
+
+    def test_half_circles_of_another_sine(self):
+        """A machine whose sine rounds otherwise makes the same inputs."""
+        import math
+        from vectors import files, outlines
+        made = [outline.record() for outline in outlines.kept_borders()], list(files.cases(list(files.read())))
+        sine = math.sin
+        math.sin = lambda angle: math.nextafter(sine(angle), 2.0)
+        try:
+            again = [outline.record() for outline in outlines.kept_borders()], list(files.cases(list(files.read())))
+        finally:
+            math.sin = sine
+        self.assertEqual(again, made)
+
+    def test_nothing_happens_on_import(self):
+        names = [name[:-3] for name in os.listdir(self.in_copy('tools')) if name.endswith('.py')]
+        self.assertGreater(len(names), 2)
+        line = 'import sys; sys.dont_write_bytecode = True; import ' + ', '.join(names)
+        done = subprocess.run([sys.executable, '-c', line], cwd=self.in_copy('tools'), capture_output=True)
+        self.assertEqual((done.returncode, done.stdout, done.stderr), (0, b'', b''))
+
+
+class Other(Case):
+    def test_examples(self):
+        self.says(2, 'usage: tools/make_examples.py', 'tools/make_examples.py', 'x')
+        got, out, _ = self.call('tools/make_examples.py')
+        self.assertEqual((got, out.count('as kept')), (0, 6), out)
+        os.remove(self.in_copy('examples/luff.house'))
+        self.assertEqual(self.call('tools/make_examples.py')[0], 1)
+        self.assertEqual(self.call('tools/make_examples.py', '--write')[0], 0)
+        self.assertTrue(filecmp.cmp(os.path.join(ROOT, 'examples/luff.house'), self.in_copy('examples/luff.house'), shallow=False))
+
+    def test_run_program(self):
+        self.says(2, 'usage: tools/run_program', 'tools/run_program')
+        self.says(2, 'there is no target/bin/nothing yet', 'tools/run_program', 'nothing')
+
+    def test_map(self):
+        self.says(2, 'usage: tools/draw_map.py', 'tools/draw_map.py', 'x')
+        self.assertEqual(self.call('tools/draw_map.py'), (0, '', ''))
+
+    def test_map_of_other_crates(self):
+        crates, page = read('crates.txt'), read('docs/MAP.md')
+        try:
+            write('crates.txt', crates + b'loft: fit\n')
+            self.assertEqual(self.call('tools/draw_map.py')[0], 1)
+            self.assertEqual(self.call('tools/draw_map.py', '--write')[0], 0)
+            self.assertIn(b'    fit --> loft\n', read('docs/MAP.md'))
+            write('crates.txt', '')
+            self.says(2, 'has no crates', 'tools/draw_map.py')
+            write('crates.txt', b'junk\n' + crates)
+            self.says(2, 'line 1 is no crate', 'tools/draw_map.py')
+            write('crates.txt', crates)
+            write('docs/MAP.md', page.replace(b'`Block.blockSize`', b'`Block.blockSizes`').replace(b'`Fit.cubicOf`', b'`Fits.cubicOf`'))
+            got, out, _ = self.call('tools/draw_map.py')
+            self.assertEqual((got, out.count('\n')), (1, 2), out)
+            write('docs/MAP.md', 'no map\n')
+            self.says(2, 'has no place for the drawing', 'tools/draw_map.py')
+        finally:
+            write('crates.txt', crates)
+            write('docs/MAP.md', page)
+
+
+def main():
+    suite = unittest.defaultTestLoader.loadTestsFromModule(sys.modules['__main__'])
+    result = unittest.TextTestRunner(verbosity=1).run(suite)
+    failed = len(result.failures) + len(result.errors) + len(result.unexpectedSuccesses)
+    sys.stderr.flush()
+    print(f'{max(result.testsRun - failed, 0)} passed, {failed} failed')
+    return 1 if failed else 0
+
+
+if __name__ == '__main__':
+    sys.exit(main())

@@ -1,0 +1,1 @@
+"""What plot, compare and the tools share."""

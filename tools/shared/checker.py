@@ -1,0 +1,81 @@
+"""The list checker by the document's text. It shares nothing with the port: binary64 is Python's own, and its square root is correctly rounded."""
+import math
+import struct
+
+from shared.basis import point_at
+
+PASSED, FAULT_A, FAULT_B, FAULT_C, FAULT_D, REFUSED = range(6)
+
+
+def distance(x, y, curve, t):
+    """As max_error_for_curve works it out: the curve's point by `basis`, the offset, its dot product with itself, the root."""
+    px, py = point_at(curve, t)
+    dx, dy = x - px, y - py
+    return math.sqrt(dx * dx + dy * dy)
+
+
+def refusal(marks, tolerance, claimed, curves, firsts, params):
+    """3, 1, 2, 4 or 5, in this order, or 0."""
+    count = len(marks) // 2
+    if len(marks) % 2:
+        return 3
+    if count < 2:
+        return 1
+    if count > 4096:
+        return 2
+    if len(curves) < 8 * claimed or len(firsts) < claimed or len(params) < count:
+        return 4
+    if any(not abs(value) <= 1e6 for value in marks):
+        return 5
+    return 0 if math.isfinite(tolerance) and tolerance >= 0 else 5
+
+
+def first_marks_fault(count, claimed, firsts):
+    """Fault A over the whole list, or None."""
+    if not 1 <= claimed <= count - 1:
+        return FAULT_A, 0, 0
+    for k in range(claimed):
+        rises = firsts[k] == 0 if k == 0 else firsts[k] > firsts[k - 1]
+        if not rises or firsts[k] >= count - 1:
+            return FAULT_A, k, 0
+    return None
+
+
+def same_bits(point, mark):
+    return struct.pack('<2d', *point) == struct.pack('<2d', *mark)
+
+
+def well_placed(t, is_first, is_last):
+    if is_first:
+        return t == 0
+    return t == 1 if is_last else 0 <= t <= 1
+
+
+def curve_fault(marks, tolerance, k, curve, first, end, params):
+    """The first fault of curve k, from its first mark to the next curve's or to the last mark; or None."""
+    last = len(marks) // 2 - 1
+    fair = all(map(math.isfinite, curve))
+    if not (fair and same_bits(curve[:2], marks[2 * first:2 * first + 2]) and same_bits(curve[6:], marks[2 * end:2 * end + 2])):
+        return FAULT_B, k, first
+    for i in range(first, end + 1 if end == last else end):
+        if not well_placed(params[i], i == first, i == last):
+            return FAULT_C, k, i
+        far = distance(marks[2 * i], marks[2 * i + 1], curve, params[i])
+        if not (math.isfinite(far) and far <= tolerance):
+            return FAULT_D, k, i
+    return None
+
+
+def check(marks, tolerance, claimed, curves, firsts, params):
+    """(kind, curve, mark), or (REFUSED, number, 0). All are floats but the claimed number of curves and the first marks."""
+    number = refusal(marks, tolerance, claimed, curves, firsts, params)
+    if number:
+        return REFUSED, number, 0
+    count = len(marks) // 2
+    fault = first_marks_fault(count, claimed, firsts)
+    for k in range(claimed):
+        if fault:
+            break
+        end = firsts[k + 1] if k + 1 < claimed else count - 1
+        fault = curve_fault(marks, tolerance, k, curves[8 * k:8 * k + 8], firsts[k], end, params)
+    return fault or (PASSED, 0, 0)

@@ -1,0 +1,253 @@
+"""house_cases and listing: house files that are listed, read and written again, and damaged.
+
+A record is seven words (what to do, how many bytes the file has, the room in each lent slice) and the file. Files are taken apart record by record
+(shared/house.py), and refusals are by the document's order; the curves of a listing are those of the Rust's joined fit. Two outlines
+are read from the kept input. `listing` is the document's worked example, in its own words."""
+import math
+import struct
+
+from shared import house, kept
+from shared.command import Stop
+from shared.table import LARGEST, MOST_DIRECT, MOST_MARKS
+from shared.words import INFINITY, MINUS, NAN, bits, number, patterns_of, words
+from vectors import outlines
+
+NAME = 'house_cases'
+LIST, READ, PREFIXES, CHANGES = range(4)
+HEAD = 7
+KEPT = 2  # outlines, of 201 and 512 marks
+HALF = bits(0.5)
+ROOM = [8192, 1024, 8192, 4096, 70000]  # marks, first marks, curves, parameters and bytes: enough for every file here
+NO_ROOM = [0] * 5
+
+
+def read():
+    """(what to do, bytes, rooms) of each record of the kept input."""
+    source = kept.Words(NAME)
+    while source:
+        todo, length, *room = source.take(HEAD)
+        yield todo, source.bytes(length), room
+
+
+# ---- the reader, and the writer on what was read
+
+def read_answer(data, room):
+    """The reader's answer in words, and the file if it is taken."""
+    held = house.parse(data)
+    if held is None:
+        return [9], None
+    marks, firsts, curves, params, _ = room
+    count = len(held.curves)
+    if held.count > MOST_MARKS:
+        return [2], None
+    if 2 * held.count > marks or count > firsts or 8 * count > curves or (count and held.count > params):
+        return [4], None
+    return [0, held.count, count], held
+
+
+def again(data, held, room):
+    """The writer's answer to what was read. The bytes have to be the file's own."""
+    if held.bytes() != data:
+        raise Stop('a file that is read and written again is another file', 1)
+    return [0, len(data)] if len(data) <= room[4] else [4]
+
+
+# ---- the listing
+
+def refused(refusal):
+    return f'REFUSED {refusal}\n'
+
+
+def listing_refusal(data):
+    """9, 1, 2 or 5, in this order, or 0."""
+    held = house.parse(data)
+    if len(data) > house.MOST_BYTES or held is None:
+        return 9
+    if held.count < 2:
+        return 1
+    if held.count > MOST_DIRECT:
+        return 2
+    tolerance = number(held.tolerance)
+    wild = any(not abs(number(mark)) <= LARGEST for mark in held.marks)
+    return 5 if wild or not (math.isfinite(tolerance) and tolerance >= 0) else 0
+
+
+def joined_line(data):
+    held = house.parse(data)
+    return outlines.Outline('joined', held.tolerance, held.marks).line()
+
+
+def listing(data, rust):
+    refusal = listing_refusal(data)
+    if refusal:
+        return refused(refusal)
+    said = rust.answer_all([joined_line(data)])[0]
+    if not said.startswith('0 '):
+        return refused(said)
+    curves = outlines.Lists(said).curves
+    pieces = [f'PIECE {first} {words(eight)}\n' for first, eight in curves]
+    return f'OUTLINE {house.parse(data).count} {len(curves)}\n' + ''.join(pieces)
+
+
+# ---- the cases
+
+class Makers:
+    """Files of half circles, with curves of no meaning."""
+
+    def __init__(self, before):
+        files = [house.parse(data) for _, data, _ in before]
+        self.half_circle = outlines.arcs(held.marks for held in files if held)
+
+    def marks(self, count):
+        """Above 513 marks small whole numbers, so that the input packs well."""
+        return self.half_circle(count) if count <= 513 else [bits(i % 4) for i in range(2 * count)]
+
+    def plain(self, count):
+        return house.build(HALF, self.marks(count))
+
+    def full(self, count, curves):
+        eights = [(i, patterns_of(*(i + j / 8 for j in range(8)))) for i in range(curves)]
+        return house.build(HALF, self.marks(count), eights, patterns_of(*(i / count for i in range(count))))
+
+
+TWO = house.build(HALF, outlines.LINE_OF_TWO)
+
+
+def listings(makers, collected):
+    """From no marks to 513, 4,094 and 4,095; curves in the file do not count, and do not turn 2 into 4."""
+    for count in (0, 1, 2, 3, 9):
+        yield makers.plain(count)
+    yield TWO
+    yield from collected
+    yield house.build(bits(1e-4), makers.marks(512))
+    for count in (513, 4094, 4095):
+        yield makers.plain(count)
+    for count, curves in ((3, 1), (3, 2), (9, 8), (512, 100), (513, 1), (513, 512), (683, 682), (2726, 1)):
+        yield makers.full(count, curves)
+    yield house.build(HALF, outlines.LINE_OF_TWO, [(65535, [NAN] * 8)], [INFINITY, NAN])
+
+
+def listing_numbers():
+    """Numbers out of range, and a run that is refused."""
+    above = bits(math.nextafter(1e6, math.inf))
+    for pattern in (NAN, INFINITY, MINUS + INFINITY, MINUS + NAN, NAN + 1, above, MINUS + INFINITY + 1):
+        for place in (0, 5):
+            marks = patterns_of(0, 0, 1, 2, 3, 4)
+            marks[place] = pattern
+            yield house.build(HALF, marks)
+    for tolerance in (0, MINUS, 1, MINUS + 1, NAN, INFINITY, MINUS + INFINITY, bits(-1.0), bits(1e300)):
+        yield house.build(tolerance, patterns_of(0, 0, 1, 1, 2, 0, 3, 5))
+    yield house.build(HALF, outlines.ON_ONE_SPOT)
+    yield house.build(HALF, outlines.ON_ONE_SPOT[:4])
+    yield house.build(HALF, patterns_of(1e6, -1e6, -1e6, 1e6))
+
+
+def no_files(makers):
+    """What is no file, with 9 before 1 and 2."""
+    yield from (b'', b'\0', TWO[:-1], TWO + b'\0', makers.full(513, 1) + b'\0', bytes(65536), bytes(65537))
+
+
+def list_cases(makers, collected):
+    for data in [*listings(makers, collected), *listing_numbers(), *no_files(makers)]:
+        yield LIST, data, ROOM
+    for data, room in ((TWO, 156), (TWO, 155), (TWO + b'\0', 10), (TWO + b'\0', 9)):  # room for the text, and a byte less
+        yield LIST, data, ROOM[:4] + [room]
+
+
+def out_of_turn():
+    """Kinds out of turn, lengths that do not fit, too few marks for a curve, as many curves as marks."""
+    one, marks = house.record(1, house.row([HALF])), house.record(2, house.row(outlines.LINE_OF_TWO))
+    three, four = house.record(3, bytes(66)), house.record(4, bytes(16))
+    yield from (
+        one + marks + four + three, one + marks + three, one + marks + four, marks + one, one + one + marks, one + marks + three + four + four,
+        one + marks + four + three + four, one + marks + three + marks, one + house.record(5, b'') + marks, one + marks + three + house.record(4, bytes(8)),
+        one + marks + house.record(3, bytes(64)) + four, one + marks + house.record(3, bytes(67)) + four, house.record(1, bytes(7)) + marks,
+        one + house.record(2, bytes(8)), one + house.record(2, bytes(16)) + three + house.record(4, bytes(8)),
+        one + house.record(2, b'') + three + house.record(4, b''), one + marks + three * 2 + four,
+        one + marks + struct.pack('<IH', 66, 3) + bytes(66) + four, one + marks + struct.pack('<IH', 1, 3) + four,
+        one + marks + struct.pack('>IH', 68, 3) + bytes(66) + four)
+
+
+def read_cases(makers):
+    """Files that are whole; 9, then 2, then 4; each slice one too short."""
+    for count, curves in ((0, 0), (1, 0), (2, 0), (2, 1), (9, 8), (512, 511), (513, 512), (4096, 0), (4096, 2), (683, 682)):
+        yield READ, makers.full(count, curves), ROOM
+    odd_numbers = [(65535, [NAN + j for j in range(8)])]
+    yield READ, house.build(NAN + 1, [MINUS + NAN + 7, 1, INFINITY, MINUS], odd_numbers, [MINUS, INFINITY + 1]), ROOM
+    nine = makers.full(9, 3)
+    yield READ, nine + b'\0', NO_ROOM
+    yield READ, makers.plain(4097), ROOM
+    yield READ, makers.plain(4097), NO_ROOM
+    exact = [18, 3, 24, 9, len(nine)]
+    yield READ, nine, exact
+    for place in range(5):
+        yield READ, nine, [have - (place == i) for i, have in enumerate(exact)]
+    yield READ, makers.full(9, 0), [18, 0, 0, 0, 164]
+    yield READ, makers.full(9, 0), [17, 0, 0, 0, 164]
+    for data in out_of_turn():
+        yield READ, data, ROOM
+
+
+def collected_in(before, makers):
+    """The listed files that are not made here."""
+    made = [data for _, data, _ in list_cases(makers, [])]
+    files = [data for todo, data, _ in before if todo == LIST]
+    return kept.at_least(kept.without(files, made), KEPT, NAME)
+
+
+def cases(before):
+    makers = Makers(before)
+    yield from list_cases(makers, collected_in(before, makers))
+    yield from read_cases(makers)
+    for data in (TWO, makers.full(2, 1), makers.full(3, 2)):
+        yield PREFIXES, data, ROOM
+        yield CHANGES, data, ROOM
+
+
+def prefixes(data):
+    return (data[:length] for length in range(len(data)))
+
+
+def changes(data):
+    """Every other value of every byte."""
+    for place, here in enumerate(data):
+        for value in range(256):
+            if value != here:
+                yield data[:place] + bytes([value]) + data[place + 1:]
+
+
+def answer(todo, data, room, rust):
+    if todo == LIST:
+        text = listing(data, rust)
+        return text if len(text) <= room[4] else '4\n'
+    if todo == READ:
+        said, held = read_answer(data, room)
+        if held:
+            said = said + again(data, held, room)
+        return ' '.join(map(str, said)) + '\n'
+    heads = [read_answer(other, room)[0][0] for other in (prefixes if todo == PREFIXES else changes)(data)]
+    return ' '.join(str(heads.count(head)) for head in (0, 2, 4, 9)) + '\n'
+
+
+def make(rust):
+    before = list(read())
+    rows = list(cases(before))
+    rust.ask([joined_line(data) for todo, data, _ in rows if todo == LIST and not listing_refusal(data)])
+    stdin = b''.join(kept.packed([todo, len(data)] + room) + data for todo, data, room in rows)
+    stdout = ''.join(answer(*row, rust) for row in rows)
+    return kept.Made(NAME, stdin, stdout, len(rows), len(before))
+
+
+# ---- the document's worked example
+
+EXAMPLE = '0A000000 0100 000000000000E03F 22000000 0200' + '00' * 16 + '0000000000001040' + '00' * 8
+EXAMPLE_LISTING = (
+    'OUTLINE 2 1\n'
+    'PIECE 0 0000000000000000 0000000000000000 3FF51EB851EB851F 0000000000000000 40051EB851EB851F 0000000000000000 4010000000000000 0000000000000000\n')
+
+
+def make_listing(rust):
+    data = bytes.fromhex(EXAMPLE)
+    if listing(data, rust) != EXAMPLE_LISTING:
+        raise Stop('the Rust lists the document\'s example otherwise', 1)
+    return kept.Made('listing', data, EXAMPLE_LISTING, 1, 1)

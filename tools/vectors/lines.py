@@ -1,0 +1,274 @@
+"""replay: lines of cases, and lines that are none.
+
+Square roots, nearest points and border cases are those of the other programs; single curves, outlines and lists that are read from the kept
+input are asked of the Rust again; lists with one thing changed are judged by the document's rules (shared/checker.py). A line that is no case is
+BAD; the Rust side, which reads lines too, has to say so as well, but for what is only too long for the program. The last line has no newline."""
+import math
+
+from shared import kept
+from shared.command import Stop
+from shared.table import FITS
+from shared.words import INFINITY, MINUS, NAN, bits, numbers, pattern_of, patterns_of, word, word_of, words
+from vectors import lists, near, outlines, roots, single
+
+NAME = 'replay'
+ROOM = 1 << 20     # bytes of a line that the program has room for
+MOST_MARKS = 4200  # marks of a line
+KEPT_CURVES = 230  # calls on single curves, 30 of them refused by 6
+KEPT_OUTLINES = 132
+KEPT_LISTS = 15    # sound lists, the last four with changed copies
+COLLECTED = {'curves': single.KINDS, 'outlines': FITS, 'lists': ['check']}
+
+
+def values(*floats):
+    return ' '.join(word_of(value) for value in floats)
+
+
+# ---- cases of the other programs
+
+def root_lines():
+    return [(f'sqrt {word(pattern)}', f'0 {word(root)}') for pattern, root in roots.roots()[::6]]
+
+
+def curve_borders():
+    """Every third of the border cases, kind by kind."""
+    borders = list(single.borders())
+    by_kind = [line for kind in single.KINDS for line in borders if line.startswith(kind + ' ')]
+    return by_kind[::3]
+
+
+def nearest_lines():
+    """Every eighth, and then all that are refused."""
+    found = near.answers()
+    return found[::8] + [case for case in found if not case[1].startswith('0 ')]
+
+
+def nearest_borders():
+    base = [0.0, 0.0, 0.0, 1.0, 1.0, 1.0, 1.0, 0.0, 0.5, 2.0]
+    for place in (0, 5, 7, 8, 9):
+        for value in numbers(single.BEYOND):
+            yield 'nearest ' + values(*base[:place], value, *base[place + 1:])
+
+
+def outline_borders():
+    """The room is always enough, so there is no 4; what only shows the room's part in the order is left out."""
+    shown = [outline for outline in outlines.kept_borders() if outline.refusal() != 4 and outline.count < 64]
+    return list(dict.fromkeys(outline.line() for outline in shown))
+
+
+def long_lines():
+    """More marks than the fits take, and more than a line holds. The marks are all one, so that the input packs well."""
+    mark = values(1, 2)
+    tolerance = values(0.5)
+    return [
+        (' '.join(['joined', tolerance] + [mark] * MOST_MARKS), '2'),
+        (' '.join(['direct', values(0.5, 1, 0, 0, 1)] + [mark] * 513), '2'),
+        (' '.join(['source', tolerance] + [mark] * MOST_MARKS + [values(1)]), 'BAD'),
+        (' '.join(['joined', tolerance] + [mark] * (MOST_MARKS + 1)), 'BAD')]
+
+
+# ---- lists
+
+def claim_of(line):
+    """The list on a line of `check`."""
+    _, tolerance, count, *rest = line.split(' ')
+    count = int(count)
+    marks, rest = rest[:2 * count], rest[2 * count:]
+    claimed, rest = int(rest[0]), rest[1:]
+    nines = [rest[9 * k:9 * k + 9] for k in range(claimed)]
+
+    def floats(texts):
+        return numbers([pattern_of(text) for text in texts])
+    curves = floats(text for nine in nines for text in nine[1:])
+    return lists.Claim(floats([tolerance])[0], floats(marks), claimed, curves, [int(nine[0]) for nine in nines], floats(rest[9 * claimed:]))
+
+
+def judged(line):
+    return line, lists.line_answer(claim_of(line).answer())
+
+
+def spoilt(line):
+    """A list that passes, and the same with one thing changed."""
+    tolerance, marks, curves, params = claim_of(line).parts()
+    put, check_line = lists.put, lists.check_line
+    count, last = len(params), len(curves) - 1
+
+    def with_curves(other):
+        return check_line(tolerance, marks, other, params)
+
+    def with_first(k, first):
+        return with_curves(put(curves, k, (first, curves[k][1])))
+
+    def with_number(k, place, pattern):
+        first, eight = curves[k]
+        return with_curves(put(curves, k, (first, put(eight, place, pattern))))
+    yield with_curves(curves)
+    yield with_curves([])
+    yield with_curves(curves + curves * count)
+    yield with_curves(curves[:-1])
+    for first in (1, count - 1, lists.LARGEST_FIRST):
+        yield with_first(0, first)
+    for first in (0, curves[last][0] + 1, count - 2, count - 1, count):
+        yield with_first(last, first)
+    for k in sorted({0, last}):
+        for place in range(8):
+            here = curves[k][1][place]
+            for pattern in (NAN, INFINITY, here ^ 1, here ^ MINUS):
+                yield with_number(k, place, pattern)
+    above_one = bits(math.nextafter(1.0, 2.0))
+    for place in sorted({0, 1, curves[last][0], count - 2, count - 1}):
+        for pattern in (MINUS, 0, bits(1.0), above_one, MINUS + 1, NAN, INFINITY, bits(0.75)):
+            yield check_line(tolerance, marks, curves, put(params, place, pattern))
+    for other in (0, MINUS, MINUS + 1, NAN, INFINITY):
+        yield check_line(other, marks, curves, params)
+    for pattern in (NAN, INFINITY, outlines.ABOVE, marks[3] ^ 1):
+        yield check_line(tolerance, put(marks, 3, pattern), curves, params)
+    yield check_line(tolerance, marks[:2], [], params[:1])
+    yield check_line(tolerance, [], [], [])
+
+
+# ---- lines that are no case
+
+ARCH = words(single.ARCH)
+QUERY = values(0.5, 2)
+HALF = values(0.5)
+TWO = values(0, 0, 4, 0)
+GOOD = [
+    f'sqrt {HALF}', f'basis {HALF} {ARCH}', f'de_casteljau4 {HALF} {ARCH}', f'coefficients 1 {ARCH}', f'subdivide4 {HALF} {ARCH}',
+    f'de_casteljau3 {HALF} {values(0, 0, 1, 0, 2, 0)}', f'de_casteljau2 {HALF} {TWO}', f'refine {ARCH} {QUERY} {HALF} 3', f'nearest {ARCH} {QUERY}',
+    f'direct {HALF} {values(1, 0, -1, 0)} {TWO}', f'source {HALF} {TWO}', f'loop {HALF} {TWO}', f'joined {HALF} {TWO}',
+    f'check {HALF} 2 {TWO} 1 0 {values(0, 0, 1.32, 0, 2.64, 0, 4, 0)} {values(0, 1)}']
+
+
+def misspelt(line):
+    """A good line with a blank, a tab, a carriage return or a word too many, a word too few, or another spelling."""
+    name, rest = line.split(' ', 1)
+    head, last = line.rsplit(' ', 1)
+    yield from [
+        ' ' + line, line + ' ', line.replace(' ', '  ', 1), head + '  ' + last, line.replace(' ', '\t', 1), line + '\r', line + ' x',
+        name.upper() + ' ' + rest, name[:-1] + ' ' + rest, name + 'x ' + rest, line[:-1], line + '+']
+    for digit in 'G@/:':
+        yield head + ' ' + digit * 16
+    if name not in ('source', 'loop', 'joined', 'direct'):
+        yield from [head, f'{line} {HALF}', line + ' 1']
+    if HALF in line:
+        for other in ('3fe0000000000000', '3FE000000000000', '3FE00000000000000', '0x3FE00000000000', '+3FE000000000000', '0.5'):
+            yield line.replace(HALF, other, 1)
+
+
+def counted(marks='2', curves='1', first='0', params=values(0, 1)):
+    return f'check {HALF} {marks} {TWO} {curves} {first} {ARCH} {params}'
+
+
+def miscounted():
+    """Whole numbers that are none, and counts that are others than the line has."""
+    for text in ('', '-1', '+1', '01', '00', '1.0', '1e0', '0x1', 'A', '18446744073709551616', '99999999999999999999', '100000000000000000000', '1' * 40):
+        yield from [
+            f'coefficients {text} {ARCH}', f'refine {ARCH} {QUERY} {HALF} {text}', counted(marks=text), counted(curves=text), counted(first=text)]
+    for text in ('0', '1', '3', '4201', '18446744073709551615'):
+        yield counted(marks=text)
+        yield counted(curves=text) if text != '1' else 'x'
+    for text in ('4294967296', '18446744073709551615'):
+        yield counted(first=text)
+    yield from [counted(params=values(0)), counted(params=values(0, 1, 1)), f'check {HALF} 2 {TWO}', f'check {HALF} 2 {TWO} 0', f'check {HALF}', f'check {HALF} 0']
+
+
+def bad():
+    yield from ['', ' ', '  ', 'BAD', 'x', '0', HALF]
+    yield from ['sqrt', 'basis', 'coefficients', 'refine', 'nearest', 'direct', 'source', 'loop', 'joined', 'check']
+    for line in GOOD:
+        yield from misspelt(line)
+    yield from [f'direct {HALF} {values(1, 0, -1)}', f'direct {HALF}']
+    yield from miscounted()
+    yield from [f'sqrt {HALF}\0', '\0', 'sqrt\xa0' + HALF, '\x7f' * 200, f'sqrt {HALF} ', f'sqrt {HALF} ' + ' ' * 70000]
+
+
+def whole():
+    """Whole numbers that are well formed are handed on."""
+    for text in ('2', '10', '18446744073709551615'):
+        yield f'coefficients {text} {ARCH}'
+    for text in ('65', '100', '18446744073709551615'):
+        yield f'refine {ARCH} {QUERY} {HALF} {text}'
+
+
+def nans():
+    """Every NaN pattern stands for NaN."""
+    for text in ('7FF0000000000001', '7FFFFFFFFFFFFFFF', 'FFF0000000000001', 'FFF8000000000000', 'FFFFFFFFFFFFFFFF'):
+        yield from [
+            (f'sqrt {text}', f'0 {word(NAN)}'), (f'basis {text} {ARCH}', '5'), (f'nearest {ARCH} {text} {values(1)}', '5'), (f'source {text} {ARCH}', '5'),
+            (f'joined {HALF} {ARCH} {text} {values(1)}', '5')]
+
+
+# ---- the file
+
+LAST = [(f'sqrt {values(4)}', f'0 {values(2)}')]
+
+
+def mixed(rows, others):
+    """The others are spread among the rows, one after each so many; what is over comes after them."""
+    step = max(1, len(rows) // len(others))
+    left = list(others)
+    out = []
+    for place, row in enumerate(rows):
+        out.append(row)
+        if place % step == 0 and left:
+            out.append(left.pop(0))
+    return out + left
+
+
+def plain_rows(rust):
+    """The cases that are made here or by the other programs' modules, in their parts."""
+    def asked(lines):
+        lines = list(lines)
+        return list(zip(lines, rust.answer_all(lines)))
+    return {
+        'roots': root_lines(), 'curve borders': asked(curve_borders()), 'nearest': nearest_lines() + [(line, '5') for line in nearest_borders()],
+        'outline borders': asked(outline_borders()), 'whole': asked(whole()), 'nans': list(nans())}
+
+
+def collected_lists(lines):
+    """Each collected list, and whether its changed copies follow it."""
+    found, left = [], lines
+    while left:
+        line, left = left[0], left[1:]
+        copies = list(spoilt(line))[1:] if claim_of(line).claimed else []
+        has_copies = bool(copies) and left[:1] == copies[:1]
+        found.append((line, has_copies))
+        if has_copies:
+            left = kept.without(left[::-1], copies)[::-1]  # the first ones first: a later list may have a copy in common
+    return found
+
+
+def list_rows(lines):
+    for line, has_copies in lines:
+        yield from map(judged, spoilt(line) if has_copies else [line])
+
+
+def cases(before, made, rust):
+    """Every case with its answer, in the order of the file. What was collected is what is left of the file before without all that is made."""
+    left = kept.without(before, [line for rows in made.values() for line, _ in rows])
+    by_kind = {name: [line for line in left if line.split(' ')[0] in kinds] for name, kinds in COLLECTED.items()}
+    curves = kept.at_least(by_kind['curves'], KEPT_CURVES, NAME)
+    fits = kept.at_least(by_kind['outlines'], KEPT_OUTLINES, NAME)
+    claims = kept.at_least(collected_lists(by_kind['lists']), KEPT_LISTS, NAME)
+    rows = made['roots'] + list(zip(curves, rust.answer_all(curves))) + made['curve borders'] + made['nearest']
+    rows += list(zip(fits, rust.answer_all(fits))) + made['outline borders'] + made['whole'] + made['nans']
+    return rows + list(list_rows(claims))
+
+
+def hold(lines, rust):
+    """The Rust side says BAD to these lines too."""
+    for line, (said, _) in zip(lines, rust.ask(lines)):
+        if said != 'BAD':
+            raise Stop(f'the Rust side takes a line that is no case: {line[:200]!r}', 1)
+
+
+def make(rust):
+    before = kept.read_stdin(NAME).decode('latin-1').split('\n')
+    wrong = list(bad())
+    hold(wrong, rust)
+    end = long_lines() + LAST
+    rest = kept.without(before, wrong + [line for line, _ in end])
+    found = mixed(cases(rest, plain_rows(rust), rust), [(line, 'BAD') for line in wrong]) + end
+    stdin = '\n'.join(line for line, _ in found).encode('latin-1')
+    return kept.Made(NAME, stdin, ''.join(said + '\n' for _, said in found), len(found), len(before), kept.tally(said for _, said in found))

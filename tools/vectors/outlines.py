@@ -1,0 +1,226 @@
+"""fit_cases: outlines by the four fits.
+
+A record is eleven words (which fit, how many numbers the marks have, the rooms for curves, first marks and parameters, whether lists are
+printed, tolerance, tangents) and the marks. A line says 0 and how many curves, or the refusal, and of each lent slice how many places are as
+before, how many are plus zero, and a digest. The lists are the Rust's, 6 is where one of its operations was not finite, and what else is refused,
+and what the slices hold then, is by the document's table. The first 435 outlines are read from the kept input; both sides of each line of the document
+come from `borders`."""
+import itertools
+import math
+
+from shared import kept
+from shared.table import FITS, fit_refusal
+from shared.words import INFINITY, MINUS, NAN, bits, digest_of, number, numbers, pattern_of, patterns_of, words
+
+NAME = 'fit_cases'
+KEPT = 435
+HEAD = 11
+SHORT = 64  # marks of which lists are printed
+BEFORE, BEFORE_FIRST = bits(7.5), 7  # what the lent slices hold
+NO_TANGENTS = [0] * 4
+ABOVE = bits(math.nextafter(1e6, math.inf))
+ABOVE_TWO = bits(math.nextafter(2.0, math.inf))
+
+
+def room_for(count, curves=0, firsts=0, params=0):
+    """The room that so many marks want, with more or less of each."""
+    return [8 * (count - 1) + curves, count - 1 + firsts, count + params]
+
+
+class Outline:
+    """A case of one fit. Marks, tolerance and tangents are patterns."""
+
+    def __init__(self, kind, tolerance, marks, room=None, tangents=None, lists=None):
+        self.kind, self.tolerance, self.marks = kind, tolerance, marks
+        self.tangents = tangents or NO_TANGENTS
+        self.count = len(marks) // 2
+        self.room = room or room_for(self.count)
+        self.lists = self.count <= SHORT if lists is None else lists
+
+    def line(self):
+        """The line of replay."""
+        tangents = self.tangents if self.kind == 'direct' else []
+        return f'{self.kind} {words([self.tolerance] + tangents + self.marks)}'
+
+    def record(self):
+        return kept.packed([FITS.index(self.kind), len(self.marks), *self.room, int(self.lists), self.tolerance] + self.tangents + self.marks)
+
+    def refusal(self):
+        """The table's, with 4 in its place."""
+        wanted = room_for(self.count)
+        short = any(have < want for have, want in zip(self.room, wanted))
+        return fit_refusal(self.line().split(' '), short)
+
+
+def read():
+    """The outlines of the kept input."""
+    source = kept.Words(NAME)
+    while source:
+        kind, length, *rest = source.take(HEAD)
+        yield Outline(FITS[kind], rest[4], source.take(length), rest[:3], rest[5:], bool(rest[3]))
+
+
+# ---- both sides of each line of the document
+
+def arcs(known):
+    """A maker of half circles of so many marks. The machine's sine may round otherwise on another machine, so a known outline that lies
+    on the half circle counts before one that is worked out."""
+    by_length = {}
+    for marks in known:
+        by_length.setdefault(len(marks), []).append(marks)
+
+    def arc(count):
+        turns = [math.pi * i / max(count - 1, 1) for i in range(count)]
+        values = [turn(angle) * 100 for angle in turns for turn in (math.cos, math.sin)]
+        for marks in by_length.get(len(values), []):
+            if all(abs(value - number(mark)) <= 1e-9 for value, mark in zip(values, marks)):
+                return marks
+        return patterns_of(*values)
+    return arc
+
+
+def unit(dx, dy):
+    """to_unit_vector: a product with the inverse of the magnitude."""
+    magnitude = math.sqrt(dx * dx + dy * dy)
+    return [dx * (1.0 / magnitude), dy * (1.0 / magnitude)] if magnitude else [0.0, 0.0]
+
+
+def own_tangents(marks):
+    """The tangents of an outline's first and last two marks, by start_tangent and end_tangent."""
+    x0, y0, x1, y1 = numbers(marks[:4])
+    x2, y2, x3, y3 = numbers(marks[-4:])
+    return patterns_of(*unit(x1 - x0, y1 - y0), *unit(x2 - x3, y2 - y3))
+
+
+def taken(kind, tolerance, marks, room=None):
+    """An outline that the fit takes; the direct one with the outline's own tangents."""
+    return Outline(kind, tolerance, marks, room, own_tangents(marks) if kind == 'direct' else None)
+
+
+THOUSANDTH = bits(0.001)
+LINE_OF_THREE = patterns_of(0, 0, 1, 0, 2, 0)
+LINE_OF_TWO = patterns_of(0, 0, 4, 0)
+ON_ONE_SPOT = patterns_of(3, 5, 3, 5, 3, 5)
+
+
+def few_marks(kind):
+    yield taken(kind, THOUSANDTH, LINE_OF_THREE)
+    yield taken(kind, THOUSANDTH, LINE_OF_TWO)
+    yield taken(kind, THOUSANDTH, ON_ONE_SPOT[:4])
+    yield Outline(kind, THOUSANDTH, ON_ONE_SPOT, room_for(3, 8, 1, 1))
+    for room in ([0, 0, 0], [16, 3, 4]):
+        yield Outline(kind, THOUSANDTH, [], room)
+        yield Outline(kind, THOUSANDTH, patterns_of(1, 2), room)
+    for length in (1, 3, 9):
+        yield Outline(kind, THOUSANDTH, patterns_of(*range(length)), [64, 8, 9])
+    yield Outline(kind, THOUSANDTH, patterns_of(*range(5)), [0, 0, 0])
+
+
+def rooms(kind, arc):
+    yield taken(kind, THOUSANDTH, arc(9))
+    yield taken(kind, THOUSANDTH, arc(9), room_for(9, 1, 1, 1))
+    for less in ((-1, 0, 0), (-8, 0, 0), (0, -1, 0), (0, 0, -1), (-8, -1, -1)):
+        yield Outline(kind, THOUSANDTH, arc(9), room_for(9, *less))
+    yield Outline(kind, THOUSANDTH, arc(2), [0, 0, 1])
+
+
+def ranges(kind, arc):
+    for tolerance in (MINUS, 0):
+        yield taken(kind, tolerance, arc(7))
+    for tolerance in (MINUS + 1, NAN, INFINITY, MINUS + INFINITY):
+        yield Outline(kind, tolerance, arc(7))
+    yield taken(kind, 1, arc(7))
+    yield taken(kind, THOUSANDTH, patterns_of(1e6, -1e6, -1e6, 1e6, 0, 0, 1e6, 1e6))
+    for place, pattern in itertools.product((0, 3, 7), (ABOVE, MINUS + ABOVE, NAN, INFINITY, MINUS + INFINITY)):
+        marks = patterns_of(0, 0, 1, 2, 3, 4, 5, 6)
+        marks[place] = pattern
+        yield Outline(kind, THOUSANDTH, marks)
+
+
+def orders(kind, arc):
+    """Two refusals at once."""
+    yield Outline(kind, NAN, [NAN, 0], [0, 0, 0])
+    yield Outline(kind, NAN, arc(3), [0, 0, 0])
+    yield Outline(kind, NAN, ON_ONE_SPOT)
+
+
+def borders(arc):
+    for kind in FITS:
+        yield from few_marks(kind)
+        yield from rooms(kind, arc)
+        yield from ranges(kind, arc)
+        yield from orders(kind, arc)
+    for place, pattern in itertools.product(range(4), (ABOVE_TWO, MINUS + ABOVE_TWO, NAN, INFINITY, MINUS + INFINITY)):
+        tangents = patterns_of(1, 0, -1, 0)
+        tangents[place] = pattern
+        yield Outline('direct', THOUSANDTH, arc(5), None, tangents)
+    yield Outline('source', THOUSANDTH, arc(4097))
+    yield Outline('direct', THOUSANDTH, arc(513))
+    yield Outline('direct', NAN, arc(513), [0, 0, 0])
+    for kind in ('source', 'loop', 'joined'):
+        for count in (199, 200, 201, 249, 250, 400):
+            yield taken(kind, THOUSANDTH, arc(count))
+
+
+def kept_borders():
+    """The border cases, with the kept half circles."""
+    return borders(arcs(outline.marks for outline in read()))
+
+
+# ---- answers
+
+class Lists:
+    """What an accepted fit gives, from its line of answer: curves as pairs of first mark and eight patterns, and a parameter for every mark."""
+
+    def __init__(self, said):
+        count, rest = int(said.split(' ')[1]), said.split(' ')[2:]
+        nines = [rest[9 * k:9 * k + 9] for k in range(count)]
+        self.curves = [(int(nine[0]), [pattern_of(word) for word in nine[1:]]) for nine in nines]
+        self.params = [pattern_of(word) for word in rest[9 * count:]]
+
+    def eights(self):
+        return [pattern for _, eight in self.curves for pattern in eight]
+
+    def firsts(self):
+        return [first for first, _ in self.curves]
+
+
+def state(lent, before):
+    """A lent slice after the call."""
+    return ' %d %d %016x' % (lent.count(before), lent.count(0), digest_of(lent))
+
+
+def written(lent, new):
+    return new + lent[len(new):]
+
+
+def text(outline, said):
+    """What the program has to write."""
+    curves, firsts, params = outline.room
+    lent = [[BEFORE] * curves, [BEFORE_FIRST] * firsts, [BEFORE] * params]
+    more = ''
+    if said in ('6', '7'):
+        lent = [[0] * length for length in outline.room]
+    if said.startswith('0 '):
+        lists = Lists(said)
+        said = f'0 {len(lists.curves)}'
+        lent = [written(part, new) for part, new in zip(lent, (lists.eights(), lists.firsts(), lists.params))]
+        if outline.lists:
+            more = ''.join(f'{first} {words(eight).lower()}\n' for first, eight in lists.curves) + f' {words(lists.params).lower()}\n'
+    return said + state(lent[0], BEFORE) + state(lent[1], BEFORE_FIRST) + state(lent[2], BEFORE) + '\n' + more
+
+
+def answers(outlines, rust):
+    """The answers in replay's form, with 4 in its place."""
+    refused = [outline.refusal() for outline in outlines]
+    said = iter(rust.answer_all([outline.line() for outline, refusal in zip(outlines, refused) if not refusal]))
+    return [str(refusal) if refusal else next(said) for refusal in refused]
+
+
+def make(rust):
+    before = list(read())
+    outlines = kept.at_least(before[:KEPT], KEPT, NAME) + list(kept_borders())
+    said = answers(outlines, rust)
+    stdin = b''.join(outline.record() for outline in outlines)
+    stdout = ''.join(text(outline, answer) for outline, answer in zip(outlines, said))
+    return kept.Made(NAME, stdin, stdout, len(outlines), len(before), kept.tally(said))
