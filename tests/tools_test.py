@@ -419,6 +419,13 @@ class Other(Case):
         self.says(2, 'usage: tools/run_program', 'tools/run_program')
         self.says(2, 'there is no target/bin/nothing yet', 'tools/run_program', 'nothing')
 
+    def test_table_of_the_gate(self):
+        self.says(2, 'usage: tools/gate_table.py', 'tools/gate_table.py')
+        self.says(2, 'no line of a crate', 'tools/gate_table.py', self.in_copy('crates.txt'))
+        log = write('gate.log', 'rt: loft proved (4 s)\nrt: must-fail loft/gap: refused, as it must be (first at proofs/a.antt:1:2; 3 s)\nrt: sail proved (2 s)\n')
+        got, out, _ = self.call('tools/gate_table.py', log)
+        self.assertEqual((got, out.splitlines()[2:]), (0, ['| loft | 4 | 1 | 3 |', '| sail | 2 | 0 | 0 |', '| all | 6 | 1 | 3 |']))
+
     def test_map(self):
         self.says(2, 'usage: tools/draw_map.py', 'tools/draw_map.py', 'x')
         self.assertEqual(self.call('tools/draw_map.py'), (0, '', ''))

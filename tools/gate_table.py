@@ -1,14 +1,15 @@
 #!/usr/bin/env python3
-"""gate_table.py LOG: the table of docs/PROVING.md from what .ci/run printed, a row for each crate: seconds of its proof, edits, seconds of all of them."""
+"""gate_table.py LOG: the table of docs/PROVING.md, from a file of what .ci/run printed: for each crate the seconds of its proof, its edits, and the seconds of all of them."""
 import re
-import sys
 
-PROVED = re.compile(r"rt: (\w+) proved \((\d+) s\)")
-EDIT = re.compile(r"rt: must-fail (\w+)/\w+: refused, as it must be \(.*?(\d+) s\)")
+from shared.command import Stop, run
+
+PROVED = re.compile(r'rt: (\w+) proved \((\d+) s\)$')
+EDIT = re.compile(r'rt: must-fail (\w+)/\w+: refused, as it must be \(.*?(\d+) s\)$')
 
 
-def rows(lines):
-    """The crates in the order of the log, each with its three numbers."""
+def crates_of(lines):
+    """The crates, each with its three numbers."""
     crates = {}
     for line in lines:
         proved = PROVED.match(line)
@@ -23,26 +24,22 @@ def rows(lines):
 
 def table(crates):
     """The rows, longest first, and the sums."""
-    out = ["| crate | proof, s | edits | edits, s |", "|---|---|---|---|"]
-    for name, (proof, edits, spent) in sorted(crates.items(), key=lambda row: -(row[1][0] + row[1][2])):
-        out.append(f"| `{name}` | {proof} | {edits} | {spent} |")
-    sums = [sum(column) for column in zip(*crates.values())]
-    out.append(f"| all | {sums[0]} | {sums[1]} | {sums[2]} |")
-    return "\n".join(out)
+    rows = sorted(crates.items(), key=lambda row: -(row[1][0] + row[1][2]))
+    rows.append(('all', [sum(column) for column in zip(*crates.values())]))
+    lines = [f'| {name} | {proof} | {edits} | {spent} |' for name, (proof, edits, spent) in rows]
+    return '\n'.join(['| crate | proof, s | edits | edits, s |', '|---|---|---|---|'] + lines)
 
 
 def main(words):
     if len(words) != 1:
-        sys.exit("usage: gate_table.py LOG")
-    try:
-        with open(words[0], encoding="utf-8") as log:
-            crates = rows(log)
-    except (OSError, UnicodeDecodeError) as error:
-        sys.exit(f"gate_table.py: {words[0]}: {error}")
+        raise Stop('usage: tools/gate_table.py LOG')
+    with open(words[0], encoding='utf-8', errors='replace') as log:
+        crates = crates_of(log.read().splitlines())
     if not crates:
-        sys.exit(f"gate_table.py: {words[0]} has no line of a proved crate")
+        raise Stop(f'{words[0]} has no line of a crate that was proved')
     print(table(crates))
+    return 0
 
 
-if __name__ == "__main__":
-    main(sys.argv[1:])
+if __name__ == '__main__':
+    run('gate_table', main)
