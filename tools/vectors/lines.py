@@ -216,14 +216,16 @@ def mixed(rows, others):
     return out + left
 
 
-def plain_rows(rust):
+def to_ask(lines):
+    """Cases whose answers the Rust is to be asked for."""
+    return [(line, None) for line in lines]
+
+
+def made_rows():
     """The cases that are made here or by the other programs' modules, in their parts."""
-    def asked(lines):
-        lines = list(lines)
-        return list(zip(lines, rust.answer_all(lines)))
     return {
-        'roots': root_lines(), 'curve borders': asked(curve_borders()), 'nearest': nearest_lines() + [(line, '5') for line in nearest_borders()],
-        'outline borders': asked(outline_borders()), 'whole': asked(whole()), 'nans': list(nans())}
+        'roots': root_lines(), 'curve borders': to_ask(curve_borders()), 'nearest': nearest_lines() + [(line, '5') for line in nearest_borders()],
+        'outline borders': to_ask(outline_borders()), 'whole': to_ask(whole()), 'nans': list(nans())}
 
 
 def collected_lists(lines):
@@ -244,16 +246,22 @@ def list_rows(lines):
         yield from map(judged, spoilt(line) if has_copies else [line])
 
 
-def cases(before, made, rust):
-    """Every case with its answer, in the order of the file. What was collected is what is left of the file before without all that is made."""
+def cases(before):
+    """Every case in the order of the file. What was collected is what is left of the file before without all that is made."""
+    made = made_rows()
     left = kept.without(before, [line for rows in made.values() for line, _ in rows])
     by_kind = {name: [line for line in left if line.split(' ')[0] in kinds] for name, kinds in COLLECTED.items()}
     curves = kept.at_least(by_kind['curves'], KEPT_CURVES, NAME)
     fits = kept.at_least(by_kind['outlines'], KEPT_OUTLINES, NAME)
     claims = kept.at_least(collected_lists(by_kind['lists']), KEPT_LISTS, NAME)
-    rows = made['roots'] + list(zip(curves, rust.answer_all(curves))) + made['curve borders'] + made['nearest']
-    rows += list(zip(fits, rust.answer_all(fits))) + made['outline borders'] + made['whole'] + made['nans']
+    rows = made['roots'] + to_ask(curves) + made['curve borders'] + made['nearest']
+    rows += to_ask(fits) + made['outline borders'] + made['whole'] + made['nans']
     return rows + list(list_rows(claims))
+
+
+def answered(rows, rust):
+    asked = iter(rust.answer_all([line for line, said in rows if said is None]))
+    return [(line, next(asked) if said is None else said) for line, said in rows]
 
 
 def hold(lines, rust):
@@ -266,9 +274,9 @@ def hold(lines, rust):
 def make(rust):
     before = kept.read_stdin(NAME).decode('latin-1').split('\n')
     wrong = list(bad())
-    hold(wrong, rust)
     end = long_lines() + LAST
-    rest = kept.without(before, wrong + [line for line, _ in end])
-    found = mixed(cases(rest, plain_rows(rust), rust), [(line, 'BAD') for line in wrong]) + end
+    rows = cases(kept.without(before, wrong + [line for line, _ in end]))
+    hold(wrong, rust)
+    found = mixed(answered(rows, rust), [(line, 'BAD') for line in wrong]) + end
     stdin = '\n'.join(line for line, _ in found).encode('latin-1')
     return kept.Made(NAME, stdin, ''.join(said + '\n' for _, said in found), len(found), len(before), kept.tally(said for _, said in found))
