@@ -1,5 +1,5 @@
-// Runs the port on the oracle's cases: for each the answer, as a line of numbers, and below it the Rust's parameter where the port's is
-// not near it; at the end how many parameters agree. tools/nearest_cases.py writes the input and the expected output.
+// Runs the port on kept curves and query points: for each the answer, as a line of numbers, and below it the Rust's parameter where the port's is
+// not near it; at the end how many parameters agree. tools/make_vectors.py makes the input and the expected output.
 mod case;
 mod compare;
 mod words;
