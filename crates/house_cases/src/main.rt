@@ -12,6 +12,15 @@ use outline::Listed;
 use reader::Read;
 use writer::Wrote;
 
+// The room for a file and for text, for marks and curves, for first marks and for parameters.
+const FILE: usize = 163840;
+
+const NUMBERS: usize = 8192;
+
+const FIRSTS: usize = 1024;
+
+const PARAMS: usize = 4096;
+
 // How often each answer was given.
 struct Tally {
     taken: u64,
@@ -24,33 +33,17 @@ fn more(n: u64) -> u64 {
     std::num::wrapping_add_u64(n, 1)
 }
 
-// One more answer.
+fn more_if(n: u64, b: bool) -> u64 {
+    if b { more(n) } else { n }
+}
+
+// One more answer: 9 is the only one beside 0, 2 and 4.
 fn count(t: Tally, answer: u32) -> Tally {
-    match answer {
-        0 => Tally {
-            taken: more(t.taken),
-            many: t.many,
-            room: t.room,
-            formed: t.formed,
-        },
-        2 => Tally {
-            taken: t.taken,
-            many: more(t.many),
-            room: t.room,
-            formed: t.formed,
-        },
-        4 => Tally {
-            taken: t.taken,
-            many: t.many,
-            room: more(t.room),
-            formed: t.formed,
-        },
-        _ => Tally {
-            taken: t.taken,
-            many: t.many,
-            room: t.room,
-            formed: more(t.formed),
-        },
+    Tally {
+        taken: more_if(t.taken, answer == 0),
+        many: more_if(t.many, answer == 2),
+        room: more_if(t.room, answer == 4),
+        formed: more_if(t.formed, answer == 9),
     }
 }
 
@@ -178,26 +171,91 @@ fn same(a: &[u8], b: &[u8]) -> bool {
     true
 }
 
+// The first n places, or all where there are fewer.
+fn front_numbers(xs: &[u64], n: usize) -> &[u64] {
+    let from: usize = 0;
+    if n <= xs.len() {
+        return &xs[from..n];
+    }
+    xs
+}
+
+fn front_text(xs: &[u8], n: usize) -> &[u8] {
+    let from: usize = 0;
+    if n <= xs.len() {
+        return &xs[from..n];
+    }
+    xs
+}
+
+fn lent_bytes(xs: &mut [u8], n: usize) -> &mut [u8] {
+    let from: usize = 0;
+    if n <= xs.len() {
+        return &mut xs[from..n];
+    }
+    xs
+}
+
+fn lent_firsts(xs: &mut [u32], n: usize) -> &mut [u32] {
+    let from: usize = 0;
+    if n <= xs.len() {
+        return &mut xs[from..n];
+    }
+    xs
+}
+
+fn lent_words(xs: &mut [u64], n: usize) -> &mut [u64] {
+    let from: usize = 0;
+    if n <= xs.len() {
+        return &mut xs[from..n];
+    }
+    xs
+}
+
+// A refusal's number, which ends its line.
+fn print_refusal(q: u32) {
+    cases::print_count(q as u64);
+    cases::end_line();
+}
+
+// How many bytes were written, and whether they are the file's.
+fn print_bytes(n: usize, file: &[u8], out: &[u8]) {
+    cases::print_count(0);
+    print_next(n as u64);
+    cases::end_line();
+    if !same(file, front_text(out, n)) {
+        io::write_all(STDOUT_FILENO, b"DIFFERS\n");
+    }
+}
+
 // What was written, against the file.
 fn print_written(wrote: Wrote, file: &[u8], out: &[u8]) {
+    io::write_all(STDOUT_FILENO, b" ");
     match wrote {
-        Wrote::Bytes(n) => {
-            print_next(0);
-            print_next(n as u64);
-            cases::end_line();
-            if n > out.len() {
-                return;
-            }
-            let from: usize = 0;
-            if !same(file, &out[from..n]) {
-                io::write_all(STDOUT_FILENO, b"DIFFERS\n");
-            }
-        }
-        Wrote::Refused(q) => {
-            print_next(q as u64);
-            cases::end_line();
-        }
+        Wrote::Bytes(n) => print_bytes(n, file, out),
+        Wrote::Refused(q) => print_refusal(q),
     }
+}
+
+// What the reader found, written again.
+fn write_again(
+    tolerance: u64,
+    count: usize,
+    file: &[u8],
+    marks: &[u64],
+    firsts: &[u32],
+    curves: &[u64],
+    params: &[u64],
+    out: &mut [u8],
+) {
+    let wrote = writer::write_file(tolerance, marks, count, firsts, curves, params, out);
+    print_written(wrote, file, out);
+}
+
+fn print_counts(marks: usize, curves: usize) {
+    cases::print_count(0);
+    print_next(marks as u64);
+    print_next(curves as u64);
 }
 
 // The file read, and written again.
@@ -209,145 +267,129 @@ fn read_and_write(
     params: &mut [u64],
     out: &mut [u8],
 ) {
-    let read = reader::read_file(file, marks, firsts, curves, params);
-    match read {
+    match reader::read_file(file, marks, firsts, curves, params) {
         Read::File {
             tolerance: t,
             marks: n,
             curves: k,
         } => {
-            cases::print_count(0);
-            print_next(n as u64);
-            print_next(k as u64);
-            if n > marks.len() / 2 {
-                return;
-            }
-            let m = 2 * n;
-            let from: usize = 0;
-            let wrote = writer::write_file(t, &marks[from..m], k, firsts, curves, params, out);
-            print_written(wrote, file, out);
+            print_counts(n, k);
+            let m = std::num::wrapping_add_usize(n, n);
+            write_again(
+                t,
+                k,
+                file,
+                front_numbers(marks, m),
+                firsts,
+                curves,
+                params,
+                out,
+            );
         }
-        Read::Refused(q) => {
-            cases::print_count(q as u64);
-            cases::end_line();
-        }
+        Read::Refused(q) => print_refusal(q),
     }
 }
 
 // The file's listing.
 fn list(file: &[u8], out: &mut [u8]) {
-    let listed = outline::list_outline(file, out);
-    match listed {
+    match outline::list_outline(file, out) {
         Listed::Bytes(n) => {
-            if n > out.len() {
-                return;
-            }
-            let from: usize = 0;
-            io::write_all(STDOUT_FILENO, &out[from..n]);
+            io::write_all(STDOUT_FILENO, front_text(out, n));
         }
-        Listed::Refused(q) => {
-            cases::print_count(q as u64);
-            cases::end_line();
-        }
+        Listed::Refused(q) => print_refusal(q),
     }
 }
 
-// What a record asks for.
-fn act(
+// The word of a record's head that says a length.
+fn length_at(head: &[u8; 56], at: usize) -> usize {
+    cases::word(head, at) as usize
+}
+
+// Whether there is as much room as a head asks for.
+fn fits(head: &[u8; 56]) -> bool {
+    (length_at(head, 8) <= FILE)
+        & (length_at(head, 16) <= NUMBERS)
+        & (length_at(head, 24) <= FIRSTS)
+        & (length_at(head, 32) <= NUMBERS)
+        & (length_at(head, 40) <= PARAMS)
+        & (length_at(head, 48) <= FILE)
+}
+
+fn list_record(head: &[u8; 56], file: &[u8]) {
+    let mut out = [0u8; FILE];
+    list(file, lent_bytes(&mut out, length_at(head, 48)));
+}
+
+fn write_record(head: &[u8; 56], file: &[u8]) {
+    let mut marks = [0u64; NUMBERS];
+    let mut firsts = [0u32; FIRSTS];
+    let mut curves = [0u64; NUMBERS];
+    let mut params = [0u64; PARAMS];
+    let mut out = [0u8; FILE];
+    read_and_write(
+        file,
+        lent_words(&mut marks, length_at(head, 16)),
+        lent_firsts(&mut firsts, length_at(head, 24)),
+        lent_words(&mut curves, length_at(head, 32)),
+        lent_words(&mut params, length_at(head, 40)),
+        lent_bytes(&mut out, length_at(head, 48)),
+    );
+}
+
+// Prefixes or changes.
+fn tallied(
     what: u64,
     file: &mut [u8],
     marks: &mut [u64],
     firsts: &mut [u32],
     curves: &mut [u64],
     params: &mut [u64],
-    out: &mut [u8],
-) {
-    match what {
-        0 => list(file, out),
-        1 => read_and_write(file, marks, firsts, curves, params, out),
-        2 => print_tally(prefixes(file, marks, firsts, curves, params)),
-        _ => print_tally(changes(file, marks, firsts, curves, params)),
+) -> Tally {
+    if what == 2 {
+        return prefixes(file, marks, firsts, curves, params);
     }
+    changes(file, marks, firsts, curves, params)
 }
 
-// A record after its head, with the slices cut to the lengths that the head names.
-fn record(
-    head: &[u8; 56],
-    file: &mut [u8],
-    marks: &mut [u64],
-    firsts: &mut [u32],
-    curves: &mut [u64],
-    params: &mut [u64],
-    out: &mut [u8],
-) -> bool {
-    let b = cases::word(head, 8) as usize;
-    let m = cases::word(head, 16) as usize;
-    let f = cases::word(head, 24) as usize;
-    let c = cases::word(head, 32) as usize;
-    let p = cases::word(head, 40) as usize;
-    let o = cases::word(head, 48) as usize;
-    if b > file.len() {
-        return false;
-    }
-    if m > marks.len() {
-        return false;
-    }
-    if f > firsts.len() {
-        return false;
-    }
-    if c > curves.len() {
-        return false;
-    }
-    if p > params.len() {
-        return false;
-    }
-    if o > out.len() {
-        return false;
-    }
-    let from: usize = 0;
-    act(
-        cases::word(head, 0),
-        &mut file[from..b],
-        &mut marks[from..m],
-        &mut firsts[from..f],
-        &mut curves[from..c],
-        &mut params[from..p],
-        &mut out[from..o],
+fn tally_record(what: u64, head: &[u8; 56], file: &mut [u8]) {
+    let mut marks = [0u64; NUMBERS];
+    let mut firsts = [0u32; FIRSTS];
+    let mut curves = [0u64; NUMBERS];
+    let mut params = [0u64; PARAMS];
+    let t = tallied(
+        what,
+        file,
+        lent_words(&mut marks, length_at(head, 16)),
+        lent_firsts(&mut firsts, length_at(head, 24)),
+        lent_words(&mut curves, length_at(head, 32)),
+        lent_words(&mut params, length_at(head, 40)),
     );
-    true
+    print_tally(t);
 }
 
-// The next n bytes of standard input, if there is room for them.
-fn read_bytes(file: &mut [u8], n: usize) {
-    if n > file.len() {
-        return;
+// What a record asks for.
+fn record(head: &[u8; 56], file: &mut [u8]) {
+    match cases::word(head, 0) {
+        0 => list_record(head, file),
+        1 => write_record(head, file),
+        what => tally_record(what, head, file),
     }
-    let from: usize = 0;
-    io::read_full(STDIN_FILENO, &mut file[from..n]);
 }
 
-// One record, if there is one.
+// One record, if there is one with no more than there is room for.
 fn step() -> bool {
     let mut head = [0u8; 56];
     if io::read_full(STDIN_FILENO, &mut head) < 56 {
         return false;
     }
-    let mut file = [0u8; 163840];
-    let mut marks = [0u64; 8192];
-    let mut firsts = [0u32; 1024];
-    let mut curves = [0u64; 8192];
-    let mut params = [0u64; 4096];
-    let mut out = [0u8; 163840];
-    read_bytes(&mut file, cases::word(&head, 8) as usize);
-    record(
-        &head,
-        &mut file,
-        &mut marks,
-        &mut firsts,
-        &mut curves,
-        &mut params,
-        &mut out,
-    )
+    if !fits(&head) {
+        return false;
+    }
+    let mut file = [0u8; FILE];
+    let lent = lent_bytes(&mut file, length_at(&head, 8));
+    io::read_full(STDIN_FILENO, lent);
+    record(&head, lent);
+    true
 }
 
 fn main() {

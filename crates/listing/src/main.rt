@@ -13,13 +13,15 @@ fn print_front(out: &[u8], n: usize) {
     io::write_all(STDOUT_FILENO, &out[from..n]);
 }
 
-// One byte more is read than is listed, so that too long a file is seen. What is lent holds the longest text, so the call is not refused.
+// One byte more is read than is listed, so that too long a file is seen. What is lent holds the longest text, so the call is not refused; its only
+// refusal is 4, and it would be said like those that the text names.
 fn main() {
     let mut file = [0u8; 65537];
     let mut out = [0u8; 78233];
     let got = io::read_full(STDIN_FILENO, &mut file);
     let listed = list_outline(&file[..got], &mut out);
     let Listed::Bytes(n) = listed else {
+        io::write_all(STDOUT_FILENO, b"REFUSED 4\n");
         return;
     };
     print_front(&out, n);

@@ -1,10 +1,12 @@
 -- What each way through the listing shows. Assumes nothing.
-use mathlib.Core.Path.{_≡_, sym, ap, ap₂, _∙_}
-use mathlib.Core.List.{List}
+use mathlib.Core.Path.{_≡_, refl, sym, ap, ap₂, _∙_}
+use mathlib.Core.List.{List, _∷_, []}
 use Prim.Native.Nat.{ℕ, _+_, _*_, _/_, _<_, _≤_}
 use native.Mathlib.Omega.{arith}
 use borrow.Author.Tests.{le-leb, lt-leb}
 use lib.Dec.{leb}
+use types.Run.{OneOf}
+use denote.Enum.Declared.{tagOf}
 use lib.ListN.{length, take, drop}
 use lib.Seq.{sets, take-at}
 use Rattle.float.specs.Answer.{ok, refused, unless}
@@ -12,6 +14,7 @@ use Rattle.float.specs.Slices.{written}
 use lib.Ieee.{Float}
 use Rattle.cut.specs.declared.Fitted.{Fitted}
 use Rattle.cut.specs.declared.Fitted.the-variants.{Curves, Refused}
+use Rattle.cut.proofs.Fitted.{the-type}
 use Rattle.fit.specs.Fit.{Ending, fittedAnswer}
 use Rattle.lines.specs.Lines.{outlineLines, refusalLine}
 use Rattle.house.specs.Held.{fileAt, fileOf}
@@ -23,7 +26,7 @@ use Rattle.heads.specs.Layout.{layoutOf}
 use Rattle.heads.specs.declared.Layout.the-variants as layout
 use Rattle.heads.proofs.Ways.{Told, untold}
 use Rattle.file_fit.specs.FileFit.{zeros, fileFit, Left}
-use Rattle.outline.specs.Outline.{noMarks, fitLines, roomyFit, linesOf, shown, listingOf, listing, listOf}
+use Rattle.outline.specs.Outline.{noMarks, fitLines, refusalIn, roomyFit, linesOf, shown, listingOf, listing, listOf}
 use Rattle.outline.proofs.Counts.{fit-count}
 
 -- ---- refusals before the fit
@@ -61,6 +64,11 @@ fit-done n E k e = rw e
 pub fit-refused : (n : ℕ) (E : Ending) (q : ℕ) → E .answer ≡ refused q → shown (fitLines n E) ≡ refusalLine q
 unfolding fitLines
 fit-refused n E q e = rw e
+
+-- the arm of a fit that gave no curves
+pub other-is : (r : Fitted) → OneOf (1 ∷ []) (tagOf the-type r) → r ≡ Refused (refusalIn r)
+other-is (Curves k) o = absurd (omega arith)
+other-is (Refused q) o = refl
 
 module _ (b : List ℕ) (n : ℕ) (C : List Float) (P : List ℕ) where
   same-fit : C ≡ zeros 4088 → P ≡ noMarks 511 → fileFit (fileAt b n 0) C P (zeros 512) ≡ roomyFit (fileAt b n 0)

@@ -5,6 +5,8 @@ use lib.Dec.{leb}
 use lib.ListN.{length, take, replicate}
 use Rattle.float.specs.Answer.{Answer, ok, refused, unless, _>>=_}
 use Rattle.float.specs.Slices.{written}
+use Rattle.cut.specs.declared.Fitted.{Fitted}
+use Rattle.cut.specs.declared.Fitted.the-variants as fitted
 use Rattle.fit.specs.Fit.{Ending}
 use Rattle.lines.specs.Lines.{outlineLines, refusalLine}
 use Rattle.house.specs.Limits.{tooMany, noRoom, badlyFormed}
@@ -31,6 +33,11 @@ unfoldable pub fitLines : ℕ → Ending → Answer (List ℕ)
 fitLines n E = do
   k ← E .answer
   ok (outlineLines n (take k (E .firsts)) (E .curves))
+
+-- the number of a fit's refusal, and 0 where there is none
+abbrev pub refusalIn : Fitted → ℕ
+refusalIn (fitted.Curves k) = 0
+refusalIn (fitted.Refused q) = q
 
 -- so many zeros, for first marks
 unfoldable pub noMarks : ℕ → List ℕ

@@ -6,7 +6,7 @@ ghost use Rattle.text.specs.Put.{Put};
 ghost use Rattle.house.specs.Limits.{markBytes, marksAt};
 ghost use Rattle.house.specs.Held.{fileAt};
 ghost use Rattle.file_fit.specs.FileFit.{zeros};
-ghost use Rattle.outline.specs.Outline.{noMarks, fitLines, roomyFit, shown, listingOf, listing, listedAnswer, listOf};
+ghost use Rattle.outline.specs.Outline.{noMarks, fitLines, refusalIn, roomyFit, shown, listingOf, listing, listedAnswer, listOf};
 use cut::Fitted;
 use file_fit::fit_file;
 use float::refusal::BADLY_FORMED;
@@ -52,6 +52,16 @@ fn text_room() -> [u8; 78233]
     [0; 78233]
 }
 
+// The number of a fit's refusal.
+fn refusal_of(fitted: Fitted) -> u32
+    ensures { λ r. ⌜ r ≡ refusalIn fitted ⌝ }
+{
+    match fitted {
+        Fitted::Curves(_) => 0,
+        Fitted::Refused(q) => q,
+    }
+}
+
 // The text for a file of n marks that is well formed.
 fn put_fit(file: &[u8], n: usize, text: &mut [u8]) -> usize
     requires { ⌜ (marksAt + markBytes * n ≤ length (now file)) × ((n ≤ 512) × (78233 ≤ length (now text))) ⌝ }
@@ -60,10 +70,10 @@ fn put_fit(file: &[u8], n: usize, text: &mut [u8]) -> usize
     let mut curves = curve_room();
     let mut firsts = first_room();
     let fitted = fit_file(file, n, &mut curves, &mut firsts);
-    match fitted {
-        Fitted::Curves(k) => put_outline(text, n, &firsts, &curves, k),
-        Fitted::Refused(q) => put_refusal(text, q),
-    }
+    let Fitted::Curves(k) = fitted else {
+        return put_refusal(text, refusal_of(fitted));
+    };
+    put_outline(text, n, &firsts, &curves, k)
 }
 
 // The text for any bytes. It has at most 50 bytes, and 153 for each of at most 511 curves.

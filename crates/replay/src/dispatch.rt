@@ -1,37 +1,39 @@
 // A line, answered by the kind that its first word names.
-use crate::kind::Kind;
 use crate::kind::kind_of;
 use crate::listing;
 use crate::outline;
 use crate::outline::Fit;
-use crate::put::put_bad;
 use crate::single;
 use bytes::scan;
+use libc::STDOUT_FILENO;
 
-// The answer to a line of a kind; its other words follow the place `at`.
-fn answer_by(kind: Kind, line: &[u8], at: usize, out: &mut [u8], n: usize) -> usize {
-    match kind {
-        Kind::Sqrt => single::sqrt_case(line, at, out, n),
-        Kind::Basis => single::basis_case(line, at, out, n),
-        Kind::Casteljau4 => single::casteljau4_case(line, at, out, n),
-        Kind::Coefficients => single::coefficients_case(line, at, out, n),
-        Kind::Subdivide4 => single::subdivide4_case(line, at, out, n),
-        Kind::Casteljau3 => single::casteljau3_case(line, at, out, n),
-        Kind::Casteljau2 => single::casteljau2_case(line, at, out, n),
-        Kind::Refine => single::refine_case(line, at, out, n),
-        Kind::Nearest => single::nearest_case(line, at, out, n),
-        Kind::Direct => outline::direct_case(line, at, out, n),
-        Kind::Source => outline::blocks_case(Fit::Source, line, at, out, n),
-        Kind::Loop => outline::blocks_case(Fit::Loop, line, at, out, n),
-        Kind::Joined => outline::blocks_case(Fit::Joined, line, at, out, n),
-        Kind::Check => listing::check_case(line, at, out, n),
-        Kind::Unknown => put_bad(out, n),
+// Whether a line is a case; what a case answers is printed. The kinds are in the order of their names' list.
+fn answered(line: &[u8]) -> bool {
+    let from: usize = 0;
+    let end = scan::find(line, from, line.len(), b' ');
+    match kind_of(&line[from..end]) {
+        0 => single::sqrt_case(line, end),
+        1 => single::basis_case(line, end),
+        2 => single::casteljau4_case(line, end),
+        3 => single::coefficients_case(line, end),
+        4 => single::subdivide4_case(line, end),
+        5 => single::casteljau3_case(line, end),
+        6 => single::casteljau2_case(line, end),
+        7 => single::refine_case(line, end),
+        8 => single::nearest_case(line, end),
+        9 => outline::direct_case(line, end),
+        10 => outline::blocks_case(Fit::Source, line, end),
+        11 => outline::blocks_case(Fit::Loop, line, end),
+        12 => outline::blocks_case(Fit::Joined, line, end),
+        13 => listing::check_case(line, end),
+        _ => false,
     }
 }
 
-// The answer to a line.
-pub fn answer(line: &[u8], out: &mut [u8], n: usize) -> usize {
-    let end = scan::find(line, 0, line.len(), b' ');
-    let from: usize = 0;
-    answer_by(kind_of(&line[from..end]), line, end, out, n)
+// The answer to a line, and a newline. A line that is no case is bad.
+pub fn answer(line: &[u8]) {
+    if !answered(line) {
+        io::write_all(STDOUT_FILENO, b"BAD");
+    }
+    cases::end_line();
 }

@@ -19,7 +19,7 @@ mod kind;
 mod lines;
 mod listing;
 mod outline;
-mod put;
+mod print;
 mod single;
 
 fn main() {

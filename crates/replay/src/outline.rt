@@ -1,15 +1,12 @@
 // Cases of an outline: the four fits. Up to 4,200 marks are handed on, so that the fits' own refusal of more than 4,096 shows.
-use crate::cursor::Counted;
-use crate::cursor::Float;
-use crate::cursor::Pair;
-use crate::cursor::take_all;
+use crate::cursor::front;
+use crate::cursor::front_marks;
 use crate::cursor::take_float;
 use crate::cursor::take_point;
-use crate::put::put_accepted;
-use crate::put::put_bad;
-use crate::put::put_floats;
-use crate::put::put_next_whole;
-use crate::put::put_refused;
+use crate::cursor::take_some;
+use crate::print::print_accepted;
+use crate::print::print_floats;
+use crate::print::print_refused;
 use cut::Fitted;
 use plane::Point;
 
@@ -39,94 +36,81 @@ fn fit_by(
     }
 }
 
+// How many numbers a line has behind a place: each is a blank and 16 digits.
+fn numbers_left(line: &[u8], at: usize) -> usize {
+    if at > line.len() {
+        return 0;
+    }
+    (line.len() - at) / 17
+}
+
 fn wide(x: u32) -> u64 {
     x as u64
 }
 
-// The first k curves, each its first mark and eight numbers.
-fn put_curves(out: &mut [u8], n: usize, k: usize, curves: &[f64], firsts: &[u32]) -> usize {
-    let mut fill = n;
+// The eight numbers of the curve number i.
+fn curve_at(curves: &[f64], i: usize) -> &[f64] {
+    if i >= curves.len() / 8 {
+        return curves;
+    }
+    let from = 8 * i;
+    let to = from + 8;
+    &curves[from..to]
+}
+
+// The curves, each its first mark and eight numbers.
+fn print_curves(curves: &[f64], firsts: &[u32]) {
     let mut i: usize = 0;
     while i < firsts.len() {
-        if i >= k {
-            return fill;
-        }
-        let from = 8 * i;
-        if curves.len() < from + 8 {
-            return fill;
-        }
-        let to = from + 8;
-        fill = put_next_whole(out, fill, wide(firsts[i]));
-        fill = put_floats(out, fill, &curves[from..to]);
+        cases::print_next_count(wide(firsts[i]));
+        print_floats(curve_at(curves, i));
         i += 1;
     }
-    fill
 }
 
-// A fit's answer: how many curves, the curves, and a parameter for each of the marks.
-fn put_fit(
-    out: &mut [u8],
-    n: usize,
-    k: usize,
-    curves: &[f64],
-    firsts: &[u32],
-    params: &[f64],
-    marks: usize,
-) -> usize {
-    let one = put_accepted(out, n);
-    let two = put_next_whole(out, one, k as u64);
-    let three = put_curves(out, two, k, curves, firsts);
-    if marks > params.len() {
-        return three;
-    }
-    let from: usize = 0;
-    put_floats(out, three, &params[from..marks])
+// How many curves, the curves, and a parameter for each mark.
+fn print_fit(k: usize, curves: &[f64], firsts: &[u32], params: &[f64]) {
+    print_accepted();
+    cases::print_next_count(k as u64);
+    print_curves(curves, front_marks(firsts, k));
+    print_floats(params);
 }
 
-// A fit of the marks up to the line's end.
-fn fit_case(fit: Fit, tolerance: f64, line: &[u8], at: usize, out: &mut [u8], n: usize) -> usize {
-    let mut marks = [0.0; 8400];
-    let Counted::Are(m) = take_all(line, at, &mut marks) else {
-        return put_bad(out, n);
-    };
-    if m > 8400 {
-        return put_bad(out, n);
-    }
+// A fit's answer.
+fn say_fit(fit: Fit, marks: &[f64], tolerance: f64) {
     let mut curves = [0.0; 32760];
     let mut firsts = [0u32; 4095];
     let mut params = [0.0; 4096];
-    let from: usize = 0;
-    match fit_by(
-        fit,
-        &marks[from..m],
-        tolerance,
-        &mut curves,
-        &mut firsts,
-        &mut params,
-    ) {
-        Fitted::Curves(k) => put_fit(out, n, k, &curves, &firsts, &params, m / 2),
-        Fitted::Refused(q) => put_refused(out, n, q),
+    let fitted = fit_by(fit, marks, tolerance, &mut curves, &mut firsts, &mut params);
+    match fitted {
+        Fitted::Curves(k) => print_fit(k, &curves, &firsts, front(&params, marks.len() / 2)),
+        Fitted::Refused(q) => print_refused(q),
     }
 }
 
+// A fit of the marks up to the line's end.
+fn fit_case(fit: Fit, tolerance: f64, line: &[u8], at: usize) -> bool {
+    let mut marks = [0.0; 8400];
+    let m = numbers_left(line, at);
+    if take_some(line, at, m, &mut marks) != line.len() {
+        return false;
+    }
+    say_fit(fit, front(&marks, m), tolerance);
+    true
+}
+
 // direct TOL SX SY EX EY X0 Y0 ..
-pub fn direct_case(line: &[u8], at: usize, out: &mut [u8], n: usize) -> usize {
-    let Float::Is(tolerance, one) = take_float(line, at) else {
-        return put_bad(out, n);
-    };
-    let Pair::Is(start, two) = take_point(line, one) else {
-        return put_bad(out, n);
-    };
-    let Pair::Is(end, three) = take_point(line, two) else {
-        return put_bad(out, n);
-    };
-    fit_case(Fit::Direct(start, end), tolerance, line, three, out, n)
+pub fn direct_case(line: &[u8], at: usize) -> bool {
+    let tolerance = take_float(line, at);
+    let start = take_point(line, tolerance.then);
+    let end = take_point(line, start.then);
+    let from = start.p;
+    let to = end.p;
+    fit_case(Fit::Direct(from, to), tolerance.x, line, end.then)
 }
 
 // source, loop, joined TOL X0 Y0 ..
-pub fn blocks_case(fit: Fit, line: &[u8], at: usize, out: &mut [u8], n: usize) -> usize {
-    let Float::Is(tolerance, then) = take_float(line, at) else {
-        return put_bad(out, n);
-    };
-    fit_case(fit, tolerance, line, then, out, n)
+pub fn blocks_case(fit: Fit, line: &[u8], at: usize) -> bool {
+    let tolerance = take_float(line, at);
+    fit_case(fit, tolerance.x, line, tolerance.then)
 }

@@ -1,228 +1,188 @@
-// Cases of one number or one curve. Each takes its words, and is bad where they are not what it asks for or the line goes on behind them.
-use crate::cursor::Eight;
-use crate::cursor::Float;
-use crate::cursor::Pair;
-use crate::cursor::Whole;
+// Cases of one number or one curve. Each takes its words, and prints its answer; it is false where they are not what it asks for or the line goes
+// on behind them.
+use crate::cursor::MOST;
+use crate::cursor::take_count;
 use crate::cursor::take_curve;
 use crate::cursor::take_float;
 use crate::cursor::take_point;
-use crate::cursor::take_whole;
-use crate::put::put_accepted;
-use crate::put::put_bad;
-use crate::put::put_curve;
-use crate::put::put_float;
-use crate::put::put_point;
-use crate::put::put_refused;
+use crate::print::print_accepted;
+use crate::print::print_curve;
+use crate::print::print_float;
+use crate::print::print_point;
+use crate::print::print_refused;
 use bezier::CoefficientsAnswer;
 use bezier::HalvesAnswer;
 use bezier::NumberAnswer;
 use bezier::PointAnswer;
 use nearest::NearestPoint;
-use plane::Curve;
 
-// The answers as text.
-fn put_number(out: &mut [u8], n: usize, x: f64) -> usize {
-    let then = put_accepted(out, n);
-    put_float(out, then, x)
+// What the calls answer.
+fn say_number(x: f64) -> bool {
+    print_accepted();
+    print_float(x);
+    true
 }
 
-fn put_point_answer(out: &mut [u8], n: usize, a: PointAnswer) -> usize {
+fn say_refused(q: u32) -> bool {
+    print_refused(q);
+    true
+}
+
+fn say_point(a: PointAnswer) -> bool {
     match a {
         PointAnswer::At(p) => {
-            let then = put_accepted(out, n);
-            put_point(out, then, p)
+            print_accepted();
+            print_point(p);
+            true
         }
-        PointAnswer::Refused(q) => put_refused(out, n, q),
+        PointAnswer::Refused(q) => say_refused(q),
     }
 }
 
-fn put_coefficients(out: &mut [u8], n: usize, a: CoefficientsAnswer) -> usize {
+fn say_coefficients(a: CoefficientsAnswer) -> bool {
     match a {
         CoefficientsAnswer::Are(k) => {
-            let then = put_number(out, n, k.a);
-            let two = put_float(out, then, k.b);
-            let three = put_float(out, two, k.c);
-            put_float(out, three, k.d)
+            print_accepted();
+            print_float(k.a);
+            print_float(k.b);
+            print_float(k.c);
+            print_float(k.d);
+            true
         }
-        CoefficientsAnswer::Refused(q) => put_refused(out, n, q),
+        CoefficientsAnswer::Refused(q) => say_refused(q),
     }
 }
 
-fn put_halves(out: &mut [u8], n: usize, a: HalvesAnswer) -> usize {
+fn say_halves(a: HalvesAnswer) -> bool {
     match a {
         HalvesAnswer::Are(h) => {
-            let then = put_accepted(out, n);
-            let half = put_curve(out, then, h.left);
-            put_curve(out, half, h.right)
+            print_accepted();
+            print_curve(h.left);
+            print_curve(h.right);
+            true
         }
-        HalvesAnswer::Refused(q) => put_refused(out, n, q),
+        HalvesAnswer::Refused(q) => say_refused(q),
     }
 }
 
-fn put_number_answer(out: &mut [u8], n: usize, a: NumberAnswer) -> usize {
+fn say_refined(a: NumberAnswer) -> bool {
     match a {
-        NumberAnswer::Is(t) => put_number(out, n, t),
-        NumberAnswer::Refused(q) => put_refused(out, n, q),
+        NumberAnswer::Is(t) => say_number(t),
+        NumberAnswer::Refused(q) => say_refused(q),
     }
 }
 
-fn put_nearest(out: &mut [u8], n: usize, a: NearestPoint) -> usize {
+fn say_nearest(a: NearestPoint) -> bool {
     match a {
         NearestPoint::Found(t, distance_sq) => {
-            let then = put_number(out, n, t);
-            put_float(out, then, distance_sq)
+            print_accepted();
+            print_float(t);
+            print_float(distance_sq);
+            true
         }
-        NearestPoint::Refused(q) => put_refused(out, n, q),
+        NearestPoint::Refused(q) => say_refused(q),
     }
 }
 
 // sqrt X
-pub fn sqrt_case(line: &[u8], at: usize, out: &mut [u8], n: usize) -> usize {
-    let Float::Is(x, end) = take_float(line, at) else {
-        return put_bad(out, n);
-    };
-    if end != line.len() {
-        return put_bad(out, n);
+pub fn sqrt_case(line: &[u8], at: usize) -> bool {
+    let x = take_float(line, at);
+    if x.then != line.len() {
+        return false;
     }
-    put_number(out, n, root::sqrt(x))
-}
-
-// A parameter and a curve, which are a line's last words.
-pub enum Curved {
-    Is(f64, Curve),
-    Bad,
-}
-
-fn take_curved(line: &[u8], at: usize) -> Curved {
-    let Float::Is(t, then) = take_float(line, at) else {
-        return Curved::Bad;
-    };
-    let Eight::Is(c, end) = take_curve(line, then) else {
-        return Curved::Bad;
-    };
-    if end != line.len() {
-        return Curved::Bad;
-    }
-    Curved::Is(t, c)
+    say_number(root::sqrt(x.x))
 }
 
 // basis T C8
-pub fn basis_case(line: &[u8], at: usize, out: &mut [u8], n: usize) -> usize {
-    let Curved::Is(t, c) = take_curved(line, at) else {
-        return put_bad(out, n);
-    };
-    put_point_answer(out, n, bezier::basis(t, c.start, c.cp1, c.cp2, c.end))
+pub fn basis_case(line: &[u8], at: usize) -> bool {
+    let t = take_float(line, at);
+    let e = take_curve(line, t.then);
+    if e.then != line.len() {
+        return false;
+    }
+    let c = e.c;
+    say_point(bezier::basis(t.x, c.start, c.cp1, c.cp2, c.end))
 }
 
 // de_casteljau4 T C8
-pub fn casteljau4_case(line: &[u8], at: usize, out: &mut [u8], n: usize) -> usize {
-    let Curved::Is(t, c) = take_curved(line, at) else {
-        return put_bad(out, n);
-    };
-    put_point_answer(
-        out,
-        n,
-        bezier::de_casteljau4(t, c.start, c.cp1, c.cp2, c.end),
-    )
+pub fn casteljau4_case(line: &[u8], at: usize) -> bool {
+    let t = take_float(line, at);
+    let e = take_curve(line, t.then);
+    if e.then != line.len() {
+        return false;
+    }
+    let c = e.c;
+    say_point(bezier::de_casteljau4(t.x, c.start, c.cp1, c.cp2, c.end))
 }
 
 // subdivide4 T C8
-pub fn subdivide4_case(line: &[u8], at: usize, out: &mut [u8], n: usize) -> usize {
-    let Curved::Is(t, c) = take_curved(line, at) else {
-        return put_bad(out, n);
-    };
-    put_halves(out, n, bezier::subdivide4(t, c.start, c.cp1, c.cp2, c.end))
+pub fn subdivide4_case(line: &[u8], at: usize) -> bool {
+    let t = take_float(line, at);
+    let e = take_curve(line, t.then);
+    if e.then != line.len() {
+        return false;
+    }
+    let c = e.c;
+    say_halves(bezier::subdivide4(t.x, c.start, c.cp1, c.cp2, c.end))
 }
 
 // coefficients D C8
-pub fn coefficients_case(line: &[u8], at: usize, out: &mut [u8], n: usize) -> usize {
-    let Whole::Is(d, then) = take_whole(line, at) else {
-        return put_bad(out, n);
-    };
-    let Eight::Is(c, end) = take_curve(line, then) else {
-        return put_bad(out, n);
-    };
-    if end != line.len() {
-        return put_bad(out, n);
+pub fn coefficients_case(line: &[u8], at: usize) -> bool {
+    let d = take_count(line, at, MOST);
+    let e = take_curve(line, d.then);
+    if e.then != line.len() {
+        return false;
     }
-    put_coefficients(
-        out,
-        n,
-        bezier::bezier_coefficients(d as usize, c.start, c.cp1, c.cp2, c.end),
-    )
+    let c = e.c;
+    say_coefficients(bezier::bezier_coefficients(d.x as usize, c.start, c.cp1, c.cp2, c.end))
 }
 
 // de_casteljau3 T P6
-pub fn casteljau3_case(line: &[u8], at: usize, out: &mut [u8], n: usize) -> usize {
-    let Float::Is(t, one) = take_float(line, at) else {
-        return put_bad(out, n);
-    };
-    let Pair::Is(p1, two) = take_point(line, one) else {
-        return put_bad(out, n);
-    };
-    let Pair::Is(p2, three) = take_point(line, two) else {
-        return put_bad(out, n);
-    };
-    let Pair::Is(p3, end) = take_point(line, three) else {
-        return put_bad(out, n);
-    };
-    if end != line.len() {
-        return put_bad(out, n);
+pub fn casteljau3_case(line: &[u8], at: usize) -> bool {
+    let t = take_float(line, at);
+    let a = take_point(line, t.then);
+    let b = take_point(line, a.then);
+    let c = take_point(line, b.then);
+    if c.then != line.len() {
+        return false;
     }
-    put_point_answer(out, n, bezier::de_casteljau3(t, p1, p2, p3))
+    say_point(bezier::de_casteljau3(t.x, a.p, b.p, c.p))
 }
 
 // de_casteljau2 T P4
-pub fn casteljau2_case(line: &[u8], at: usize, out: &mut [u8], n: usize) -> usize {
-    let Float::Is(t, one) = take_float(line, at) else {
-        return put_bad(out, n);
-    };
-    let Pair::Is(p1, two) = take_point(line, one) else {
-        return put_bad(out, n);
-    };
-    let Pair::Is(p2, end) = take_point(line, two) else {
-        return put_bad(out, n);
-    };
-    if end != line.len() {
-        return put_bad(out, n);
+pub fn casteljau2_case(line: &[u8], at: usize) -> bool {
+    let t = take_float(line, at);
+    let a = take_point(line, t.then);
+    let b = take_point(line, a.then);
+    if b.then != line.len() {
+        return false;
     }
-    put_point_answer(out, n, bezier::de_casteljau2(t, p1, p2))
+    say_point(bezier::de_casteljau2(t.x, a.p, b.p))
 }
 
 // refine C8 PX PY T R
-pub fn refine_case(line: &[u8], at: usize, out: &mut [u8], n: usize) -> usize {
-    let Eight::Is(c, one) = take_curve(line, at) else {
-        return put_bad(out, n);
-    };
-    let Pair::Is(p, two) = take_point(line, one) else {
-        return put_bad(out, n);
-    };
-    let Float::Is(t, three) = take_float(line, two) else {
-        return put_bad(out, n);
-    };
-    let Whole::Is(rounds, end) = take_whole(line, three) else {
-        return put_bad(out, n);
-    };
-    if end != line.len() {
-        return put_bad(out, n);
+pub fn refine_case(line: &[u8], at: usize) -> bool {
+    let e = take_curve(line, at);
+    let p = take_point(line, e.then);
+    let t = take_float(line, p.then);
+    let rounds = take_count(line, t.then, MOST);
+    if rounds.then != line.len() {
+        return false;
     }
-    put_number_answer(
-        out,
-        n,
-        bezier::nearest_point_on_curve_newton_raphson_with_estimate(c, p, t, rounds as usize),
-    )
+    say_refined(bezier::nearest_point_on_curve_newton_raphson_with_estimate(
+        e.c,
+        p.p,
+        t.x,
+        rounds.x as usize,
+    ))
 }
 
 // nearest C8 PX PY
-pub fn nearest_case(line: &[u8], at: usize, out: &mut [u8], n: usize) -> usize {
-    let Eight::Is(c, one) = take_curve(line, at) else {
-        return put_bad(out, n);
-    };
-    let Pair::Is(p, end) = take_point(line, one) else {
-        return put_bad(out, n);
-    };
-    if end != line.len() {
-        return put_bad(out, n);
+pub fn nearest_case(line: &[u8], at: usize) -> bool {
+    let e = take_curve(line, at);
+    let p = take_point(line, e.then);
+    if p.then != line.len() {
+        return false;
     }
-    put_nearest(out, n, nearest::nearest_point_on_curve(c, p))
+    say_nearest(nearest::nearest_point_on_curve(e.c, p.p))
 }

@@ -8,10 +8,10 @@ use Rattle.replay.proofs.lines.take_bytes.Statement.{statement}
 use Rattle.replay.proofs.lines.take_bytes.Tie as tie
 
 abbrev Inv-loop : tie.InvT-loop
-Inv-loop chunk line₀ out₀ reading₀ i₀ line out reading i = (i ≤ length chunk) × (length line ≡ length line₀) × (length out ≡ length out₀)
+Inv-loop chunk line₀ start len₀ i₀ line len i = (i ≤ length chunk) × (length line ≡ length line₀)
 
 abbrev μ-loop : tie.MeasureT-loop
-μ-loop chunk line₀ out₀ reading₀ i₀ line out reading i = length chunk - i
+μ-loop chunk line₀ start len₀ i₀ line len i = length chunk - i
 
 loop-holds : tie.Need-loop-holds Inv-loop μ-loop
 loop-holds c = search needs
@@ -34,9 +34,6 @@ loop-again c = search needs
 same-length : tie.Need-same-length Inv-loop μ-loop
 same-length c = search needs
 
-same-length-2 : tie.Need-same-length-2 Inv-loop μ-loop
-same-length-2 c = search needs
-
 returns : tie.Need-returns Inv-loop μ-loop
 returns c = search needs
 
@@ -53,5 +50,4 @@ take-bytes-spec =
     loop-less
     loop-again
     same-length
-    same-length-2
     returns)
