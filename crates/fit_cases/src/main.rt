@@ -16,6 +16,15 @@ const BEFORE: u64 = 0x401E_0000_0000_0000;
 
 const BEFORE_FIRST: u64 = 7;
 
+// The room for the numbers of the marks, for curves, first marks and parameters.
+const NUMBERS: usize = 8194;
+
+const CURVES: usize = 32768;
+
+const FIRSTS: usize = 4096;
+
+const PARAMS: usize = 4097;
+
 fn print_state(before: u64, zeros: u64, digest: u64) {
     cases::print_next_count(before);
     cases::print_next_count(zeros);
@@ -94,6 +103,30 @@ fn print_curves(n: usize, curves: &[f64], firsts: &[u32]) {
     }
 }
 
+// The point in the two words that begin at `at`.
+fn point_at(head: &[u8; 88], at: usize) -> Point
+    requires { ⌜ at ≤ 72 ⌝ }
+{
+    Point {
+        x: cases::number(head, at),
+        y: cases::number(head, at + 8),
+    }
+}
+
+// The direct fit, by the tangents of the record.
+fn fit_direct(
+    head: &[u8; 88],
+    marks: &[f64],
+    curves: &mut [f64],
+    firsts: &mut [u32],
+    params: &mut [f64],
+) -> Fitted {
+    let start = point_at(head, 56);
+    let end = point_at(head, 72);
+    let tolerance = cases::number(head, 48);
+    fit::fit_curve_cubic(marks, start, end, tolerance, curves, firsts, params)
+}
+
 // The fits by their numbers: 0 as the source cuts, 1 the same of a loop, 2 direct, 3 joined.
 fn fit_by_kind(
     head: &[u8; 88],
@@ -103,21 +136,43 @@ fn fit_by_kind(
     params: &mut [f64],
 ) -> Fitted {
     let tolerance = cases::number(head, 48);
-    let start = Point {
-        x: cases::number(head, 56),
-        y: cases::number(head, 64),
-    };
-    let end = Point {
-        x: cases::number(head, 72),
-        y: cases::number(head, 80),
-    };
-    let kind = cases::word(head, 0);
-    match kind {
+    match cases::word(head, 0) {
         0 => fit::fit_curve(marks, tolerance, curves, firsts, params),
         1 => fit::fit_curve_loop(marks, tolerance, curves, firsts, params),
-        2 => fit::fit_curve_cubic(marks, start, end, tolerance, curves, firsts, params),
+        2 => fit_direct(head, marks, curves, firsts, params),
         _ => fit::fit_joined(marks, tolerance, curves, firsts, params),
     }
+}
+
+// A fit's number: 0 and how many curves, or the refusal.
+fn print_fitted(fitted: Fitted) {
+    match fitted {
+        Fitted::Curves(n) => {
+            cases::print_count(0);
+            cases::print_next_count(n as u64);
+        }
+        Fitted::Refused(q) => cases::print_count(q as u64),
+    }
+}
+
+// The lines of an answer whose slices are as the call left them.
+fn print_answer(
+    lists: u64,
+    fitted: Fitted,
+    marks: usize,
+    curves: &[f64],
+    firsts: &[u32],
+    params: &[f64],
+) {
+    print_fitted(fitted);
+    print_left(curves, firsts, params);
+    if lists != 1 {
+        return;
+    }
+    let Fitted::Curves(n) = fitted else {
+        return;
+    };
+    print_lists(n, curves, firsts, params, marks);
 }
 
 // The lines of one answer.
@@ -129,21 +184,14 @@ fn answer(
     params: &mut [f64],
 ) {
     let fitted = fit_by_kind(head, marks, curves, firsts, params);
-    let lists = cases::word(head, 40);
-    match fitted {
-        Fitted::Curves(n) => {
-            cases::print_count(0);
-            cases::print_next_count(n as u64);
-            print_left(curves, firsts, params);
-            if lists == 1 {
-                print_lists(n, curves, firsts, params, marks.len() / 2);
-            }
-        }
-        Fitted::Refused(q) => {
-            cases::print_count(q as u64);
-            print_left(curves, firsts, params);
-        }
-    }
+    print_answer(
+        cases::word(head, 40),
+        fitted,
+        marks.len() / 2,
+        curves,
+        firsts,
+        params,
+    );
 }
 
 fn print_left(curves: &[f64], firsts: &[u32], params: &[f64]) {
@@ -163,53 +211,72 @@ fn print_lists(n: usize, curves: &[f64], firsts: &[u32], params: &[f64], marks: 
     cases::end_line();
 }
 
-// A record after its head, with the slices cut to the lengths that the head names.
-fn record(
-    head: &[u8; 88],
-    marks: &[f64],
-    curves: &mut [f64],
-    firsts: &mut [u32],
-    params: &mut [f64],
-) -> bool {
-    let m = cases::word(head, 8) as usize;
-    let c = cases::word(head, 16) as usize;
-    let f = cases::word(head, 24) as usize;
-    let p = cases::word(head, 32) as usize;
-    if m > marks.len() {
-        return false;
-    }
-    if c > curves.len() {
-        return false;
-    }
-    if f > firsts.len() {
-        return false;
-    }
-    if p > params.len() {
-        return false;
-    }
+// The first n places, or all where there are fewer.
+fn front_floats(xs: &[f64], n: usize) -> &[f64] {
     let from: usize = 0;
-    answer(
-        head,
-        &marks[from..m],
-        &mut curves[from..c],
-        &mut firsts[from..f],
-        &mut params[from..p],
-    );
-    true
+    if n <= xs.len() {
+        return &xs[from..n];
+    }
+    xs
 }
 
-// One record, if there is one: 4,096 marks have room, and 4,097 can be asked for.
+fn lent_floats(xs: &mut [f64], n: usize) -> &mut [f64] {
+    let from: usize = 0;
+    if n <= xs.len() {
+        return &mut xs[from..n];
+    }
+    xs
+}
+
+fn lent_firsts(xs: &mut [u32], n: usize) -> &mut [u32] {
+    let from: usize = 0;
+    if n <= xs.len() {
+        return &mut xs[from..n];
+    }
+    xs
+}
+
+// The word of a record's head that says a length.
+fn length_at(head: &[u8; 88], at: usize) -> usize {
+    cases::word(head, at) as usize
+}
+
+// Whether there is as much room as a head asks for: 4,096 marks have room, and 4,097 can be asked for.
+fn fits(head: &[u8; 88]) -> bool {
+    (length_at(head, 8) <= NUMBERS)
+        & (length_at(head, 16) <= CURVES)
+        & (length_at(head, 24) <= FIRSTS)
+        & (length_at(head, 32) <= PARAMS)
+}
+
+// A record after its head, with the slices cut to the lengths that the head names.
+fn record(head: &[u8; 88], marks: &[f64]) {
+    let mut curves = [7.5; CURVES];
+    let mut firsts = [7u32; FIRSTS];
+    let mut params = [7.5; PARAMS];
+    answer(
+        head,
+        marks,
+        lent_floats(&mut curves, length_at(head, 16)),
+        lent_firsts(&mut firsts, length_at(head, 24)),
+        lent_floats(&mut params, length_at(head, 32)),
+    );
+}
+
+// One record, if there is one with no more than there is room for.
 fn step() -> bool {
     let mut head = [0u8; 88];
     if io::read_full(STDIN_FILENO, &mut head) < 88 {
         return false;
     }
-    let mut marks = [0.0; 8194];
-    let mut curves = [7.5; 32768];
-    let mut firsts = [7u32; 4096];
-    let mut params = [7.5; 4097];
-    cases::read_floats(&mut marks, cases::word(&head, 8) as usize);
-    record(&head, &marks, &mut curves, &mut firsts, &mut params)
+    if !fits(&head) {
+        return false;
+    }
+    let mut marks = [0.0; NUMBERS];
+    let m = length_at(&head, 8);
+    cases::read_floats(&mut marks, m);
+    record(&head, front_floats(&marks, m));
+    true
 }
 
 fn main() {
