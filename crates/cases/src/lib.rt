@@ -1,4 +1,6 @@
-// What the programs over kept vectors share: numbers out of little-endian bytes, and numbers as lines of hex digits on standard output.
+// What the programs over kept vectors share: numbers out of little-endian bytes, numbers as lines of hex digits on standard output, and parts of slices.
+pub mod parts;
+
 ghost use Prim.Native.Nat.{_<_};
 use libc::STDIN_FILENO;
 use libc::STDOUT_FILENO;

@@ -6,13 +6,17 @@
 // fault A, B, C and D and how many are refused, and a digest of all their answers in turn. Each number in turn has its last bit changed, is
 // NaN, is infinite, is minus zero; each first mark is one up, one down, the last mark, the largest u32, its neighbour's, and swapped with
 // its neighbour; then counts and lengths are varied.
+use cases::parts::floats_at;
+use cases::parts::front_firsts;
+use cases::parts::front_floats;
+use cases::parts::lent_firsts;
 use checker::Checked;
 use checker::Fault;
 use checker::Place;
 use libc::STDIN_FILENO;
 use libc::STDOUT_FILENO;
 
-// The claimed count, the lengths, where the curves and the parameters begin, and the tolerance.
+// The claimed count, the lengths, where the curves and the parameters begin, how many numbers there are in all, and the tolerance.
 struct Sizes {
     marks: usize,
     count: usize,
@@ -21,6 +25,7 @@ struct Sizes {
     params: usize,
     first_curve: usize,
     first_param: usize,
+    numbers: usize,
     tolerance: f64,
 }
 
@@ -128,43 +133,13 @@ fn print_tally(t: Tally) {
 
 // What the checker says of the lists in `all` (marks, curves, parameters) and `firsts`, cut to the given sizes.
 fn judge(all: &[f64], firsts: &[u32], s: Sizes) -> Verdict {
-    let zero: usize = 0;
-    let m = s.marks;
-    let c = s.first_curve;
-    let p = s.first_param;
-    let f = s.firsts;
-    let no = Verdict {
-        kind: 6,
-        curve: 0,
-        mark: 0,
-    };
-    if m > all.len() {
-        return no;
-    }
-    if c > all.len() {
-        return no;
-    }
-    if s.curves > all.len() - c {
-        return no;
-    }
-    if p > all.len() {
-        return no;
-    }
-    if s.params > all.len() - p {
-        return no;
-    }
-    if f > firsts.len() {
-        return no;
-    }
-    let ce = c + s.curves;
-    let pe = p + s.params;
     said(checker::check_list(
-        &all[zero..m],
+        front_floats(all, s.marks),
         s.tolerance,
         s.count,
-        &all[c..ce],
-        &firsts[zero..f],
-        &all[p..pe],
+        floats_at(all, s.first_curve, s.curves),
+        front_firsts(firsts, s.firsts),
+        floats_at(all, s.first_param, s.params),
     ))
 }
 
@@ -351,37 +326,41 @@ fn answer(all: &mut [f64], firsts: &mut [u32], s: Sizes, n: usize, damage: u64) 
     damage_sizes(all, firsts, s);
 }
 
+// What a record's head says.
+fn sizes_of(head: &[u8; 56]) -> Sizes {
+    let marks = (cases::word(head, 0) % 65536) as usize;
+    let curves = (cases::word(head, 16) % 65536) as usize;
+    let params = (cases::word(head, 32) % 65536) as usize;
+    Sizes {
+        marks,
+        count: cases::word(head, 8) as usize,
+        curves,
+        firsts: (cases::word(head, 24) % 65536) as usize,
+        params,
+        first_curve: marks,
+        first_param: marks + curves,
+        numbers: marks + curves + params,
+        tolerance: cases::number(head, 48),
+    }
+}
+
+// A record's lists, read and judged.
+fn record(s: Sizes, damage: u64) {
+    let mut all = [0.0; 45056];
+    let mut firsts = [0u32; 4096];
+    cases::read_floats(&mut all, s.numbers);
+    let lent = lent_firsts(&mut firsts, s.firsts);
+    read_firsts(lent);
+    answer(&mut all, lent, s, s.numbers, damage);
+}
+
 // One record, if there is one.
 fn step() -> bool {
     let mut head = [0u8; 56];
     if io::read_full(STDIN_FILENO, &mut head) < 56 {
         return false;
     }
-    let marks = (cases::word(&head, 0) % 65536) as usize;
-    let curves = (cases::word(&head, 16) % 65536) as usize;
-    let firsts_len = (cases::word(&head, 24) % 65536) as usize;
-    let params = (cases::word(&head, 32) % 65536) as usize;
-    let s = Sizes {
-        marks,
-        count: cases::word(&head, 8) as usize,
-        curves,
-        firsts: firsts_len,
-        params,
-        first_curve: marks,
-        first_param: marks + curves,
-        tolerance: cases::number(&head, 48),
-    };
-    let n = marks + curves + params;
-    let mut all = [0.0; 45056];
-    let mut firsts = [0u32; 4096];
-    cases::read_floats(&mut all, n);
-    if firsts_len > firsts.len() {
-        return false;
-    }
-    let zero: usize = 0;
-    let lent = &mut firsts[zero..firsts_len];
-    read_firsts(lent);
-    answer(&mut all, lent, s, n, cases::word(&head, 40));
+    record(sizes_of(&head), cases::word(&head, 40));
     true
 }
 

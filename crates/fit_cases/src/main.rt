@@ -6,6 +6,9 @@
 // before, how many are plus zero, and a digest of all of them. Lists follow where the record asks for them: a line for each curve, its
 // first mark and eight numbers, and one line with the parameters.
 ghost use Prim.Native.Nat.{_≤_};
+use cases::parts::front_floats;
+use cases::parts::lent_firsts;
+use cases::parts::lent_floats;
 use cut::Fitted;
 use libc::STDIN_FILENO;
 use libc::STDOUT_FILENO;
@@ -209,31 +212,6 @@ fn print_lists(n: usize, curves: &[f64], firsts: &[u32], params: &[f64], marks: 
     let from: usize = 0;
     print_floats(&params[from..marks]);
     cases::end_line();
-}
-
-// The first n places, or all where there are fewer.
-fn front_floats(xs: &[f64], n: usize) -> &[f64] {
-    let from: usize = 0;
-    if n <= xs.len() {
-        return &xs[from..n];
-    }
-    xs
-}
-
-fn lent_floats(xs: &mut [f64], n: usize) -> &mut [f64] {
-    let from: usize = 0;
-    if n <= xs.len() {
-        return &mut xs[from..n];
-    }
-    xs
-}
-
-fn lent_firsts(xs: &mut [u32], n: usize) -> &mut [u32] {
-    let from: usize = 0;
-    if n <= xs.len() {
-        return &mut xs[from..n];
-    }
-    xs
 }
 
 // The word of a record's head that says a length.

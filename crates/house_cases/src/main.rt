@@ -6,6 +6,11 @@
 // prefix, and 3 every change of one byte: how many were answered with 0, 2, 4 and 9.
 ghost use Prim.Native.Nat.{_≤_, _<_};
 ghost use lib.ListN.{length};
+use cases::parts::front_bytes;
+use cases::parts::front_words;
+use cases::parts::lent_bytes;
+use cases::parts::lent_firsts;
+use cases::parts::lent_words;
 use libc::STDIN_FILENO;
 use libc::STDOUT_FILENO;
 use outline::Listed;
@@ -171,47 +176,6 @@ fn same(a: &[u8], b: &[u8]) -> bool {
     true
 }
 
-// The first n places, or all where there are fewer.
-fn front_numbers(xs: &[u64], n: usize) -> &[u64] {
-    let from: usize = 0;
-    if n <= xs.len() {
-        return &xs[from..n];
-    }
-    xs
-}
-
-fn front_text(xs: &[u8], n: usize) -> &[u8] {
-    let from: usize = 0;
-    if n <= xs.len() {
-        return &xs[from..n];
-    }
-    xs
-}
-
-fn lent_bytes(xs: &mut [u8], n: usize) -> &mut [u8] {
-    let from: usize = 0;
-    if n <= xs.len() {
-        return &mut xs[from..n];
-    }
-    xs
-}
-
-fn lent_firsts(xs: &mut [u32], n: usize) -> &mut [u32] {
-    let from: usize = 0;
-    if n <= xs.len() {
-        return &mut xs[from..n];
-    }
-    xs
-}
-
-fn lent_words(xs: &mut [u64], n: usize) -> &mut [u64] {
-    let from: usize = 0;
-    if n <= xs.len() {
-        return &mut xs[from..n];
-    }
-    xs
-}
-
 // A refusal's number, which ends its line.
 fn print_refusal(q: u32) {
     cases::print_count(q as u64);
@@ -223,7 +187,7 @@ fn print_bytes(n: usize, file: &[u8], out: &[u8]) {
     cases::print_count(0);
     print_next(n as u64);
     cases::end_line();
-    if !same(file, front_text(out, n)) {
+    if !same(file, front_bytes(out, n)) {
         io::write_all(STDOUT_FILENO, b"DIFFERS\n");
     }
 }
@@ -279,7 +243,7 @@ fn read_and_write(
                 t,
                 k,
                 file,
-                front_numbers(marks, m),
+                front_words(marks, m),
                 firsts,
                 curves,
                 params,
@@ -294,7 +258,7 @@ fn read_and_write(
 fn list(file: &[u8], out: &mut [u8]) {
     match outline::list_outline(file, out) {
         Listed::Bytes(n) => {
-            io::write_all(STDOUT_FILENO, front_text(out, n));
+            io::write_all(STDOUT_FILENO, front_bytes(out, n));
         }
         Listed::Refused(q) => print_refusal(q),
     }

@@ -13,11 +13,21 @@ fn print_front(out: &[u8], n: usize) {
     io::write_all(STDOUT_FILENO, &out[from..n]);
 }
 
+// Room for a file, in a function of its own: an array that is made where it is used is long in every goal.
+fn file_room() -> [u8; 65537] {
+    [0; 65537]
+}
+
+// Room for the longest text.
+fn text_room() -> [u8; 78233] {
+    [0; 78233]
+}
+
 // One byte more is read than is listed, so that too long a file is seen. What is lent holds the longest text, so the call is not refused; its only
 // refusal is 4, and it would be said like those that the text names.
 fn main() {
-    let mut file = [0u8; 65537];
-    let mut out = [0u8; 78233];
+    let mut file = file_room();
+    let mut out = text_room();
     let got = io::read_full(STDIN_FILENO, &mut file);
     let listed = list_outline(&file[..got], &mut out);
     let Listed::Bytes(n) = listed else {
