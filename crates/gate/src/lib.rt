@@ -106,9 +106,9 @@ pub fn zero_floats(s: &mut [f64])
 pub fn zero_numbers(s: &mut [u32])
     ensures { λ _. ⌜ now (s .exit) ≡ replicate (length (now (s .entry))) 0 ⌝ }
 {
-    let mut i = 0;
-    while i < s.len() {
-        s[i] = 0;
-        i += 1;
+    let mut j = 0;
+    while j < s.len() {
+        s[j] = 0;
+        j += 1;
     }
 }
