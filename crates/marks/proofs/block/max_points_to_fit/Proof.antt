@@ -11,7 +11,7 @@ abbrev μ-loop : tie.MeasureT-loop
 μ-loop n size₀ size = size
 
 returns : tie.Need-returns Inv-loop μ-loop
-returns c = small _ (c .if1 .taken)
+returns c = small _ (omega arith)
 
 loop-holds : tie.Need-loop-holds Inv-loop μ-loop
 loop-holds c = start _ (c .if1 .left)
@@ -20,7 +20,7 @@ rem-if2 : tie.Need-rem-if2 Inv-loop μ-loop
 rem-if2 c = omega arith
 
 returns-2 : tie.Need-returns-2 Inv-loop μ-loop
-returns-2 c = found _ _ (c .before .before .loop .inv) (c .before .loop-test .taken) (c .if2 .taken)
+returns-2 c = found _ _ (c .before .before .loop .inv) (c .before .loop-test .taken) (omega arith)
 
 sub-size : tie.Need-sub-size Inv-loop μ-loop
 sub-size c = omega arith
