@@ -6,7 +6,7 @@ use mathlib.Core.Bool.{Bool, true, false, not, cond}
 use mathlib.Core.List.{List, _++_}
 use lib.ListN.{length, take, drop, replicate, length-take}
 use lib.Dec.{leb, ltb, eqb}
-use lib.Ieee.{Float, eq}
+use lib.Ieee.{Float}
 use borrow.Author.Tests.{eq-eqb, ne-eqb, eqb-true}
 use Rattle.float.specs.Number.{f0}
 use Rattle.float.specs.Answer.{ok}
@@ -16,7 +16,7 @@ use Rattle.marks.specs.Marks.{count}
 use Rattle.marks.specs.Block.{sizeFrom, blockSize}
 use Rattle.gate.specs.Gate.{refuse, gateOf}
 use Rattle.gate.proofs.Tests.{Passed, passed}
-use Rattle.cut.specs.Run.{Run, refused, done}
+use Rattle.cut.specs.Run.{Run, refused}
 use Rattle.cut.specs.Lent.{Left, Room}
 use Rattle.cut.specs.declared.Fitted.{Fitted}
 use Rattle.cut.specs.declared.Fitted.the-variants.{Curves, Refused}

@@ -1,7 +1,7 @@
 -- `tangents::ways_of`: each tangent taken out first. Assumes nothing.
 use borrow.Author.Needs.{needs}
 use native.Mathlib.Omega.{arith}
-use lib.ListN.{length, length-take, length-drop}
+use lib.ListN.{length-take, length-drop}
 use Rattle.tangents.specs.Ways.{turnAnswer}
 use Rattle.tangents.proofs.Blocks.{start-low, end-within, no-start, no-end, both-ways}
 use Rattle.tangents.proofs.ways_of.Statement.{statement}
