@@ -134,6 +134,22 @@ def limits():
             yield line(kind, NAN, ways, marks)
 
 
+def joints():
+    """Outlines whose marks about a joint of two blocks turn hard, fold back, rest, or lie so near that their difference is lost. The blocks are of
+    150, 175 and 200 marks; source and loop, which cut at the same marks and take other tangents there, are asked too."""
+    abouts = (
+        [3.0, 4.0, 5.0, 6.0, 3.0, 4.0], [3.0, 4.0] * 3, [3.0, 4.0, 3.0, 4.0, 5.0, 6.0], [3.0, 4.0, 5.0, 6.0, 5.0, 6.0],
+        [3.0, 0.0, -0.0, 0.0, 3.0, 0.0], [0.0, 0.0, 1e-320, 0.0, 2e-320, 0.0], [1e-170, 0.0, 0.0, 0.0, 0.0, 1e-170],
+        [BIG, BIG, -BIG, -BIG, BIG, -BIG], [-BIG, 0.0, BIG, 0.0, -BIG, LEAST])
+    for n, size in ((200, 150), (400, 175), (251, 200)):
+        marks = wave(n, 800.0)
+        for about in abouts:
+            for at in range(size, n - 1, size):
+                folded = marks[:2 * at - 2] + about + marks[2 * at + 4:]
+                for kind in ('joined', 'source', 'loop'):
+                    yield line(kind, 1.5, folded)
+
+
 # ---- single curves
 
 def curves():
@@ -260,7 +276,7 @@ def main(words):
     if len(words) > 1 or not all(text.isdecimal() for text in words):
         raise Stop('usage: compare/generate.py [SEED], SEED a whole number')
     hand.seed(int(words[0]) if words else 1)
-    for part in (single, near, outlines, limits, lists, nonsense):
+    for part in (single, near, outlines, joints, limits, lists, nonsense):
         for case in part():
             print(case)
     return 0

@@ -5,6 +5,7 @@ They run on what `rt check` has built (target/bin/listing and target/bin/replay)
 stand-in for cargo whose Rust side is the port itself: so neither Rust nor a network is wanted. The last line is `N passed, M failed`.
 """
 import filecmp
+import math
 import os
 import shutil
 import stat
@@ -19,7 +20,7 @@ ROOT = os.path.dirname(os.path.dirname(os.path.realpath(__file__)))
 sys.path.insert(0, os.path.join(ROOT, 'tools'))
 
 from shared import house
-from shared.words import INFINITY, NAN, bits, patterns_of, word_of, words
+from shared.words import INFINITY, NAN, bits, numbers, pattern_of, patterns_of, word_of, words
 
 CARGO = '''#!/bin/sh
 # stands in for cargo: its Rust side answers as $RUST_SIDE says
@@ -414,6 +415,20 @@ class Other(Case):
         self.assertEqual(self.call('tools/make_examples.py')[0], 1)
         self.assertEqual(self.call('tools/make_examples.py', '--write')[0], 0)
         self.assertTrue(filecmp.cmp(os.path.join(ROOT, 'examples/luff.house'), self.in_copy('examples/luff.house'), shallow=False))
+
+    def test_no_kink_where_blocks_meet(self):
+        """The hood's three blocks meet at marks 200 and 400. There the way in and the way out, from control to joint and from joint to control, are one."""
+        done = subprocess.run([os.path.join(copy, 'tools', 'run_program'), 'listing'], input=read('examples/hood.house'), capture_output=True, check=True)
+        curves = [line.split() for line in done.stdout.decode('ascii').split('\n')[1:-1]]
+        met = []
+        for left, right in zip(curves, curves[1:]):
+            if right[1] in ('200', '400'):
+                x1, y1, x2, y2 = numbers([pattern_of(text) for text in left[6:]])
+                x3, y3 = numbers([pattern_of(text) for text in right[4:6]])
+                (a, b), (c, d) = (x2 - x1, y2 - y1), (x3 - x2, y3 - y2)
+                met.append(math.degrees(abs(math.atan2(a * d - b * c, a * c + b * d))))
+        self.assertEqual(len(met), 2)
+        self.assertLess(max(met), 1e-9)
 
     def test_run_program(self):
         self.says(2, 'usage: tools/run_program', 'tools/run_program')

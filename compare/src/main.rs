@@ -75,13 +75,17 @@ fn numbers(w: &[&str]) -> Option<Vec<f64>> { w.iter().map(|w| number(w)).collect
 fn block_size(n: usize) -> usize {
     if n < 200 { 200 } else { (51..=200).rev().find(|size| n % size >= 50).unwrap_or(50) }
 }
-/// The joined fit: block k from mark k·size to mark (k+1)·size, both included, each by the crate's `fit_curve_cubic`.
+/// The tangent at a mark from its two neighbours: `tangent_between`, which the crate keeps to itself.
+fn tangent_between<P: Coordinate>(before: P, at: P, after: P) -> P { (((before - at) + (at - after)) * 0.5).to_unit_vector() }
+/// The joined fit: block k from mark k·size to mark (k+1)·size, both included, each by the crate's `fit_curve_cubic`. At a mark where two blocks meet the left one
+/// ends with the tangent between that mark's neighbours and the right one starts with it times -1; at the outline's two ends it is that of the first and the last two marks.
 fn joined<C: BezierCurveFactory>(p: &[C::Point], tolerance: f64) -> Vec<C> {
     let (size, last) = (block_size(p.len()), p.len() - 1);
-    (0..).map(|k| k * size).take_while(|start| *start < last).flat_map(|start| {
-        let block = &p[start..=(start + size).min(last)];
-        let end = block.len() - 1;
-        fit_curve_cubic(block, &(block[1] - block[0]).to_unit_vector(), &(block[end - 1] - block[end]).to_unit_vector(), tolerance)
+    (0..).map(|k| k * size).take_while(|from| *from < last).flat_map(|from| {
+        let to = (from + size).min(last);
+        let start = if from == 0 { (p[1] - p[0]).to_unit_vector() } else { tangent_between(p[from - 1], p[from], p[from + 1]) * -1.0 };
+        let end = if to == last { (p[last - 1] - p[last]).to_unit_vector() } else { tangent_between(p[to - 1], p[to], p[to + 1]) };
+        fit_curve_cubic(&p[from..=to], &start, &end, tolerance)
     }).collect()
 }
 fn fit<C: BezierCurveFactory>(kind: &str, tolerance: f64, tangents: Option<(C::Point, C::Point)>, p: &[C::Point]) -> Vec<C> {

@@ -15,8 +15,8 @@ NAME = 'replay'
 ROOM = 1 << 20     # bytes of a line that the program has room for
 MOST_MARKS = 4200  # marks of a line
 KEPT_CURVES = 230  # calls on single curves, 30 of them refused by 6
-KEPT_OUTLINES = 132
-KEPT_LISTS = 15    # sound lists, the last four with changed copies
+KEPT_OUTLINES = 134
+KEPT_LISTS = 16    # sound lists, the last five with changed copies
 COLLECTED = {'curves': single.KINDS, 'outlines': FITS, 'lists': ['check']}
 
 

@@ -2,7 +2,7 @@
 
 A record is seven words (how many numbers the marks have, the claimed number of curves, the lengths of the three slices, whether copies are damaged, the
 tolerance), the numbers of marks, curves and parameters, and the first marks. The answers are by the document's rules (shared/checker.py). First come
-both sides of each rule (`borders`), then 242 lists, which are read from the kept input: `hold` asks the Rust for them again, and looks that the
+both sides of each rule (`borders`), then 245 lists, which are read from the kept input: `hold` asks the Rust for them again, and looks that the
 answers are what is known of such lists."""
 import math
 
@@ -13,7 +13,7 @@ from shared.words import bits, digest_of, number, numbers, patterns_of, word, wo
 from vectors import outlines
 
 NAME = 'check_cases'
-KEPT = 242
+KEPT = 245
 HEAD = 7
 LARGEST_FIRST = (1 << 32) - 1
 

@@ -3,7 +3,7 @@
 A record is eleven words (which fit, how many numbers the marks have, the rooms for curves, first marks and parameters, whether lists are
 printed, tolerance, tangents) and the marks. A line says 0 and how many curves, or the refusal, and of each lent slice how many places are as
 before, how many are plus zero, and a digest. The lists are the Rust's, 6 is where one of its operations was not finite, and what else is refused,
-and what the slices hold then, is by the document's table. The first 435 outlines are read from the kept input; both sides of each line of the document
+and what the slices hold then, is by the document's table. The first 454 outlines are read from the kept input; both sides of each line of the document
 come from `borders`."""
 import itertools
 import math
@@ -13,7 +13,7 @@ from shared.table import FITS, fit_refusal
 from shared.words import INFINITY, MINUS, NAN, bits, digest_of, number, numbers, pattern_of, patterns_of, words
 
 NAME = 'fit_cases'
-KEPT = 435
+KEPT = 454
 HEAD = 11
 SHORT = 64  # marks of which lists are printed
 BEFORE, BEFORE_FIRST = bits(7.5), 7  # what the lent slices hold

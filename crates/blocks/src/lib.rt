@@ -1,5 +1,5 @@
 // Long outlines are cut into blocks, and each block is a fit of its own: as the Rust cuts them, for an outline and for a loop, or joined, where each
-// block starts on the mark at which the last one ended.
+// block starts on the mark at which the last one ended, with the tangent of that mark.
 ghost use mathlib.Core.Path.{_≡_};
 ghost use Prim.Native.Nat.{_+_, _*_, _≤_};
 ghost use lib.ListN.{length};

@@ -167,7 +167,7 @@ pub fn fit_curve_loop(
     fit_cut(Cutting::Loop, marks, tolerance, curves, firsts, params)
 }
 
-// The joined fit: each block starts on the mark at which the last one ended, so that the curves leave no gap.
+// The joined fit: each block starts on the mark at which the last one ended, so that the curves leave no gap, and along the tangent there, so that they leave no kink.
 pub fn fit_joined(
     marks: &[f64],
     tolerance: f64,

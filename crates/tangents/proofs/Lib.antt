@@ -1,2 +1,3 @@
 mod Cuts
 pub mod Blocks
+pub mod NoKink

@@ -1,14 +1,15 @@
 -- The tangents at a cut and at the ends of a block. Definitions only.
-use Prim.Native.Nat.{ℕ, _+_, _-_, _*_}
-use mathlib.Core.Bool.{cond}
+use Prim.Native.Nat.{ℕ, _+_, _-_, _*_, _<_}
+use mathlib.Core.Bool.{Bool, false, cond}
 use mathlib.Core.List.{List}
-use lib.ListN.{take, drop}
+use lib.ListN.{length, take, drop}
 use lib.Dec.{leb, ltb}
 use lib.Ieee.{Float, neg}
 use Rattle.float.specs.Number.{f1}
 use Rattle.float.specs.Calc.{Calc, give, _>>=_}
 use Rattle.float.specs.Answer.{Answer, ok, refused}
 use Rattle.plane.specs.Plane.{times}
+use Rattle.plane.specs.declared.Point.{Point}
 use Rattle.marks.specs.Marks.{markAt}
 use Rattle.marks.specs.Tangent.{startTangent, endTangent, tangentBetween}
 use Rattle.tangents.specs.declared.Ways.{Ways}
@@ -16,6 +17,10 @@ use Rattle.tangents.specs.declared.Turn.{Turn}
 use Rattle.tangents.specs.declared.Turn.the-variants as turn
 use Rattle.tangents.specs.declared.Cutting.{Cutting}
 use Rattle.tangents.specs.declared.Cutting.the-variants.{Source, Loop, Joined}
+
+-- a mark with one before it and one after it
+abbrev pub Inner : List Float → ℕ → Type 0
+Inner ms k = (0 < k) × (2 * k + 3 < length ms)
 
 -- the shared tangent at a cut at mark k: tangent_between's at the left's end, and that times -1 at the right's start
 unfoldable pub waysAt : List Float → ℕ → Calc Ways
@@ -30,8 +35,8 @@ over Source = 0
 over Loop = 0
 over Joined = 1
 
--- The tangents at the ends of the block of marks `from` up to `to` (not in it) of n. At the start: its first two marks, and for a loop the
--- two before it, or the outline's last two.
+-- The tangents at the ends of the block of marks `from` up to `to` (not in it) of n, where it meets no other. At the start: its first two marks,
+-- and for a loop the two before it, or the outline's last two.
 unfoldable pub startAt : Cutting → ℕ → ℕ → ℕ
 startAt Source n from = from
 startAt Loop n from = cond (leb from 1) (n - 2) (from - 2)
@@ -44,11 +49,38 @@ endAt Source n to = cond (ltb (to + 1) n) (to + 1) to
 endAt Loop n to = cond (ltb (to + 1) n) (to + 2) 2
 endAt Joined n to = to
 
+-- Joined blocks meet at a mark: a block meets the one before it if it starts after mark 0, and the one after it if marks are left, `to` below n.
+unfoldable pub meets : Cutting → ℕ → ℕ → Bool
+meets Source a b = false
+meets Loop a b = false
+meets Joined a b = ltb a b
+
+-- Where two blocks meet the tangents are those of a cut at that mark: the left one ends with the first, the right one starts with the second.
+unfoldable pub jointEnd : List Float → ℕ → Calc Point
+unfolding waysAt
+jointEnd ms j = do
+  w ← waysAt ms j
+  give (w .end)
+
+unfoldable pub jointStart : List Float → ℕ → Calc Point
+unfolding waysAt
+jointStart ms j = do
+  w ← waysAt ms j
+  give (w .start)
+
+unfoldable pub startOf : Cutting → List Float → ℕ → ℕ → Calc Point
+unfolding meets jointStart startAt
+startOf k ms n from = cond (meets k 0 from) (jointStart ms from) (startTangent (drop (2 * startAt k n from) ms))
+
+unfoldable pub endOf : Cutting → List Float → ℕ → ℕ → Calc Point
+unfolding meets jointEnd endAt
+endOf k ms n to = cond (meets k to n) (jointEnd ms (to - 1)) (endTangent (take (2 * endAt k n to) ms))
+
 unfoldable pub waysOf : Cutting → List Float → ℕ → ℕ → ℕ → Calc Ways
-unfolding startAt endAt
+unfolding startOf endOf
 waysOf k ms n from to = do
-  s ← startTangent (drop (2 * startAt k n from) ms)
-  e ← endTangent (take (2 * endAt k n to) ms)
+  s ← startOf k ms n from
+  e ← endOf k ms n to
   give (record { end = e; start = s })
 
 -- the code's answer

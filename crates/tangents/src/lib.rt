@@ -1,9 +1,11 @@
-// How an outline is cut into blocks, and the tangents with which a part starts and ends: at a cut inside a part, and at the two ends of a block.
+// How an outline is cut into blocks, and the tangents with which a part starts and ends: at a cut inside a part, at the two ends of a block, and where two blocks
+// meet.
 ghost use mathlib.Core.Path.{_≡_};
-ghost use Prim.Native.Nat.{_+_, _*_, _≤_, _<_};
+ghost use Prim.Native.Nat.{_+_, _*_, _≤_};
 ghost use lib.ListN.{length};
 ghost use Rattle.float.specs.Answer.{outcome};
-ghost use Rattle.tangents.specs.Ways.{turnAnswer, waysAt, over, startAt, endAt, waysOf};
+ghost use Rattle.marks.specs.Answers.{wayAnswer};
+ghost use Rattle.tangents.specs.Ways.{turnAnswer, Inner, waysAt, over, startAt, endAt, meets, jointEnd, jointStart, startOf, endOf, waysOf};
 use marks::Way;
 use plane::Point;
 
@@ -21,7 +23,7 @@ pub enum Turn {
 
 // The tangents at a cut at mark `at`, from its two neighbours.
 pub fn ways_at(marks: &[f64], at: usize) -> Turn
-    requires { ⌜ (0 < at) × (2 * at + 3 < length (now marks)) ⌝ }
+    requires { ⌜ Inner (now marks) at ⌝ }
     ensures { λ r. ⌜ turnAnswer r ≡ outcome (waysAt (now (marks .entry)) at) ⌝ }
 {
     let Way::Toward(end) = marks::tangent_between(
@@ -56,7 +58,7 @@ pub fn shared(cutting: Cutting) -> usize
     }
 }
 
-// The first of the two marks that the start tangent of a block from mark `from` is taken from.
+// The first of the two marks that the start tangent of a block from mark `from` is taken from, where it meets none before it.
 fn start_at(cutting: Cutting, n: usize, from: usize) -> usize
     requires { ⌜ 2 ≤ n ⌝ }
     ensures { λ r. ⌜ r ≡ startAt cutting n from ⌝ }
@@ -73,7 +75,7 @@ fn start_at(cutting: Cutting, n: usize, from: usize) -> usize
     }
 }
 
-// One past the second of the two marks that the end tangent of a block up to mark `to`, which is not in it, is taken from.
+// One past the second of the two marks that the end tangent of a block up to mark `to`, which is not in it, is taken from, where it meets none after it.
 fn end_at(cutting: Cutting, n: usize, to: usize) -> usize
     requires { ⌜ to ≤ n ⌝ }
     requires { ⌜ n ≤ 65536 ⌝ }
@@ -97,18 +99,77 @@ fn end_at(cutting: Cutting, n: usize, to: usize) -> usize
     }
 }
 
+// Whether a block meets another: the one before it, if mark 0 lies before its first; the one after it, if its marks end before those of the outline.
+fn meets(cutting: Cutting, a: usize, b: usize) -> bool
+    ensures { λ r. ⌜ r ≡ meets cutting a b ⌝ }
+{
+    match cutting {
+        Cutting::Source => false,
+        Cutting::Loop => false,
+        Cutting::Joined => a < b,
+    }
+}
+
+// The tangent at the end of a block whose last mark, `at`, is the first of the next block.
+fn joint_end(marks: &[f64], at: usize) -> Way
+    requires { ⌜ Inner (now marks) at ⌝ }
+    ensures { λ r. ⌜ wayAnswer r ≡ outcome (jointEnd (now (marks .entry)) at) ⌝ }
+{
+    let Turn::At(ways) = ways_at(marks, at) else {
+        return Way::Lost;
+    };
+    let end = ways.end;
+    Way::Toward(end)
+}
+
+// The tangent at the start of a block whose first mark, `at`, is the last of the block before.
+fn joint_start(marks: &[f64], at: usize) -> Way
+    requires { ⌜ Inner (now marks) at ⌝ }
+    ensures { λ r. ⌜ wayAnswer r ≡ outcome (jointStart (now (marks .entry)) at) ⌝ }
+{
+    let Turn::At(ways) = ways_at(marks, at) else {
+        return Way::Lost;
+    };
+    let start = ways.start;
+    Way::Toward(start)
+}
+
+// The tangent at the start of a block from mark `from`.
+fn start_of(cutting: Cutting, marks: &[f64], n: usize, from: usize) -> Way
+    requires { ⌜ length (now marks) ≡ 2 * n ⌝ }
+    requires { ⌜ (from + 2 ≤ n) × (n ≤ 65536) ⌝ }
+    ensures { λ r. ⌜ wayAnswer r ≡ outcome (startOf cutting (now (marks .entry)) n from) ⌝ }
+{
+    if meets(cutting, 0, from) {
+        return joint_start(marks, from);
+    }
+    let head = 2 * start_at(cutting, n, from);
+    marks::start_tangent(&marks[head..])
+}
+
+// The tangent at the end of a block up to mark `to`, which is not in it.
+fn end_of(cutting: Cutting, marks: &[f64], n: usize, to: usize) -> Way
+    requires { ⌜ length (now marks) ≡ 2 * n ⌝ }
+    requires { ⌜ (2 ≤ to) × (to ≤ n) × (n ≤ 65536) ⌝ }
+    ensures { λ r. ⌜ wayAnswer r ≡ outcome (endOf cutting (now (marks .entry)) n to) ⌝ }
+{
+    if meets(cutting, to, n) {
+        return joint_end(marks, to - 1);
+    }
+    let tail = 2 * end_at(cutting, n, to);
+    marks::end_tangent(&marks[..tail])
+}
+
 // The tangents at the ends of a block.
 pub fn ways_of(cutting: Cutting, marks: &[f64], n: usize, from: usize, to: usize) -> Turn
     requires { ⌜ length (now marks) ≡ 2 * n ⌝ }
     requires { ⌜ (from + 2 ≤ to) × (to ≤ n) × (n ≤ 65536) ⌝ }
     ensures { λ r. ⌜ turnAnswer r ≡ outcome (waysOf cutting (now (marks .entry)) n from to) ⌝ }
 {
-    let head = 2 * start_at(cutting, n, from);
-    let tail = 2 * end_at(cutting, n, to);
-    let Way::Toward(start) = marks::start_tangent(&marks[head..]) else {
+    let Way::Toward(start) = start_of(cutting, marks, n, from) else {
         return Turn::Lost;
     };
-    let Way::Toward(end) = marks::end_tangent(&marks[..tail]) else {
+    let Way::Toward(end) = end_of(cutting, marks, n, to) else {
         return Turn::Lost;
     };
     Turn::At(Ways { end, start })
