@@ -1,57 +1,58 @@
--- The tangents at a cut, by what the code's calls answer. Assumes nothing.
-use Prim.Native.Nat.{ℕ, _+_, _-_}
+-- A tangent turned about, and tangents worked out in turn, by what the code's calls answer. Assumes nothing.
 use mathlib.Core.Path.{_≡_, refl, sym, ap, _∙_}
 use mathlib.Core.Bool.{true, false}
-use mathlib.Core.List.{List}
-use lib.Ieee.{Float, ofBits, neg}
+use lib.Ieee.{ofBits, neg}
 use Rattle.float.specs.Number.{finite, f1}
 use Rattle.float.specs.Calc.{Calc, give, _>>=_}
 use Rattle.float.specs.Answer.{ok, refused, outcome}
 use Rattle.float.specs.Answer.{_>>=_ as chain}
-use Rattle.float.proofs.Truth.{and-true}
 use Rattle.float.proofs.Strict.{Fin}
 use Rattle.float.proofs.Answers.{outcome-ok, outcome-no, outcome-then}
 use Rattle.plane.specs.Plane.{times}
 use Rattle.plane.specs.Range.{pointFinite}
 use Rattle.plane.specs.declared.Point.{Point}
 use Rattle.plane.proofs.Fine.{times-same}
-use Rattle.marks.specs.Marks.{markAt}
-use Rattle.marks.specs.Tangent.{tangentBetween}
 use Rattle.marks.specs.Answers.{wayAnswer}
 use Rattle.marks.specs.declared.tangent.Way.{Way}
 use Rattle.marks.specs.declared.tangent.Way.the-variants as way
-use Rattle.tangents.specs.Ways.{waysAt}
 use Rattle.tangents.specs.declared.Ways.{Ways}
+use Rattle.tangents.specs.Ways.{opposite}
 
 minus-one : Fin (neg f1)
 unfolding finite neg ofBits
 minus-one = refl
 
-module _ (ms : List Float) (k : ℕ) where
-  abbrev between : Calc Point
-  between = tangentBetween (markAt ms (k - 1)) (markAt ms k) (markAt ms (k + 1))
+module _ (t u : Point) (is : u ≡ times t (neg f1) .val) where
+  whole : opposite t .fine ≡ pointFinite u
+  whole = times-same t (neg f1) minus-one ∙ ap pointFinite (sym is)
 
-  abbrev turning : Point → Calc Ways
-  turning t = _>>=_ (times t (neg f1)) (λ u. give (record { end = t; start = u }))
+  pub about : pointFinite u ≡ true → ok u ≡ outcome (opposite t)
+  about g = ap ok is ∙ sym (outcome-ok (opposite t) (whole ∙ g))
 
-  ways-then : outcome (waysAt ms k) ≡ chain (outcome between) (λ t. outcome (turning t))
-  unfolding waysAt
-  ways-then = outcome-then between turning
+  pub too-far : pointFinite u ≡ false → refused 6 ≡ outcome (opposite t)
+  too-far g = sym (outcome-no (opposite t) (whole ∙ g))
 
-  pub no-way : (r : Way) → wayAnswer r ≡ outcome between → r ≡ way.Lost → refused 6 ≡ outcome (waysAt ms k)
+-- a run that goes on with a tangent: refused where there is none, else what goes on with it
+module _ {B : Type 0} (m : Calc Point) (f : Point → Calc B) (r : Way) (h : wayAnswer r ≡ outcome m) where
+  pub lost : r ≡ way.Lost → refused 6 ≡ outcome (_>>=_ m f)
   unfolding wayAnswer
-  no-way r h e = sym (ways-then ∙ ap (λ a. chain a (λ t. outcome (turning t))) (sym h ∙ ap wayAnswer e))
+  lost e = sym (outcome-then m f ∙ ap (λ x. chain x (λ a. outcome (f a))) (sym h ∙ ap wayAnswer e))
 
-  module _ (r : Way) (t : Point) (h : wayAnswer r ≡ outcome between) (e : r ≡ way.Toward t) (u : Point) (is : u ≡ times t (neg f1) .val) where
-    known : outcome (waysAt ms k) ≡ outcome (turning t)
-    unfolding wayAnswer
-    known = ways-then ∙ ap (λ a. chain a (λ t. outcome (turning t))) (sym h ∙ ap wayAnswer e)
+  pub goes-on : (t : Point) → r ≡ way.Toward t → outcome (f t) ≡ outcome (_>>=_ m f)
+  unfolding wayAnswer
+  goes-on t e = sym (outcome-then m f ∙ ap (λ x. chain x (λ a. outcome (f a))) (sym h ∙ ap wayAnswer e))
 
-    whole : turning t .fine ≡ pointFinite u
-    whole = and-true (times t (neg f1) .fine) ∙ times-same t (neg f1) minus-one ∙ ap pointFinite (sym is)
+-- two tangents in turn, the second by the first or not, and what is made of both
+module _ (m : Calc Point) (f : Point → Calc Point) (g : Point → Point → Ways) (r : Way) (h : wayAnswer r ≡ outcome m) where
+  abbrev second : Point → Calc Ways
+  second t = _>>=_ (f t) (λ u. give (g t u))
 
-    pub two-ways : pointFinite u ≡ true → ok (record { end = t; start = u }) ≡ outcome (waysAt ms k)
-    two-ways g = ap (λ (x : Point). ok (record { end = t; start = x })) is ∙ sym (known ∙ outcome-ok (turning t) (whole ∙ g))
+  pub no-first : r ≡ way.Lost → refused 6 ≡ outcome (_>>=_ m second)
+  no-first e = lost m second r h e
 
-    pub far-ways : pointFinite u ≡ false → refused 6 ≡ outcome (waysAt ms k)
-    far-ways g = sym (known ∙ outcome-no (turning t) (whole ∙ g))
+  module _ (t : Point) (e : r ≡ way.Toward t) (q : Way) (k : wayAnswer q ≡ outcome (f t)) where
+    pub no-second : q ≡ way.Lost → refused 6 ≡ outcome (_>>=_ m second)
+    no-second i = lost (f t) (λ u. give (g t u)) q k i ∙ goes-on m second r h t e
+
+    pub both : (u : Point) → q ≡ way.Toward u → ok (g t u) ≡ outcome (_>>=_ m second)
+    both u i = sym (outcome-ok (give (g t u)) refl) ∙ goes-on (f t) (λ u. give (g t u)) q k u i ∙ goes-on m second r h t e

@@ -1,6 +1,6 @@
 -- The tangents at a cut and at the ends of a block. Definitions only.
 use Prim.Native.Nat.{ℕ, _+_, _-_, _*_, _<_}
-use mathlib.Core.Bool.{Bool, false, cond}
+use mathlib.Core.Bool.{Bool, _&&_, cond}
 use mathlib.Core.List.{List}
 use lib.ListN.{length, take, drop}
 use lib.Dec.{leb, ltb}
@@ -22,11 +22,26 @@ use Rattle.tangents.specs.declared.Cutting.the-variants.{Source, Loop, J
 abbrev pub Inner : List Float → ℕ → Type 0
 Inner ms k = (0 < k) × (2 * k + 3 < length ms)
 
+-- the tangent at mark k: tangent_between of the mark before it, itself and the mark after it
+unfoldable pub tangentAt : List Float → ℕ → Calc Point
+tangentAt ms k = tangentBetween (markAt ms (k - 1)) (markAt ms k) (markAt ms (k + 1))
+
+-- a tangent times -1, and that of mark k
+abbrev pub opposite : Point → Calc Point
+opposite t = times t (neg f1)
+
+unfoldable pub oppositeAt : List Float → ℕ → Calc Point
+unfolding tangentAt
+oppositeAt ms k = do
+  t ← tangentAt ms k
+  opposite t
+
 -- the shared tangent at a cut at mark k: tangent_between's at the left's end, and that times -1 at the right's start
 unfoldable pub waysAt : List Float → ℕ → Calc Ways
+unfolding tangentAt
 waysAt ms k = do
-  t ← tangentBetween (markAt ms (k - 1)) (markAt ms k) (markAt ms (k + 1))
-  u ← times t (neg f1)
+  t ← tangentAt ms k
+  u ← opposite t
   give (record { end = t; start = u })
 
 -- how many marks of the next block a block takes in: joined blocks share the mark where they meet, the source's do not meet
@@ -49,32 +64,19 @@ endAt Source n to = cond (ltb (to + 1) n) (to + 1) to
 endAt Loop n to = cond (ltb (to + 1) n) (to + 2) 2
 endAt Joined n to = to
 
--- Joined blocks meet at a mark: a block meets the one before it if it starts after mark 0, and the one after it if marks are left, `to` below n.
+-- Blocks that share a mark meet there: a block meets the one before it if it starts after mark 0, and the one after it if marks are left, `to` below n.
 unfoldable pub meets : Cutting → ℕ → ℕ → Bool
-meets Source a b = false
-meets Loop a b = false
-meets Joined a b = ltb a b
+unfolding over
+meets k a b = ltb 0 (over k) && ltb a b
 
--- Where two blocks meet the tangents are those of a cut at that mark: the left one ends with the first, the right one starts with the second.
-unfoldable pub jointEnd : List Float → ℕ → Calc Point
-unfolding waysAt
-jointEnd ms j = do
-  w ← waysAt ms j
-  give (w .end)
-
-unfoldable pub jointStart : List Float → ℕ → Calc Point
-unfolding waysAt
-jointStart ms j = do
-  w ← waysAt ms j
-  give (w .start)
-
+-- Where two blocks meet they share that mark's tangent: the left one ends with it, and the right one starts with it times -1.
 unfoldable pub startOf : Cutting → List Float → ℕ → ℕ → Calc Point
-unfolding meets jointStart startAt
-startOf k ms n from = cond (meets k 0 from) (jointStart ms from) (startTangent (drop (2 * startAt k n from) ms))
+unfolding meets oppositeAt startAt
+startOf k ms n from = cond (meets k 0 from) (oppositeAt ms from) (startTangent (drop (2 * startAt k n from) ms))
 
 unfoldable pub endOf : Cutting → List Float → ℕ → ℕ → Calc Point
-unfolding meets jointEnd endAt
-endOf k ms n to = cond (meets k to n) (jointEnd ms (to - 1)) (endTangent (take (2 * endAt k n to) ms))
+unfolding meets tangentAt endAt
+endOf k ms n to = cond (meets k to n) (tangentAt ms (to - 1)) (endTangent (take (2 * endAt k n to) ms))
 
 unfoldable pub waysOf : Cutting → List Float → ℕ → ℕ → ℕ → Calc Ways
 unfolding startOf endOf

@@ -5,7 +5,7 @@ ghost use Prim.Native.Nat.{_+_, _*_, _≤_};
 ghost use lib.ListN.{length};
 ghost use Rattle.float.specs.Answer.{outcome};
 ghost use Rattle.marks.specs.Answers.{wayAnswer};
-ghost use Rattle.tangents.specs.Ways.{turnAnswer, Inner, waysAt, over, startAt, endAt, meets, jointEnd, jointStart, startOf, endOf, waysOf};
+ghost use Rattle.tangents.specs.Ways.{turnAnswer, Inner, tangentAt, opposite, oppositeAt, waysAt, over, startAt, endAt, meets, startOf, endOf, waysOf};
 use marks::Way;
 use plane::Point;
 
@@ -21,23 +21,52 @@ pub enum Turn {
     Lost,
 }
 
-// The tangents at a cut at mark `at`, from its two neighbours.
+// The tangent at mark `at`, from its two neighbours.
+fn tangent_at(marks: &[f64], at: usize) -> Way
+    requires { ⌜ Inner (now marks) at ⌝ }
+    ensures { λ r. ⌜ wayAnswer r ≡ outcome (tangentAt (now (marks .entry)) at) ⌝ }
+{
+    marks::tangent_between(
+        marks::mark_at(marks, at - 1),
+        marks::mark_at(marks, at),
+        marks::mark_at(marks, at + 1),
+    )
+}
+
+// A tangent turned about, for what starts where another ended with it.
+fn opposite(tangent: Point) -> Way
+    ensures { λ r. ⌜ wayAnswer r ≡ outcome (opposite tangent) ⌝ }
+{
+    let turned = plane::scale(tangent, -1.0);
+    if plane::point_finite(turned) {
+        return Way::Toward(turned);
+    }
+    Way::Lost
+}
+
+// The tangent at mark `at`, turned about.
+fn opposite_at(marks: &[f64], at: usize) -> Way
+    requires { ⌜ Inner (now marks) at ⌝ }
+    ensures { λ r. ⌜ wayAnswer r ≡ outcome (oppositeAt (now (marks .entry)) at) ⌝ }
+{
+    let Way::Toward(end) = tangent_at(marks, at) else {
+        return Way::Lost;
+    };
+    opposite(end)
+}
+
+// The tangents at a cut at mark `at`.
 pub fn ways_at(marks: &[f64], at: usize) -> Turn
     requires { ⌜ Inner (now marks) at ⌝ }
     ensures { λ r. ⌜ turnAnswer r ≡ outcome (waysAt (now (marks .entry)) at) ⌝ }
 {
-    let Way::Toward(end) = marks::tangent_between(
-        marks::mark_at(marks, at - 1),
-        marks::mark_at(marks, at),
-        marks::mark_at(marks, at + 1),
-    ) else {
+    let Way::Toward(end) = tangent_at(marks, at) else {
         return Turn::Lost;
     };
-    let start = plane::scale(end, -1.0);
-    if plane::point_finite(start) {
-        return Turn::At(Ways { end, start });
-    }
-    Turn::Lost
+    let Way::Toward(start) = opposite(end) else {
+        return Turn::Lost;
+    };
+    Turn::At(Ways { end, start })
 }
 
 // How an outline is cut into blocks.
@@ -103,35 +132,7 @@ fn end_at(cutting: Cutting, n: usize, to: usize) -> usize
 fn meets(cutting: Cutting, a: usize, b: usize) -> bool
     ensures { λ r. ⌜ r ≡ meets cutting a b ⌝ }
 {
-    match cutting {
-        Cutting::Source => false,
-        Cutting::Loop => false,
-        Cutting::Joined => a < b,
-    }
-}
-
-// The tangent at the end of a block whose last mark, `at`, is the first of the next block.
-fn joint_end(marks: &[f64], at: usize) -> Way
-    requires { ⌜ Inner (now marks) at ⌝ }
-    ensures { λ r. ⌜ wayAnswer r ≡ outcome (jointEnd (now (marks .entry)) at) ⌝ }
-{
-    let Turn::At(ways) = ways_at(marks, at) else {
-        return Way::Lost;
-    };
-    let end = ways.end;
-    Way::Toward(end)
-}
-
-// The tangent at the start of a block whose first mark, `at`, is the last of the block before.
-fn joint_start(marks: &[f64], at: usize) -> Way
-    requires { ⌜ Inner (now marks) at ⌝ }
-    ensures { λ r. ⌜ wayAnswer r ≡ outcome (jointStart (now (marks .entry)) at) ⌝ }
-{
-    let Turn::At(ways) = ways_at(marks, at) else {
-        return Way::Lost;
-    };
-    let start = ways.start;
-    Way::Toward(start)
+    0 < shared(cutting) && a < b
 }
 
 // The tangent at the start of a block from mark `from`.
@@ -141,7 +142,7 @@ fn start_of(cutting: Cutting, marks: &[f64], n: usize, from: usize) -> Way
     ensures { λ r. ⌜ wayAnswer r ≡ outcome (startOf cutting (now (marks .entry)) n from) ⌝ }
 {
     if meets(cutting, 0, from) {
-        return joint_start(marks, from);
+        return opposite_at(marks, from);
     }
     let head = 2 * start_at(cutting, n, from);
     marks::start_tangent(&marks[head..])
@@ -154,7 +155,7 @@ fn end_of(cutting: Cutting, marks: &[f64], n: usize, to: usize) -> Way
     ensures { λ r. ⌜ wayAnswer r ≡ outcome (endOf cutting (now (marks .entry)) n to) ⌝ }
 {
     if meets(cutting, to, n) {
-        return joint_end(marks, to - 1);
+        return tangent_at(marks, to - 1);
     }
     let tail = 2 * end_at(cutting, n, to);
     marks::end_tangent(&marks[..tail])

@@ -11,11 +11,11 @@ use Rattle.tangents.proofs.end_of.Tie as tie
 meets-requires : tie.Need-meets-requires
 meets-requires c κs = search needs
 
-sub-joint-end : tie.Need-sub-joint-end
-sub-joint-end c = search needs
+sub-tangent-at : tie.Need-sub-tangent-at
+sub-tangent-at c = search needs
 
-joint-end-requires : tie.Need-joint-end-requires
-joint-end-requires c κs =
+tangent-at-requires : tie.Need-tangent-at-requires
+tangent-at-requires c κs =
     let a = c .before .before .before .args in
     let p = c .before .before .before .pre in
     let m = met _ _ _ (sym (c .before .meets .ensures) ∙ c .if1 .taken) in
@@ -24,7 +24,7 @@ joint-end-requires c κs =
 returns : tie.Need-returns
 returns c =
     let a = c .before .before .before .before .args in
-    c .joint-end .ensures ∙ ap outcome (sym (end-met (a .cutting) (a .marks .now) (a .n) (a .to) (sym (c .before .before .meets .ensures) ∙ c .before .if1 .taken)))
+    c .tangent-at .ensures ∙ ap outcome (sym (end-met (a .cutting) (a .marks .now) (a .n) (a .to) (sym (c .before .before .meets .ensures) ∙ c .before .if1 .taken)))
 
 end-at-requires : tie.Need-end-at-requires
 end-at-requires c κs = (c .before .before .before .pre .1 .1, c .before .before .before .pre .1 .2)
@@ -49,8 +49,8 @@ end-of-spec =
     tie.close
     (tie.spec
     meets-requires
-    sub-joint-end
-    joint-end-requires
+    sub-tangent-at
+    tangent-at-requires
     returns
     end-at-requires
     mul-tail

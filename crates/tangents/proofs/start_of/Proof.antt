@@ -13,8 +13,8 @@ use Rattle.tangents.proofs.start_of.Tie as tie
 meets-requires : tie.Need-meets-requires
 meets-requires c κs = search needs
 
-joint-start-requires : tie.Need-joint-start-requires
-joint-start-requires c κs =
+opposite-at-requires : tie.Need-opposite-at-requires
+opposite-at-requires c κs =
     let a = c .before .before .before .args in
     let p = c .before .before .before .pre in
     let m = met _ _ _ (sym (c .before .meets .ensures) ∙ c .if1 .taken) in
@@ -23,7 +23,7 @@ joint-start-requires c κs =
 returns : tie.Need-returns
 returns c =
     let a = c .before .before .before .before .args in
-    c .joint-start .ensures ∙ ap outcome (sym (start-met (a .cutting) (a .marks .now) (a .n) (a .from) (sym (c .before .before .meets .ensures) ∙ c .before .if1 .taken)))
+    c .opposite-at .ensures ∙ ap outcome (sym (start-met (a .cutting) (a .marks .now) (a .n) (a .from) (sym (c .before .before .meets .ensures) ∙ c .before .if1 .taken)))
 
 start-at-requires : tie.Need-start-at-requires
 start-at-requires c κs = omega (arith, c .before .before .before .pre)
@@ -58,7 +58,7 @@ start-of-spec =
     tie.close
     (tie.spec
     meets-requires
-    joint-start-requires
+    opposite-at-requires
     returns
     start-at-requires
     mul-head
