@@ -3,10 +3,11 @@
 
     ./plot examples/cover.house > cover.svg
     ./plot examples/cover.house --listing kept.txt > cover.svg      draws a listing that was kept, and runs nothing
+    ./plot --ring examples/tender.house > tender.svg                a closed outline, which comes back to its first mark
 
-The curves are those that the program `listing` prints (build it with `rt check listing`); plot itself fits nothing. A listing that was kept is
-held against the marks first. A refused outline draws nothing: its number and meaning go to standard error, and the exit status is 1. Any other
-trouble is status 2.
+The curves are those that the program `listing` prints (build it with `rt check listing`), and those of a closed outline are what `replay` answers to its
+`ring` line (`rt check replay`); plot itself fits nothing. A listing that was kept is held against the marks first; of a closed outline none is
+kept. A refused outline draws nothing: its number and meaning go to standard error, and the exit status is 1. Any other trouble is status 2.
 """
 import math
 import os
@@ -19,13 +20,13 @@ ROOT = os.path.dirname(os.path.realpath(__file__))
 sys.path.insert(0, os.path.join(ROOT, 'tools'))
 
 from shared import house
-from shared.checker import first_marks_fault
+from shared.checker import closed, first_marks_fault
 from shared.command import Stop, read_lines, run
-from shared.table import LARGEST
-from shared.words import number, numbers, pattern_of
+from shared.table import LARGEST, MOST_MARKS
+from shared.words import number, numbers, pattern_of, words as spelt
 
 COLOURS = ('#1f5fa8', '#d9730d')  # curves, in turn
-INK, RED = '#222222', '#c2185b'
+INK, RED, GREEN = '#222222', '#c2185b', '#2e7d32'
 WIDE = 0.56                       # a letter's width in its height, at most, for the fonts below
 
 MEANING = {
@@ -39,6 +40,8 @@ MEANING = {
     8: 'the nearest search went too deep',
     9: 'the house file is badly formed',
 }
+RING_MEANING = {**MEANING, 1: 'fewer than 3 marks', 2: f'too many marks (a closed outline takes {MOST_MARKS:,})'}
+PIECE = '([0-9]{1,4})((?: [0-9A-F]{16}){8})'  # a curve's first mark and eight numbers, in a listing and in an answer of replay
 
 
 # ---- reading
@@ -51,19 +54,30 @@ def meaning(refusal, data):
     return MEANING[refusal]
 
 
-def run_listing(data):
-    done = subprocess.run([os.path.join(ROOT, 'tools', 'run_program'), 'listing'], input=data, capture_output=True)
+def run_program(name, data):
+    """The lines that one of the port's programs writes."""
+    done = subprocess.run([os.path.join(ROOT, 'tools', 'run_program'), name], input=data, capture_output=True)
     if done.returncode:
-        raise Stop(done.stderr.decode('utf-8', 'replace') or f'the listing program ended with status {done.returncode}')
+        raise Stop(done.stderr.decode('utf-8', 'replace') or f'the program {name} ended with status {done.returncode}')
     return done.stdout.decode('latin-1').split('\n')[:-1]
+
+
+def refused(name, refusal, words):
+    """What ends the run of a refused outline."""
+    return Stop(f'{name} is refused with {refusal}: {words}', 1)
+
+
+def curve_of(piece):
+    """First mark and eight patterns, of a PIECE that was found."""
+    return int(piece[1]), [pattern_of(text) for text in piece[2].split()]
 
 
 def read_listing(lines, name, data):
     """How many marks it is of, and the curves as pairs of first mark and eight patterns; a refusal ends the run."""
     head = lines[0] if lines else ''
-    refused = re.fullmatch('REFUSED ([1-9])', head)
-    if refused and len(lines) == 1:
-        raise Stop(f'{name} is refused with {refused[1]}: {meaning(int(refused[1]), data)}', 1)
+    refusal = re.fullmatch('REFUSED ([1-9])', head)
+    if refusal and len(lines) == 1:
+        raise refused(name, refusal[1], meaning(int(refusal[1]), data))
     outline = re.fullmatch('OUTLINE ([0-9]{1,4}) ([0-9]{1,4})', head)
     if not outline:
         raise Stop(f'this is no listing: its first line is {head[:60]!r}')
@@ -71,11 +85,25 @@ def read_listing(lines, name, data):
         raise Stop(f'the listing has {len(lines) - 1} lines below its first, which says {outline[2]} curves')
     curves = []
     for place, line in enumerate(lines[1:], 2):
-        piece = re.fullmatch('PIECE ([0-9]{1,4})((?: [0-9A-F]{16}){8})', line)
+        piece = re.fullmatch('PIECE ' + PIECE, line)
         if not piece:
             raise Stop(f'line {place} of the listing is no curve: {line[:60]!r}')
-        curves.append((int(piece[1]), [pattern_of(text) for text in piece[2].split()]))
+        curves.append(curve_of(piece))
     return int(outline[1]), curves
+
+
+def fit_ring(data, name):
+    """The same of a closed outline, whose marks end with mark 0 once more; by replay's answer to its line."""
+    held = house.parse(data)
+    if held is None:
+        raise refused(name, 9, RING_MEANING[9])
+    # a line of replay holds some marks more than a fit takes, and no end of them
+    answer = '2' if held.count > MOST_MARKS else ''.join(run_program('replay', f'ring {spelt([held.tolerance] + held.marks)}\n'.encode('ascii')))
+    if re.fullmatch('[1-9]', answer):
+        raise refused(name, answer, RING_MEANING[int(answer)])
+    if not re.fullmatch(f'0 [0-9]+(?: {PIECE})+(?: [0-9A-F]{{16}}){{{held.count + 1}}}', answer):
+        raise Stop(f'replay gives no curves of a closed outline: it says {answer[:60]!r}')
+    return held.count + 1, [curve_of(piece) for piece in re.finditer(f' {PIECE}', answer)]
 
 
 def read_house(data, name):
@@ -91,18 +119,18 @@ def read_house(data, name):
     return held
 
 
-def hold(count, curves, held, name):
-    """The listing's curves begin and end on marks of this file, as those of a fit do."""
+def hold(count, curves, marks, name):
+    """The listing's curves begin and end on these marks, as those of a fit do."""
     other = f'this is not the listing of {name}'
-    if count != held.count:
-        raise Stop(f'{other}: it is of {count} marks, and the file has {held.count}')
+    if count != len(marks) // 2:
+        raise Stop(f'{other}: it is of {count} marks, and the file has {len(marks) // 2}')
     firsts = [first for first, _ in curves]
     fault = first_marks_fault(count, len(curves), firsts)
     if fault:
         raise Stop(f'{other}: the first mark of curve {fault[1]} is out of turn' if curves else f'{other}: it has no curves')
     for k, (first, eight) in enumerate(curves):
         end = firsts[k + 1] if k + 1 < len(curves) else count - 1
-        if eight[:2] != held.marks[2 * first:2 * first + 2] or eight[6:] != held.marks[2 * end:2 * end + 2]:
+        if eight[:2] != marks[2 * first:2 * first + 2] or eight[6:] != marks[2 * end:2 * end + 2]:
             raise Stop(f'{other}: curve {k} does not run from mark {first} to mark {end}')
         if not all(map(math.isfinite, numbers(eight))):
             raise Stop(f'{other}: a control point of curve {k} is no number')
@@ -167,6 +195,22 @@ def hold_distances(marks, firsts, curves, tolerance, name):
             raise Stop(f'this is not the listing of {name} at its tolerance of {said(tolerance, 4)} mm: mark {mark} is {said(far, 3)} mm from curve {under}')
 
 
+def direction(start, end):
+    """The unit vector from one point to another, or None where they are one."""
+    (x, y), (u, v) = start, end
+    far = math.hypot(u - x, v - y)
+    return ((u - x) / far, (v - y) / far) if far else None
+
+
+def seam_angle(curves):
+    """By how many degrees the outline turns where its last curve arrives at its first; None if one of the two has no direction there, its control lying on the mark."""
+    arrives, leaves = direction(*curves[-1][2:]), direction(*curves[0][:2])
+    if not arrives or not leaves:
+        return None
+    (a, b), (c, d) = arrives, leaves
+    return math.degrees(abs(math.atan2(a * d - b * c, a * c + b * d)))
+
+
 # ---- drawing
 
 def num(v):
@@ -194,6 +238,9 @@ class Sheet:
 
     def circle(self, x, y, r, fill, colour, wide):
         self.add(f'<circle cx="{num(x)}" cy="{num(y)}" r="{num(r)}" fill="{fill}" stroke="{colour}" stroke-width="{num(wide)}"/>')
+
+    def diamond(self, x, y, r, colour, wide):
+        self.add(f'<path d="M{num(x - r)} {num(y)}l{num(r)} {num(-r)}l{num(r)} {num(r)}l{num(-r)} {num(r)}z" fill="none" stroke="{colour}" stroke-width="{num(wide)}"/>')
 
     def text(self, x, y, size, words, colour=INK, anchor='start'):
         words = words.replace('&', '&amp;').replace('<', '&lt;')
@@ -235,7 +282,9 @@ class Sheet:
                     return
 
 
-def draw(name, tolerance, marks, firsts, curves):
+def draw(name, tolerance, marks, firsts, curves, ring):
+    """The drawing. The marks of a ring end with mark 0 once more."""
+    given = marks[:-1] if ring else marks
     samples = [sampled(curve) for curve in curves]
     seen = [p for s in samples for p in s] + marks
     left, right = min(x for x, _ in seen), max(x for x, _ in seen)
@@ -246,11 +295,17 @@ def draw(name, tolerance, marks, firsts, curves):
     # the largest distance of a mark from its curve; the first of equals
     far, mark, under = max(distances(marks, firsts, curves, samples), key=lambda found: found[0])
     notes = [
-        f'{name}: {len(marks)} marks, {len(curves)} curve{"s" * (len(curves) != 1)}, tolerance {said(tolerance, 4)} mm',
+        f'{name}{", a closed outline" * ring}: {len(given)} marks, {len(curves)} curve{"s" * (len(curves) != 1)}, tolerance {said(tolerance, 4)} mm',
         f'Largest distance from a mark to its curve: {said(far, 3)} mm, at mark {mark} (ringed),',
         f'x {said(marks[mark][0])}, y {said(marks[mark][1])}, under curve {under}. Plot finds it, to the nearest point of the curve.',
         'Marks and curves count from 0; every tenth curve has its number. x runs right, y up.',
     ]
+    if ring:
+        angle = seam_angle(curves)
+        turn = 'no direction' if angle is None else f'{said(angle)}°'
+        notes += [
+            f'The seam is mark 0 (diamond), x {said(marks[0][0])}, y {said(marks[0][1])}: there the last curve meets the first.',
+            'No angle there: a curve has no direction, as where marks fold back.' if angle is None else f'The outline turns there by {turn}; 0° is no kink.']
     # sizes: small things grow with the drawing, within what a hand and an eye at the table can use
     font = min(max(size * 0.012, 3.4), 40.0)
     thin = min(max(size * 0.00028, 0.12), 1.0)
@@ -262,7 +317,7 @@ def draw(name, tolerance, marks, firsts, curves):
     field = max(wide, 150.0, 0.12 * tall)          # room for the bar and for the notes
     caption = min(font, field / (WIDE * max(map(len, notes))))
     step = 1.5 * caption
-    column = max(100, 52 * WIDE * caption) + 3 * caption    # bar and signs; the notes stand beside them if the sheet is wide enough
+    column = max(100, (62 if ring else 52) * WIDE * caption) + 3 * caption    # bar and signs; the notes stand beside them if the sheet is wide enough
     beside = field >= column + WIDE * caption * max(map(len, notes))
     band = 9 + 6.5 * caption + (0 if beside else (len(notes) + 0.5) * step)
     # 6.35 mm are 24 pixels and 18 points: a page of whole ones is rounded by no browser, which would stretch the drawing
@@ -279,21 +334,27 @@ def draw(name, tolerance, marks, firsts, curves):
         p = [f'{num(x)} {num(y)}' for x, y in map(put, c)]
         sheet.add(f'<path d="M{p[0]} C{p[1]} {p[2]} {p[3]}" fill="none" stroke="{COLOURS[k % 2]}" stroke-width="{num(bold)}"/>')
     # the marks
-    d = ''.join(f'M{num(x - arm)} {num(y)}h{num(2 * arm)}M{num(x)} {num(y - arm)}v{num(2 * arm)}' for x, y in map(put, marks))
+    d = ''.join(f'M{num(x - arm)} {num(y)}h{num(2 * arm)}M{num(x)} {num(y - arm)}v{num(2 * arm)}' for x, y in map(put, given))
     sheet.add(f'<path d="{d}" fill="none" stroke="{INK}" stroke-width="{num(thin)}"/>')
-    # the joints and the two ends
-    for p in [c[0] for c in curves] + [curves[-1][3]]:
+    # the joints and the two ends; a ring ends at its first joint
+    for p in [c[0] for c in curves] + [curves[-1][3]][:not ring]:
         sheet.circle(*put(p), dot, '#ffffff', INK, thin * 1.3)
     # numbers and the worst mark, where nothing else is
     page = (edge * 0.25, edge * 0.25, page_w - edge * 0.25, tall + 1.75 * edge)
     sheet.keep_clear([put(p) for p in seen], max(font, size / 60))
-    ring = max(2.6 * dot, 1.4 * arm)
+    halo = max(2.6 * dot, 1.4 * arm)
     x, y = put(marks[mark])
-    sheet.circle(x, y, ring, 'none', RED, bold)
-    sheet.boxes.append((x - ring, y - ring, x + ring, y + ring))
+    sheet.circle(x, y, halo, 'none', RED, bold)
+    sheet.boxes.append((x - halo, y - halo, x + halo, y + halo))
     sheet.boxes += [(cx - edge * 0.3, cy - edge * 0.3, cx + edge * 0.3, cy + edge * 0.3)
                     for cx in (edge / 2, page_w - edge / 2) for cy in (edge / 2, page_h - edge / 2)]
-    sheet.label(x, y, font, f'{said(far, 3)} mm', RED, page, ring * 1.25)
+    if ring:
+        seam = put(marks[0])
+        sheet.diamond(*seam, 1.3 * halo, GREEN, bold)
+        sheet.boxes.append((seam[0] - 1.3 * halo, seam[1] - 1.3 * halo, seam[0] + 1.3 * halo, seam[1] + 1.3 * halo))
+    sheet.label(x, y, font, f'{said(far, 3)} mm', RED, page, halo * 1.25)
+    if ring:
+        sheet.label(*seam, font, f'seam {turn}', GREEN, page, halo * 1.6)
     for k in range(0, len(curves), 10):
         sheet.label(*put(at(curves[k], 0.5)), font * 0.9, str(k), COLOURS[k % 2], page, dot)
     # registration crosses
@@ -329,6 +390,10 @@ def draw(name, tolerance, marks, firsts, curves):
     x += 2 * s + 7 * WIDE * caption
     sheet.circle(x, mid, s * 1.1, 'none', RED, caption * 0.08)
     sheet.text(x + 2.2 * s, y0, caption, 'farthest mark')
+    if ring:
+        x += 2.2 * s + 14 * WIDE * caption
+        sheet.diamond(x, mid, s * 1.3, GREEN, caption * 0.08)
+        sheet.text(x + 2.2 * s, y0, caption, 'seam')
     x0, y0 = (x0 + column, tall + 2 * edge + 5 + 1.1 * caption) if beside else (x0, y0 + step * 1.3)
     for note in notes:
         sheet.text(x0, y0, caption, note)
@@ -342,21 +407,27 @@ def draw(name, tolerance, marks, firsts, curves):
 
 
 def main(words):
-    if len(words) not in (1, 3) or words[0].startswith('-') or (len(words) == 3 and words[1] != '--listing'):
-        raise Stop('usage: ./plot FILE.house [--listing FILE] > out.svg')
+    ring = words[:1] == ['--ring']
+    words = words[1:] if ring else words
+    kept = len(words) == 3 and words[1] == '--listing' and not ring
+    if not (len(words) == 1 or kept) or words[0].startswith('-'):
+        raise Stop('usage: ./plot FILE.house [--listing FILE] > out.svg, or ./plot --ring FILE.house > out.svg')
     name = os.path.basename(words[0])
     with open(words[0], 'rb') as file:
         data = file.read()
-    kept = len(words) == 3
-    count, listed = read_listing(read_lines(words[2]) if kept else run_listing(data), name, data)
+    if ring:
+        count, listed = fit_ring(data, name)
+    else:
+        count, listed = read_listing(read_lines(words[2]) if kept else run_program('listing', data), name, data)
     held = read_house(data, name)
-    hold(count, listed, held, name)
+    patterns = closed(held.marks) if ring else held.marks
+    hold(count, listed, patterns, name)
     firsts = [first for first, _ in listed]
     curves = [pairs(eight) for _, eight in listed]
-    marks, tolerance = pairs(held.marks), number(held.tolerance)
+    marks, tolerance = pairs(patterns), number(held.tolerance)
     if kept:
         hold_distances(marks, firsts, curves, tolerance, name)
-    sys.stdout.write(draw(name, tolerance, marks, firsts, curves))
+    sys.stdout.write(draw(name, tolerance, marks, firsts, curves, ring))
     return 0
 
 

@@ -16,6 +16,7 @@ from shared.command import Stop, run
 from shared.words import word_of
 
 BIG, NAN, INF, LEAST = 1e6, math.nan, math.inf, 5e-324
+BLOCKS = ('source', 'loop', 'joined', 'ring')  # the fits that cut an outline into blocks
 hand = random.Random()  # main gives it its seed
 
 
@@ -92,9 +93,9 @@ def turned(marks, at_end):
 
 
 def fits(marks, tolerance):
-    """The four fits of one outline; direct takes the outline's own tangents."""
+    """Every fit of one outline; direct takes the outline's own tangents."""
     yield line('direct', tolerance, turned(marks, False), turned(marks, True), marks)
-    for kind in ('source', 'loop', 'joined'):
+    for kind in BLOCKS:
         yield line(kind, tolerance, marks)
 
 
@@ -106,8 +107,8 @@ def outlines():
     for shape in (circle, noisy, luff):
         for n in (199, 200, 201, 249, 250, 400, 511, 512, 513):
             yield from fits(shape(n, 1500.0), 2.0)
-    for n in (1000, 4096, 4097):
-        for kind in ('source', 'loop', 'joined'):
+    for n in (1000, 4095, 4096, 4097):
+        for kind in BLOCKS:
             yield line(kind, 1.0, luff(n, 5000.0))
             yield line(kind, 3.0, noisy(n, 800.0))
     # sizes at the ends of the range
@@ -127,27 +128,55 @@ def limits():
         yield line('direct', 0.5, [tangent, 0.5], [0.5, tangent], good)
     for tolerance in (0.0, -LEAST, LEAST, -1.0, 1e300):
         yield from fits(good, tolerance)
-    for kind in ('source', 'loop', 'joined', 'direct'):
+    for kind in BLOCKS + ('direct',):
         ways = [1.0, 0.0, 1.0, 0.0] if kind == 'direct' else []
-        for marks in ([], [1.0], [1.0, 2.0], [1.0, 2.0, 3.0], [NAN], [NAN, 2.0], good[:-1], [1.0, 1.0] * 2, [1.0, 1.0] * 3, [1.0, NAN, 3.0]):
+        for marks in ([], [1.0], [1.0, 2.0], [1.0, 2.0, 3.0], [NAN], [NAN, 2.0], good[:-1], [1.0, 1.0] * 2, [1.0, 1.0] * 3, [1.0, 1.0] * 4, good[:4], good[:6], [1.0, NAN, 3.0]):
             yield line(kind, 0.5, ways, marks)
             yield line(kind, NAN, ways, marks)
 
 
+# Marks about a mark where blocks meet: a hard turn, a fold back, a rest, or so near that their difference is lost. Before, at and after it.
+ABOUTS = (
+    [3.0, 4.0, 5.0, 6.0, 3.0, 4.0], [3.0, 4.0] * 3, [3.0, 4.0, 3.0, 4.0, 5.0, 6.0], [3.0, 4.0, 5.0, 6.0, 5.0, 6.0],
+    [3.0, 0.0, -0.0, 0.0, 3.0, 0.0], [0.0, 0.0, 1e-320, 0.0, 2e-320, 0.0], [1e-170, 0.0, 0.0, 0.0, 0.0, 1e-170],
+    [BIG, BIG, -BIG, -BIG, BIG, -BIG], [-BIG, 0.0, BIG, 0.0, -BIG, LEAST])
+
+
 def joints():
-    """Outlines whose marks about a joint of two blocks turn hard, fold back, rest, or lie so near that their difference is lost. The blocks are of
-    150, 175 and 200 marks; source and loop, which cut at the same marks and take other tangents there, are asked too."""
-    abouts = (
-        [3.0, 4.0, 5.0, 6.0, 3.0, 4.0], [3.0, 4.0] * 3, [3.0, 4.0, 3.0, 4.0, 5.0, 6.0], [3.0, 4.0, 5.0, 6.0, 5.0, 6.0],
-        [3.0, 0.0, -0.0, 0.0, 3.0, 0.0], [0.0, 0.0, 1e-320, 0.0, 2e-320, 0.0], [1e-170, 0.0, 0.0, 0.0, 0.0, 1e-170],
-        [BIG, BIG, -BIG, -BIG, BIG, -BIG], [-BIG, 0.0, BIG, 0.0, -BIG, LEAST])
+    """Outlines that fold where two blocks meet. The blocks are of 150, 175 and 200 marks; source and loop, which cut at the same marks and take other
+    tangents there, are asked too."""
     for n, size in ((200, 150), (400, 175), (251, 200)):
         marks = wave(n, 800.0)
-        for about in abouts:
+        for about in ABOUTS:
             for at in range(size, n - 1, size):
                 folded = marks[:2 * at - 2] + about + marks[2 * at + 4:]
                 for kind in ('joined', 'source', 'loop'):
                     yield line(kind, 1.5, folded)
+
+
+def pond(n, r):
+    """A closed outline: round about, with two bays."""
+    return flat((r * (1 + 0.2 * math.cos(2 * a)) * math.cos(a), 0.6 * r * math.sin(a)) for a in (2 * math.pi * i / n for i in range(n)))
+
+
+def rings():
+    """Closed outlines of one block and of several; with the first mark once more, or twice, at the end; and folded about mark 0, where the last block meets the first,
+    and where inner blocks meet, as they are cut over one mark more than is given."""
+    for n in (3, 4, 5, 8, 30, 198, 199, 200, 201, 249, 250, 399, 400, 512, 4095, 4096):
+        for tolerance in (0.0, 0.01, 2.0):
+            yield line('ring', tolerance, pond(n, 700.0))
+    for n in (2, 3, 4, 9, 198, 199, 200):
+        for more in (1, 2):
+            marks = pond(n, 300.0)
+            yield line('ring', 0.2, marks + marks[:2] * more)
+    for n in (3, 4, 7, 100, 199, 250, 399):
+        for about in ABOUTS:
+            yield line('ring', 1.5, about[2:] + pond(n, 800.0)[4:-2] + about[:2])
+    for n, size in ((199, 150), (399, 175), (250, 200)):
+        marks = pond(n, 800.0)
+        for about in ABOUTS:
+            for at in range(size, n - 1, size):
+                yield line('ring', 1.5, marks[:2 * at - 2] + about + marks[2 * at + 4:])
 
 
 # ---- single curves
@@ -201,12 +230,13 @@ def near():
 
 # ---- lists for the checker: curves drawn first, and marks laid on them
 
-def drawn(count):
-    """Curves that meet, with 2 to 6 marks each: marks, first marks, curves, parameters."""
+def drawn(count, ring):
+    """Curves that meet, with 1 to 5 marks each, and the last mark; those of a ring come back to their first mark, which is not given again. Marks, first marks,
+    curves, parameters."""
     marks, firsts, curves_, at = [], [], [], []
-    here = [hand.uniform(-100, 100), hand.uniform(-100, 100)]
-    for _ in range(count):
-        end = [hand.uniform(-100, 100), hand.uniform(-100, 100)]
+    start = here = [hand.uniform(-100, 100), hand.uniform(-100, 100)]
+    for k in range(count):
+        end = start if ring and k == count - 1 else [hand.uniform(-100, 100), hand.uniform(-100, 100)]
         c = here + [hand.uniform(-100, 100) for _ in range(4)] + end
         firsts.append(len(marks) // 2)
         curves_.append(c)
@@ -216,45 +246,55 @@ def drawn(count):
             marks += point_at(c, t)  # at distance 0, since the checkers work it out alike
             at.append(t)
         here = end
-    return marks + here, firsts, curves_, at + [1.0]
+    return marks if ring else marks + here, firsts, curves_, at + [1.0]
 
 
-def check(tolerance, marks, firsts, curves_, at):
+def checked(ring, tolerance, marks, firsts, curves_, at):
     words = [w for f, c in zip(firsts, curves_) for w in (f, c)]
-    return line('check', tolerance, len(marks) // 2, marks, len(curves_), *words, at)
+    return line('check_ring' if ring else 'check', tolerance, len(marks) // 2, marks, len(curves_), *words, at)
+
+
+def damaged(ring, count):
+    """A sound list, and the same with one thing changed."""
+    marks, firsts, curves_, at = drawn(count, ring)
+    n = len(at)  # with a ring's first mark once more
+    k = hand.randrange(count)
+
+    def check(tolerance, *parts):
+        return checked(ring, tolerance, *parts)
+
+    def with_first(v):
+        return check(1e-9, marks, firsts[:k] + [v] + firsts[k + 1:], curves_, at)
+    yield check(1e-9, marks, firsts, curves_, at)
+    yield check(0.0, marks, firsts, curves_, at)
+    for v in (0, firsts[k] + 1, n - 2, n - 1, n, 4294967295):
+        yield with_first(v)
+    for place in range(8):
+        c = curves_[k]
+        for v in (math.nextafter(c[place], INF), c[place] + 3.0, NAN, INF, -0.0):
+            yield check(1e-9, marks, firsts, curves_[:k] + [c[:place] + [v] + c[place + 1:]] + curves_[k + 1:], at)
+    for i in {0, firsts[k], n - 1, hand.randrange(n)}:
+        for v in (0.0, 1.0, 0.5, LEAST, -LEAST, above(1.0), NAN, INF):
+            yield check(1e-9, marks, firsts, curves_, at[:i] + [v] + at[i + 1:])
+        x = 2 * i % len(marks)
+        yield check(1e-9, marks[:x] + [marks[x] + 0.25] + marks[x + 1:], firsts, curves_, at)
+        yield check(0.3, marks[:x] + [marks[x] + 0.25] + marks[x + 1:], firsts, curves_, at)
+        yield check(1e-9, marks[:x] + [above(BIG)] + marks[x + 1:], firsts, curves_, at)
+    for tolerance in (-0.0, -LEAST, NAN, INF):
+        yield check(tolerance, marks, firsts, curves_, at)
+    yield check(1e-9, marks, [], [], at)
+    yield check(1e-9, marks, list(range(n)), [curves_[0]] * n, at)
+    yield check(1e-9, marks, list(range(n - 1)), [curves_[0]] * (n - 1), at)
 
 
 def lists():
-    for count in (1, 2, 3, 8, 20):
-        for _ in range(6):
-            marks, firsts, curves_, at = drawn(count)
-            n = len(marks) // 2
-            k = hand.randrange(count)
-            yield check(1e-9, marks, firsts, curves_, at)
-            yield check(0.0, marks, firsts, curves_, at)
-
-            def with_first(v):
-                return check(1e-9, marks, firsts[:k] + [v] + firsts[k + 1:], curves_, at)
-            for v in (0, firsts[k] + 1, n - 2, n - 1, n, 4294967295):
-                yield with_first(v)
-            for place in range(8):
-                c = curves_[k]
-                for v in (math.nextafter(c[place], INF), c[place] + 3.0, NAN, INF, -0.0):
-                    yield check(1e-9, marks, firsts, curves_[:k] + [c[:place] + [v] + c[place + 1:]] + curves_[k + 1:], at)
-            for i in {0, firsts[k], n - 1, hand.randrange(n)}:
-                for v in (0.0, 1.0, 0.5, LEAST, -LEAST, above(1.0), NAN, INF):
-                    yield check(1e-9, marks, firsts, curves_, at[:i] + [v] + at[i + 1:])
-                yield check(1e-9, marks[:2 * i] + [marks[2 * i] + 0.25] + marks[2 * i + 1:], firsts, curves_, at)
-                yield check(0.3, marks[:2 * i] + [marks[2 * i] + 0.25] + marks[2 * i + 1:], firsts, curves_, at)
-                yield check(1e-9, marks[:2 * i] + [above(BIG)] + marks[2 * i + 1:], firsts, curves_, at)
-            for tolerance in (-0.0, -LEAST, NAN, INF):
-                yield check(tolerance, marks, firsts, curves_, at)
-            yield check(1e-9, marks, [], [], at)
-            yield check(1e-9, marks, list(range(n)), [curves_[0]] * n, at)
-    yield check(0.5, [], [], [], [])
-    yield check(0.5, [1.0, 2.0], [], [], [0.0])
-    yield check(0.5, [0.0] * 8194, [0], [[0.0] * 8], [0.0] * 4096 + [1.0])
-    yield check(0.5, [0.0] * 8192, [0], [[0.0] * 8], [0.0] * 4095 + [1.0])
+    for ring in (False, True):
+        for count in (1, 2, 3, 8, 20):
+            for _ in range(6):
+                yield from damaged(ring, count)
+        yield checked(ring, 0.5, [], [], [], [0.0] if ring else [])
+        for n in (1, 2, 3, 4095, 4096, 4097):
+            yield checked(ring, 0.5, [0.0] * (2 * n), [0], [[0.0] * 8], [0.0] * (n - 1 + ring) + [1.0])
 
 
 def nonsense():
@@ -270,13 +310,18 @@ def nonsense():
     yield 'basis ' + ' '.join(['0000000000000000'] * 8)
     yield 'sqrt  3FF0000000000000'
     yield 'check 3FF0000000000000 2 0000000000000000 0000000000000000'
+    yield 'ring'
+    yield 'check_ring'
+    yield 'check_ringx 3FF0000000000000 0 0 0000000000000000'
+    for kind in ('check', 'check_ring'):  # as many parameters as the other one has
+        yield checked(kind == 'check_ring', 0.5, [0.0] * 6, [0], [[0.0] * 8], [0.0] * 3 + [1.0] * (kind == 'check'))
 
 
 def main(words):
     if len(words) > 1 or not all(text.isdecimal() for text in words):
         raise Stop('usage: compare/generate.py [SEED], SEED a whole number')
     hand.seed(int(words[0]) if words else 1)
-    for part in (single, near, outlines, joints, limits, lists, nonsense):
+    for part in (single, near, outlines, joints, rings, limits, lists, nonsense):
         for case in part():
             print(case)
     return 0

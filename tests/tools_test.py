@@ -5,8 +5,11 @@ They run on what `rt check` has built (target/bin/listing and target/bin/replay)
 stand-in for cargo whose Rust side is the port itself: so neither Rust nor a network is wanted. The last line is `N passed, M failed`.
 """
 import filecmp
+import importlib.machinery
+import importlib.util
 import math
 import os
+import re
 import shutil
 import stat
 import struct
@@ -20,6 +23,8 @@ ROOT = os.path.dirname(os.path.dirname(os.path.realpath(__file__)))
 sys.path.insert(0, os.path.join(ROOT, 'tools'))
 
 from shared import house
+from shared.checker import FAULT_A, FAULT_B, FAULT_C, FAULT_D, PASSED, REFUSED, check
+from shared.table import fit_refusal
 from shared.words import INFINITY, NAN, bits, numbers, pattern_of, patterns_of, word_of, words
 
 CARGO = '''#!/bin/sh
@@ -101,6 +106,12 @@ class Case(unittest.TestCase):
     def in_copy(self, name):
         return os.path.join(copy, name)
 
+    def answers(self, lines):
+        """What the port says to lines of replay."""
+        text = ''.join(line + '\n' for line in lines).encode('ascii')
+        done = subprocess.run([self.in_copy('tools/run_program'), 'replay'], input=text, capture_output=True, check=True)
+        return done.stdout.decode('ascii').split('\n')[:-1]
+
 
 class Compare(Case):
     def compare(self, status, piece, *rest, **more):
@@ -153,9 +164,11 @@ class Compare(Case):
         self.compare(2, 'line 2 is not plain text', flo, write('accent.txt', LINES[0] + '\nsqrt é\n'))
         self.compare(2, 'line 1 is not plain text', flo, write('bytes.txt', bytes(range(128, 256))))
         mark = words(patterns_of(1.0, 2.0))
-        long_fit = ' '.join(['joined', word_of(0.5)] + [mark] * 4201)
-        self.compare(2, 'line 2 has more than the 4,200 marks', flo, write('long.txt', f'{LINES[0]}\n{long_fit}\n'))
-        self.compare(2, 'line 1 has more than the 4,200 marks', flo, write('long.txt', f'check {word_of(0.5)} 4201 {mark}\n'))
+        for kind in ('joined', 'ring'):
+            long_fit = ' '.join([kind, word_of(0.5)] + [mark] * 4201)
+            self.compare(2, 'line 2 has more than the 4,200 marks', flo, write('long.txt', f'{LINES[0]}\n{long_fit}\n'))
+        for kind in ('check', 'check_ring'):
+            self.compare(2, 'line 1 has more than the 4,200 marks', flo, write('long.txt', f'{kind} {word_of(0.5)} 4201 {mark}\n'))
 
     def test_last_line_without_newline(self):
         self.counts(0, '2 cases, 0 different', write('open.txt', '\n'.join(LINES)))
@@ -188,7 +201,51 @@ class Compare(Case):
         made = [subprocess.run([sys.executable, self.in_copy('compare/generate.py'), *seed], capture_output=True) for seed in ([], ['1'], ['x'], ['1', '2'])]
         self.assertEqual([done.returncode for done in made], [0, 0, 2, 2])
         self.assertEqual(made[0].stdout, made[1].stdout)
-        self.assertGreater(made[0].stdout.count(b'\n'), 5000)
+        lines = [line.split(' ') for line in made[0].stdout.decode('ascii').split('\n')[:-1]]
+        self.assertGreater(len(lines), 5000)
+        sizes = {len(line[2:]) / 2 for line in lines if line[0] == 'ring'}
+        self.assertLessEqual({0, 0.5, 1, 2, 3, 4, 199, 200, 201, 4095, 4096, 4097}, sizes)
+        self.assertGreater(sum(line[0] == 'check_ring' for line in lines), 1000)
+
+    def test_rings(self):
+        """The table has its own numbers for rings, and the port's answer must be the table's."""
+        triangle = f'ring {word_of(0.5)} {words(patterns_of(*TRIANGLE))}'
+        two = f'ring {word_of(0.5)} {words(patterns_of(*TRIANGLE[:4]))}'
+        sound = 'check_ring ' + ring_list()
+        short = sound[:-17]  # as many parameters as marks
+        cases = write('rings.txt', '\n'.join([triangle, two, sound, short]))
+        self.counts(0, '4 cases, 0 different', cases)
+        answers = self.answers([triangle, two, sound, short])
+        self.assertEqual([answer.split(' ')[0] for answer in answers], ['0', '1', '0', 'BAD'])
+        for place, other in ((0, '1'), (1, answers[0]), (1, '2'), (2, 'FAULT C 2 3'), (3, '4')):
+            said = answers[:place] + [other] + answers[place + 1:]
+            self.counts(1, '4 cases, 1 different', '--answers', write('said.txt', '\n'.join(said)), cases)
+
+    def test_lists_of_rings_are_judged_as_rings(self):
+        loader = importlib.machinery.SourceFileLoader('compare_run', self.in_copy('compare/run'))
+        compare = importlib.util.module_from_spec(importlib.util.spec_from_loader('compare_run', loader))
+        loader.exec_module(compare)
+        marks, times = words(patterns_of(*TRIANGLE)), words(patterns_of(0, 0, 0, 1))
+        curve = '0 ' + words(patterns_of(*range(8)))
+        cases = [f'{kind} {word_of(0.5)} {marks}' for kind in ('ring', 'joined', 'loop')]
+        made = list(compare.feedback(cases, [f'0 1 {curve} {times}\tdepth 3'] * 3))
+        self.assertEqual(made, [f'{kind} {word_of(0.5)} 3 {marks} 1 {curve} {times}' for kind in ('check_ring', 'check')])
+
+
+TRIANGLE = [-0.0, 0.0, 4.0, 0.0, 4.0, 3.0]  # three marks; the first has a minus zero
+
+
+def straight(start, end):
+    return [*start, *(a + (b - a) * part for part in (0.33, 0.66) for a, b in zip(start, end)), *end]
+
+
+SIDES = [straight(TRIANGLE[a:a + 2], TRIANGLE[b:b + 2]) for a, b in ((0, 2), (2, 4), (4, 0))]
+
+
+def ring_list():
+    """The triangle's three sides as the words of a sound list."""
+    sides = ' '.join(f'{k} {words(patterns_of(*side))}' for k, side in enumerate(SIDES))
+    return f'{word_of(0.0)} 3 {words(patterns_of(*TRIANGLE))} 3 {sides} {words(patterns_of(0, 0, 0, 1))}'
 
 
 def marks_file(count, tolerance=0.5, **change):
@@ -209,7 +266,9 @@ class Plot(Case):
         self.says(2, piece, 'plot', self.in_copy(f'examples/{name}.house'), '--listing', write('kept.txt', listing))
 
     def test_usage(self):
-        for rest in ([], ['--listing'], ['a', 'b'], ['a', '--listing'], ['a', '--list', 'b'], ['a', '--listing', 'b', 'c']):
+        for rest in (
+                [], ['--listing'], ['a', 'b'], ['a', '--listing'], ['a', '--list', 'b'], ['a', '--listing', 'b', 'c'],
+                ['--ring'], ['a', '--ring'], ['--ring', 'a', 'b'], ['--ring', '--ring', 'a'], ['--ring', 'a', '--listing', 'b'], ['a', '--listing', 'b', '--ring']):
             self.says(2, 'usage: ./plot', 'plot', *rest)
 
     def test_files(self):
@@ -223,6 +282,64 @@ class Plot(Case):
             self.assertEqual((got, said, drawn[:5], drawn[-7:]), (0, '', '<svg ', '</svg>\n'))
             kept = write('kept.txt', self.listing(name))
             self.assertEqual(self.call('plot', self.in_copy(f'examples/{name}.house'), '--listing', kept), (0, drawn, ''))
+
+    def ring(self, marks, tolerance):
+        """The drawing of a closed outline of these coordinates."""
+        got, drawn, said = self.call('plot', '--ring', write('ring.house', house.build(bits(tolerance), patterns_of(*marks))))
+        self.assertEqual((got, said), (0, ''))
+        return drawn
+
+    def test_closed_drawing(self):
+        """With --ring the last curve comes back to where the first one starts, and the seam is shown; without it the outline stays open."""
+        for words_, closed in ((['--ring'], True), ([], False)):
+            got, drawn, said = self.call('plot', *words_, self.in_copy('examples/tender.house'))
+            self.assertEqual((got, said, drawn[:5], drawn[-7:]), (0, '', '<svg ', '</svg>\n'))
+            curves = re.findall(r'<path d="M(\S+ \S+) C(\S+ \S+) (\S+ \S+) (\S+ \S+)"', drawn)
+            self.assertEqual(len(curves), 19 if closed else 18)
+            self.assertEqual([before[3] == after[0] for before, after in zip(curves, curves[1:] + curves[:1])], [True] * (len(curves) - 1) + [closed])
+            self.assertEqual(drawn.count('z" fill="none" stroke="#2e7d32"'), 2 if closed else 0)  # the diamond at the seam, and its sign in the band
+            self.assertEqual(drawn.count('fill="#ffffff" stroke="#222222"'), 19 + 1)  # a dot for each joint and end, and their sign: a ring's end is its first joint
+            for piece in ('>seam 0°<', 'The seam is mark 0 (diamond), x 0, y 720:', 'turns there by 0°', 'a closed outline: 260 marks'):
+                self.assertEqual(piece in drawn, closed, piece)
+
+    def test_angle_at_the_seam(self):
+        """At tolerance 0 the curves beside the seam are straight lines, of two marks each: the angle is that of the marks. Marks that fold back under one curve
+        leave it without a direction."""
+        for marks, piece in (
+                ([0, 0, 4, 0, 4, 4, 0, 4], 'by 90°;'), ([2, 0, 4, 0, 4, 4, 0, 4, 0, 0], 'by 0°;'), ([0, 0, 4, 0, 9, 3, -5, 5], 'by 45°;'),
+                ([0, 0, 4, 0, 9, 3, 7, 0], 'by 180°;')):
+            self.assertIn(piece, self.ring(marks, 0.0))
+        folded = self.ring([0, 0, 4, 0, 4, 4, 2, 6, 4, 0], 9.0)
+        self.assertIn('No angle there: a curve has no direction', folded)
+        self.assertIn('>seam no direction<', folded)
+
+    def test_closed_refusals(self):
+        self.says(1, 'refused with 5', 'plot', '--ring', self.in_copy('examples/lost.house'))
+        self.says(1, 'refused with 6', 'plot', '--ring', self.in_copy('examples/rested.house'))
+        for count in (0, 1, 2):
+            self.says(1, 'refused with 1: fewer than 3 marks', 'plot', '--ring', write('few.house', marks_file(count)))
+        for count in (4097, 5000):
+            self.says(1, 'refused with 2: too many marks (a closed outline takes 4,096)', 'plot', '--ring', write('many.house', marks_file(count)))
+        for junk in (b'no house file', b'', bytes(70000), read('examples/tender.house')[:-1]):
+            self.says(1, 'refused with 9: the house file is badly formed', 'plot', '--ring', write('junk.house', junk))
+        for count in (3, 513):
+            self.assertEqual(self.call('plot', '--ring', write('taken.house', marks_file(count)))[0], 0)
+
+    def test_no_curves_of_a_ring(self):
+        """A program that says something else than curves of the marks."""
+        kept = read('tools/run_program')
+        tender, triangle = self.in_copy('examples/tender.house'), write('triangle.house', house.build(bits(0.0), patterns_of(*TRIANGLE)))
+        good = '0 3 ' + ring_list().split(' 3 ', 2)[2]
+        try:
+            for path, line, piece in (
+                    (tender, 'BAD', "it says 'BAD'"), (tender, '', "it says ''"), (tender, good, 'replay gives no curves of a closed outline'),
+                    (triangle, good[:-17], 'replay gives no curves of a closed outline'), (triangle, good.replace(word_of(3.0), word_of(5.0)), 'does not run from mark 1')):
+                write('tools/run_program', f'#!/bin/sh\ncat >/dev/null\necho "{line}"\n', runs=True)
+                self.says(2, piece, 'plot', '--ring', path)
+            write('tools/run_program', f'#!/bin/sh\ncat >/dev/null\necho "{good}"\n', runs=True)
+            self.assertEqual(self.call('plot', '--ring', triangle)[0], 0)
+        finally:
+            write('tools/run_program', kept, runs=True)
 
     def test_two_equal_marks(self):
         path = write('spot.house', house.build(bits(0.5), patterns_of(3, 5, 3, 5)))
@@ -305,6 +422,7 @@ class Plot(Case):
         os.rename(self.in_copy('target/bin'), self.in_copy('target/away'))
         try:
             self.says(2, 'rt check listing', 'plot', self.in_copy('examples/cover.house'))
+            self.says(2, 'rt check replay', 'plot', '--ring', self.in_copy('examples/tender.house'))
         finally:
             os.rename(self.in_copy('target/away'), self.in_copy('target/bin'))
 
@@ -406,27 +524,86 @@ class Vectors(Case):
         self.assertEqual((done.returncode, done.stdout, done.stderr), (0, b'', b''))
 
 
+class Rings(Case):
+    """The list checker by the document's text, on lists of a ring that are made by hand."""
+
+    def judged(self, want, marks=TRIANGLE, tolerance=0.0, claimed=3, curves=tuple(SIDES), firsts=(0, 1, 2), params=(0.0, 0.0, 0.0, 1.0), ring=True):
+        numbers_ = [value for curve in curves for value in curve]
+        self.assertEqual(check(marks, tolerance, claimed, numbers_, list(firsts), list(params), ring), want)
+
+    def test_sound(self):
+        self.judged((PASSED, 0, 0))
+        self.judged((PASSED, 0, 0), params=(-0.0, 0.0, 0.0, 1.0))
+        self.judged((PASSED, 0, 0), curves=SIDES[:1] + [SIDES[1][:6] + TRIANGLE[:2]], claimed=2, firsts=(0, 1), params=(0.0, 0.0, 0.5, 1.0), tolerance=9.0)
+        self.judged((PASSED, 0, 0), ring=False, claimed=2, curves=SIDES[:2], firsts=(0, 1), params=(0.0, 0.0, 1.0))
+
+    def test_table(self):
+        """The refusals of the fit itself, by the document's table."""
+        for count, short, want in ((5, False, 3), (0, False, 1), (4, True, 1), (6, False, 0), (6, True, 4), (8192, False, 0), (8194, True, 2)):
+            self.assertEqual(fit_refusal(['ring', word_of(0.5)] + [word_of(1.0)] * count, short), want)
+        self.assertEqual(fit_refusal(['joined', word_of(0.5)] + [word_of(1.0)] * 4), 0)
+
+    def test_refusals(self):
+        self.judged((REFUSED, 3, 0), marks=TRIANGLE[:5])
+        self.judged((REFUSED, 1, 0), marks=TRIANGLE[:4])
+        self.judged((REFUSED, 2, 0), marks=[0.0] * 8194, params=[])
+        self.judged((REFUSED, 4, 0), params=(0.0, 0.0, 1.0), tolerance=-1.0)
+        self.judged((REFUSED, 4, 0), curves=SIDES[:2])
+        self.judged((REFUSED, 5, 0), tolerance=-1.0, claimed=0)
+        spot = [0.0] * 8192
+        self.judged((PASSED, 0, 0), marks=spot, claimed=1, curves=[[0.0] * 8], firsts=[0], params=[0.0] * 4096 + [1.0])
+        self.judged((REFUSED, 4, 0), marks=spot, claimed=1, curves=[[0.0] * 8], firsts=[0], params=[0.0] * 4095 + [1.0])
+
+    def test_faults(self):
+        self.judged((FAULT_A, 0, 0), claimed=0)
+        self.judged((FAULT_A, 0, 0), claimed=4, curves=SIDES + SIDES[:1], firsts=(0, 1, 2, 3))
+        self.judged((FAULT_A, 2, 0), firsts=(0, 1, 3))
+        self.judged((FAULT_B, 1, 1), claimed=2)  # it ends on the last mark that is given
+        self.judged((FAULT_B, 2, 2), curves=SIDES[:2] + [SIDES[2][:6] + [0.0, 0.0]])  # the first mark has a minus zero
+        self.judged((FAULT_B, 2, 2), curves=SIDES[:2] + [SIDES[2][:6] + TRIANGLE[4:]])
+        self.judged((FAULT_C, 2, 3), params=(0.0, 0.0, 0.0, 0.0))
+        self.judged((FAULT_C, 2, 2), params=(0.0, 0.0, 1.0, 1.0))
+        self.judged((FAULT_D, 1, 2), claimed=2, curves=SIDES[:1] + [SIDES[1][:6] + TRIANGLE[:2]], firsts=(0, 1), params=(0.0, 0.0, 0.5, 1.0), tolerance=0.5)
+
+    def test_tender(self):
+        """The ring fit of the tender's cover: its list is sound as a ring's and as no other's, and there is no kink at the seam, nor where its two blocks meet."""
+        held = house.parse(read('examples/tender.house'))
+        (said,) = self.answers([f'ring {words([held.tolerance] + held.marks)}'])
+        head, count, *rest = said.split(' ')
+        self.assertEqual((head, count, len(rest)), ('0', '19', 9 * 19 + 261))
+        firsts = [int(text) for text in rest[:9 * 19:9]]
+        curves = [numbers([pattern_of(text) for text in rest[9 * k + 1:9 * k + 9]]) for k in range(19)]
+        params = numbers([pattern_of(text) for text in rest[9 * 19:]])
+        parts = dict(marks=numbers(held.marks), tolerance=0.8, claimed=19, curves=curves, firsts=firsts, params=params)
+        self.judged((PASSED, 0, 0), **parts)
+        self.judged((FAULT_B, 18, firsts[-1]), **parts, ring=False)
+        met = [kink(before, after) for first, before, after in zip(firsts, curves[-1:] + curves, curves) if first in (0, 200)]
+        self.assertEqual(len(met), 2)
+        self.assertLess(max(met), 1e-9)
+
+
+def kink(before, after):
+    """The angle in degrees between the way into a joint and the way out of it, from control to joint and from joint to control."""
+    (a, b), (c, d) = ([q - p for p, q in zip(curve[at:], curve[at + 2:at + 4])] for curve, at in ((before, 4), (after, 0)))
+    return math.degrees(abs(math.atan2(a * d - b * c, a * c + b * d)))
+
+
 class Other(Case):
     def test_examples(self):
         self.says(2, 'usage: tools/make_examples.py', 'tools/make_examples.py', 'x')
         got, out, _ = self.call('tools/make_examples.py')
-        self.assertEqual((got, out.count('as kept')), (0, 6), out)
+        self.assertEqual((got, out.count('as kept')), (0, 7), out)
         os.remove(self.in_copy('examples/luff.house'))
         self.assertEqual(self.call('tools/make_examples.py')[0], 1)
         self.assertEqual(self.call('tools/make_examples.py', '--write')[0], 0)
         self.assertTrue(filecmp.cmp(os.path.join(ROOT, 'examples/luff.house'), self.in_copy('examples/luff.house'), shallow=False))
 
     def test_no_kink_where_blocks_meet(self):
-        """The hood's three blocks meet at marks 200 and 400. There the way in and the way out, from control to joint and from joint to control, are one."""
+        """The hood's three blocks meet at marks 200 and 400. There the way in and the way out are one."""
         done = subprocess.run([os.path.join(copy, 'tools', 'run_program'), 'listing'], input=read('examples/hood.house'), capture_output=True, check=True)
-        curves = [line.split() for line in done.stdout.decode('ascii').split('\n')[1:-1]]
-        met = []
-        for left, right in zip(curves, curves[1:]):
-            if right[1] in ('200', '400'):
-                x1, y1, x2, y2 = numbers([pattern_of(text) for text in left[6:]])
-                x3, y3 = numbers([pattern_of(text) for text in right[4:6]])
-                (a, b), (c, d) = (x2 - x1, y2 - y1), (x3 - x2, y3 - y2)
-                met.append(math.degrees(abs(math.atan2(a * d - b * c, a * c + b * d))))
+        pieces = [line.split() for line in done.stdout.decode('ascii').split('\n')[1:-1]]
+        curves = [(piece[1], numbers([pattern_of(text) for text in piece[2:]])) for piece in pieces]
+        met = [kink(before, after) for (_, before), (first, after) in zip(curves, curves[1:]) if first in ('200', '400')]
         self.assertEqual(len(met), 2)
         self.assertLess(max(met), 1e-9)
 

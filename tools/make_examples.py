@@ -150,6 +150,18 @@ def hood():
     return house(0.6, grid(shake(even(shape, 500), 0.08, hand)))
 
 
+def tender():
+    """A tender's cover, traced by hand all the way round and begun amidships: 260 marks, each off by some 0.15 mm. The first one is not given again at the end."""
+    hand = random.Random(5)
+
+    def shape(u):
+        a = 2 * math.pi * u + math.pi / 2
+        c, s = math.cos(a), math.sin(a)
+        x = math.copysign(abs(c) ** 0.8, c)
+        return 1200 * x, 720 * (1 - 0.18 * x) * math.copysign(abs(s) ** 0.75, s)
+    return house(0.8, grid(shake(even(shape, 261), 0.15, hand)[:-1]))
+
+
 def lost():
     """A foot tape whose puck lost the table at mark 11."""
     marks = grid([(80.0 * k, 40 * math.sin(0.28 * k)) for k in range(24)])
@@ -184,7 +196,7 @@ def settle(make, write):
 def main(words):
     if words not in ([], ['--write']):
         raise Stop('usage: tools/make_examples.py [--write]')
-    well = [settle(make, bool(words)) for make in (cover, luff, window, hood, lost, rested)]
+    well = [settle(make, bool(words)) for make in (cover, luff, window, hood, tender, lost, rested)]
     return 0 if all(well) else 1
 
 

@@ -1,6 +1,6 @@
 //! Answers the lines of `replay` (compare/README.md lists them) with the functions of flo_curves, one line of answer for each, for compare/run and
 //! tools/make_vectors.py.
-//! It refuses only where the crate can't be asked: an odd number of coordinates (3), fewer than two marks (1), a dimension above 1 (5).
+//! It refuses only where the crate can't be asked: an odd number of coordinates (3), fewer than two marks, or three of a ring (1), a dimension above 1 (5).
 //! A panic of the crate is PANIC, a nearest search that does not end is ENDLESS.
 //! After a tab may follow what the comparison wants to know: `lost` where an operation on the way was not finite, `depth D` of a search.
 use flo_curves::bezier::*;
@@ -71,7 +71,7 @@ fn whole(w: &str) -> Option<usize> {
 }
 fn numbers(w: &[&str]) -> Option<Vec<f64>> { w.iter().map(|w| number(w)).collect() }
 
-/// The size of a block: `max_points_to_fit`, which the crate keeps to itself. Only the joined fit, which the crate has not, wants it here.
+/// The size of a block: `max_points_to_fit`, which the crate keeps to itself. Only the joined and the ring fit, which the crate has not, want it here.
 fn block_size(n: usize) -> usize {
     if n < 200 { 200 } else { (51..=200).rev().find(|size| n % size >= 50).unwrap_or(50) }
 }
@@ -79,12 +79,14 @@ fn block_size(n: usize) -> usize {
 fn tangent_between<P: Coordinate>(before: P, at: P, after: P) -> P { (((before - at) + (at - after)) * 0.5).to_unit_vector() }
 /// The joined fit: block k from mark k·size to mark (k+1)·size, both included, each by the crate's `fit_curve_cubic`. At a mark where two blocks meet the left one
 /// ends with the tangent between that mark's neighbours and the right one starts with it times -1; at the outline's two ends it is that of the first and the last two marks.
-fn joined<C: BezierCurveFactory>(p: &[C::Point], tolerance: f64) -> Vec<C> {
+/// A ring, whose last mark is its first once more, has no ends: there too the last block meets the first.
+fn joined<C: BezierCurveFactory>(ring: bool, p: &[C::Point], tolerance: f64) -> Vec<C> {
     let (size, last) = (block_size(p.len()), p.len() - 1);
+    let joint = |i: usize| tangent_between(p[if i == 0 { last - 1 } else { i - 1 }], p[i], p[if i == last { 1 } else { i + 1 }]);
     (0..).map(|k| k * size).take_while(|from| *from < last).flat_map(|from| {
         let to = (from + size).min(last);
-        let start = if from == 0 { (p[1] - p[0]).to_unit_vector() } else { tangent_between(p[from - 1], p[from], p[from + 1]) * -1.0 };
-        let end = if to == last { (p[last - 1] - p[last]).to_unit_vector() } else { tangent_between(p[to - 1], p[to], p[to + 1]) };
+        let start = if from == 0 && !ring { (p[1] - p[0]).to_unit_vector() } else { joint(from) * -1.0 };
+        let end = if to == last && !ring { (p[last - 1] - p[last]).to_unit_vector() } else { joint(to) };
         fit_curve_cubic(&p[from..=to], &start, &end, tolerance)
     }).collect()
 }
@@ -93,7 +95,7 @@ fn fit<C: BezierCurveFactory>(kind: &str, tolerance: f64, tangents: Option<(C::P
         ("source", _) => fit_curve(p, tolerance).expect("two marks"),
         ("loop", _) => fit_curve_loop(p, tolerance).expect("two marks"),
         ("direct", Some((s, e))) => fit_curve_cubic(p, &s, &e, tolerance),
-        _ => joined(p, tolerance),
+        _ => joined(kind == "ring", p, tolerance),
     }
 }
 /// Count, first marks, curves and parameters of a fit; the plain run's curves and the watched run's must be the same bits.
@@ -158,12 +160,17 @@ fn search_depth(p: &[Coord2], q: Coord2) -> Option<usize> {
     Some(deepest)
 }
 
+/// The marks of an outline as they are, and those of a ring with the first one once more behind them.
+fn outline(ring: bool, given: &[Coord2]) -> Vec<Coord2> { given.iter().chain(given.first().filter(|_| ring)).copied().collect() }
+fn fewest(ring: bool) -> usize { if ring { 3 } else { 2 } }
+
 /// The list checker by the document's rules; the crate has none. Points and distances are the crate's.
-fn check(tolerance: f64, marks: &[Coord2], firsts: &[usize], curves: &[[f64; 8]], at: &[f64]) -> String {
+fn check(ring: bool, tolerance: f64, given: &[Coord2], firsts: &[usize], curves: &[[f64; 8]], at: &[f64]) -> String {
+    let marks = outline(ring, given);
     let (n, count) = (marks.len(), curves.len());
     let wild = |v: f64| !(v.abs() <= 1_000_000.0);
-    if n < 2 { return "1".into(); }
-    if n > 4096 { return "2".into(); }
+    if given.len() < fewest(ring) { return "1".into(); }
+    if given.len() > 4096 { return "2".into(); }
     if marks.iter().any(|m| wild(m.0) || wild(m.1)) || !(tolerance >= 0.0 && tolerance.is_finite()) { return "5".into(); }
     if count < 1 || count > n - 1 { return "FAULT A 0 0".into(); }
     for k in 0..count {
@@ -185,17 +192,17 @@ fn check(tolerance: f64, marks: &[Coord2], firsts: &[usize], curves: &[[f64; 8]]
     }
     "0".into()
 }
-fn check_line(w: &[&str]) -> Option<String> {
+fn check_line(ring: bool, w: &[&str]) -> Option<String> {
     let n = whole(w.get(1)?)?;
     let count_at = n.checked_mul(2)?.checked_add(2)?;
     let k = whole(w.get(count_at)?)?;
-    if w.len() != count_at + 1 + k.checked_mul(9)? + n { return None; }
+    if w.len() != count_at + 1 + k.checked_mul(9)? + n + usize::from(ring) { return None; }
     let (mut firsts, mut curves) = (vec![], vec![]);
     for c in w[count_at + 1..count_at + 1 + 9 * k].chunks(9) {
         firsts.push(u32::try_from(whole(c[0])?).ok()? as usize);
         curves.push(<[f64; 8]>::try_from(numbers(&c[1..])?).ok()?);
     }
-    Some(check(number(w[0])?, &points(&numbers(&w[2..count_at])?), &firsts, &curves, &numbers(&w[count_at + 1 + 9 * k..])?))
+    Some(check(ring, number(w[0])?, &points(&numbers(&w[2..count_at])?), &firsts, &curves, &numbers(&w[count_at + 1 + 9 * k..])?))
 }
 
 /// One line's answer; None for a line that is none of replay's.
@@ -206,7 +213,7 @@ fn answer(line: &str) -> Option<String> {
     let show = |v: &[Mark]| -> String { let f: Vec<f64> = v.iter().flat_map(|m| [m.0.0, m.0.1]).collect(); format!("0{}", hex(&f)) };
     let wanted = match kind {
         "sqrt" => 1, "basis" | "de_casteljau4" | "subdivide4" | "coefficients" => 9, "de_casteljau3" => 7, "de_casteljau2" => 5, "refine" => 12, "nearest" => 10,
-        "direct" => w.len().max(5), "source" | "loop" | "joined" | "check" => w.len().max(1), _ => return None,
+        "direct" => w.len().max(5), "source" | "loop" | "joined" | "ring" | "check" | "check_ring" => w.len().max(1), _ => return None,
     };
     if w.len() != wanted { return None; }
     Some(match kind {
@@ -244,12 +251,12 @@ fn answer(line: &str) -> Option<String> {
             let off = curve.point_at_pos(t) - p[4];
             format!("0{}\tdepth {}", hex(&[t, off.dot(&off)]), depth)
         }
-        "check" => check_line(w)?,
+        "check" | "check_ring" => check_line(kind == "check_ring", w)?,
         _ => {
             let v = numbers(w)?;
-            let (tolerance, rest) = (v[0], &v[if kind == "direct" { 5 } else { 1 }..]);
+            let (ring, tolerance, rest) = (kind == "ring", v[0], &v[if kind == "direct" { 5 } else { 1 }..]);
             let tangents = if kind == "direct" { Some((Coord2(v[1], v[2]), Coord2(v[3], v[4]))) } else { None };
-            if rest.len() % 2 == 1 { "3".into() } else if rest.len() < 4 { "1".into() } else { fitted(kind, tolerance, tangents, &points(rest)) }
+            if rest.len() % 2 == 1 { "3".into() } else if rest.len() < 2 * fewest(ring) { "1".into() } else { fitted(kind, tolerance, tangents, &outline(ring, &points(rest))) }
         }
     })
 }

@@ -3,6 +3,7 @@ import math
 import struct
 
 from shared.basis import point_at
+from shared.table import LARGEST, MOST_MARKS, marks_refusal
 
 PASSED, FAULT_A, FAULT_B, FAULT_C, FAULT_D, REFUSED = range(6)
 
@@ -14,18 +15,19 @@ def distance(x, y, curve, t):
     return math.sqrt(dx * dx + dy * dy)
 
 
-def refusal(marks, tolerance, claimed, curves, firsts, params):
-    """3, 1, 2, 4 or 5, in this order, or 0."""
-    count = len(marks) // 2
-    if len(marks) % 2:
-        return 3
-    if count < 2:
-        return 1
-    if count > 4096:
-        return 2
-    if len(curves) < 8 * claimed or len(firsts) < claimed or len(params) < count:
+def closed(marks):
+    """The marks of a ring, x and y in turn, with mark 0 once more behind them."""
+    return marks + marks[:2]
+
+
+def refusal(marks, tolerance, claimed, curves, firsts, params, ring=False):
+    """3, 1, 2, 4 or 5, in this order, or 0. A ring has a parameter more than it has marks."""
+    number = marks_refusal(len(marks), MOST_MARKS, ring)
+    if number:
+        return number
+    if len(curves) < 8 * claimed or len(firsts) < claimed or len(params) < len(marks) // 2 + ring:
         return 4
-    if any(not abs(value) <= 1e6 for value in marks):
+    if any(not abs(value) <= LARGEST for value in marks):
         return 5
     return 0 if math.isfinite(tolerance) and tolerance >= 0 else 5
 
@@ -66,11 +68,13 @@ def curve_fault(marks, tolerance, k, curve, first, end, params):
     return None
 
 
-def check(marks, tolerance, claimed, curves, firsts, params):
-    """(kind, curve, mark), or (REFUSED, number, 0). All are floats but the claimed number of curves and the first marks."""
-    number = refusal(marks, tolerance, claimed, curves, firsts, params)
+def check(marks, tolerance, claimed, curves, firsts, params, ring=False):
+    """(kind, curve, mark), or (REFUSED, number, 0). All are floats but the claimed number of curves and the first marks. The list of a ring is judged as
+    any other, over the marks with mark 0 once more behind them."""
+    number = refusal(marks, tolerance, claimed, curves, firsts, params, ring)
     if number:
         return REFUSED, number, 0
+    marks = closed(marks) if ring else marks
     count = len(marks) // 2
     fault = first_marks_fault(count, claimed, firsts)
     for k in range(claimed):

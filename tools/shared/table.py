@@ -8,7 +8,7 @@ LARGEST_TANGENT = 2.0   # a tangent's component
 MOST_ROUNDS = 64
 MOST_MARKS = 4096
 MOST_DIRECT = 512       # marks of the direct fit and of the listing
-FITS = ('source', 'loop', 'direct', 'joined')
+FITS = ('source', 'loop', 'direct', 'joined', 'ring')
 
 
 def outside(words, limit):
@@ -24,11 +24,11 @@ def fit_marks(words):
     return words[6:] if words[0] == 'direct' else words[2:]
 
 
-def marks_refusal(count, most):
-    """3, 1 or 2 for so many coordinates, or 0."""
+def marks_refusal(count, most, ring=False):
+    """3, 1 or 2 for so many coordinates, or 0. A ring has three marks or more, and its first mark is counted once."""
     if count % 2:
         return 3
-    if count < 4:
+    if count // 2 < (3 if ring else 2):
         return 1
     return 2 if count // 2 > most else 0
 
@@ -42,7 +42,7 @@ def fit_range(words):
 
 def fit_refusal(words, room_is_short=False):
     most = MOST_DIRECT if words[0] == 'direct' else MOST_MARKS
-    return marks_refusal(len(fit_marks(words)), most) or (4 if room_is_short else fit_range(words))
+    return marks_refusal(len(fit_marks(words)), most, words[0] == 'ring') or (4 if room_is_short else fit_range(words))
 
 
 def refusal(words):

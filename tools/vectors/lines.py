@@ -15,9 +15,10 @@ NAME = 'replay'
 ROOM = 1 << 20     # bytes of a line that the program has room for
 MOST_MARKS = 4200  # marks of a line
 KEPT_CURVES = 230  # calls on single curves, 30 of them refused by 6
-KEPT_OUTLINES = 134
-KEPT_LISTS = 16    # sound lists, the last five with changed copies
-COLLECTED = {'curves': single.KINDS, 'outlines': FITS, 'lists': ['check']}
+KEPT_OUTLINES = 164
+KEPT_LISTS = 24    # sound lists, seven of them with changed copies
+CHECKS = ('check', 'check_ring')
+COLLECTED = {'curves': single.KINDS, 'outlines': FITS, 'lists': CHECKS}
 
 
 def values(*floats):
@@ -57,12 +58,14 @@ def outline_borders():
 
 
 def long_lines():
-    """More marks than the fits take, and more than a line holds. The marks are all one, so that the input packs well."""
+    """More marks than the fits take, as many as a ring takes, and more than a line holds. The marks are all one, so that the input packs well."""
     mark = values(1, 2)
     tolerance = values(0.5)
     return [
         (' '.join(['joined', tolerance] + [mark] * MOST_MARKS), '2'),
         (' '.join(['direct', values(0.5, 1, 0, 0, 1)] + [mark] * 513), '2'),
+        (' '.join(['ring', tolerance] + [mark] * MOST_MARKS), '2'),
+        (' '.join(['ring', tolerance] + [mark] * 4096), '6'),
         (' '.join(['source', tolerance] + [mark] * MOST_MARKS + [values(1)]), 'BAD'),
         (' '.join(['joined', tolerance] + [mark] * (MOST_MARKS + 1)), 'BAD')]
 
@@ -70,8 +73,8 @@ def long_lines():
 # ---- lists
 
 def claim_of(line):
-    """The list on a line of `check`."""
-    _, tolerance, count, *rest = line.split(' ')
+    """The list on a line of `check` or `check_ring`."""
+    kind, tolerance, count, *rest = line.split(' ')
     count = int(count)
     marks, rest = rest[:2 * count], rest[2 * count:]
     claimed, rest = int(rest[0]), rest[1:]
@@ -80,7 +83,7 @@ def claim_of(line):
     def floats(texts):
         return numbers([pattern_of(text) for text in texts])
     curves = floats(text for nine in nines for text in nine[1:])
-    return lists.Claim(floats([tolerance])[0], floats(marks), claimed, curves, [int(nine[0]) for nine in nines], floats(rest[9 * claimed:]))
+    return lists.Claim(floats([tolerance])[0], floats(marks), claimed, curves, [int(nine[0]) for nine in nines], floats(rest[9 * claimed:]), kind == 'check_ring')
 
 
 def judged(line):
@@ -89,9 +92,13 @@ def judged(line):
 
 def spoilt(line):
     """A list that passes, and the same with one thing changed."""
-    tolerance, marks, curves, params = claim_of(line).parts()
-    put, check_line = lists.put, lists.check_line
-    count, last = len(params), len(curves) - 1
+    claim = claim_of(line)
+    tolerance, marks, curves, params = claim.parts()
+    put = lists.put
+    count, last = claim.places(), len(curves) - 1
+
+    def check_line(*parts):
+        return lists.check_line(claim.ring, *parts)
 
     def with_curves(other):
         return check_line(tolerance, marks, other, params)
@@ -123,8 +130,8 @@ def spoilt(line):
         yield check_line(other, marks, curves, params)
     for pattern in (NAN, INFINITY, outlines.ABOVE, marks[3] ^ 1):
         yield check_line(tolerance, put(marks, 3, pattern), curves, params)
-    yield check_line(tolerance, marks[:2], [], params[:1])
-    yield check_line(tolerance, [], [], [])
+    for few in range(2 if claim.ring else 1, -1, -1):
+        yield check_line(tolerance, marks[:2 * few], [], params[:few + claim.ring])
 
 
 # ---- lines that are no case
@@ -133,11 +140,13 @@ ARCH = words(single.ARCH)
 QUERY = values(0.5, 2)
 HALF = values(0.5)
 TWO = values(0, 0, 4, 0)
+THREE = values(0, 0, 4, 0, 4, 4)
 GOOD = [
     f'sqrt {HALF}', f'basis {HALF} {ARCH}', f'de_casteljau4 {HALF} {ARCH}', f'coefficients 1 {ARCH}', f'subdivide4 {HALF} {ARCH}',
     f'de_casteljau3 {HALF} {values(0, 0, 1, 0, 2, 0)}', f'de_casteljau2 {HALF} {TWO}', f'refine {ARCH} {QUERY} {HALF} 3', f'nearest {ARCH} {QUERY}',
     f'direct {HALF} {values(1, 0, -1, 0)} {TWO}', f'source {HALF} {TWO}', f'loop {HALF} {TWO}', f'joined {HALF} {TWO}',
-    f'check {HALF} 2 {TWO} 1 0 {values(0, 0, 1.32, 0, 2.64, 0, 4, 0)} {values(0, 1)}']
+    f'check {HALF} 2 {TWO} 1 0 {values(0, 0, 1.32, 0, 2.64, 0, 4, 0)} {values(0, 1)}', f'ring {HALF} {THREE}',
+    f'check_ring {HALF} 3 {THREE} 1 0 {values(0, 0, 8, 0, 4, 8, 0, 0)} {values(0, 0.25, 0.75, 1)}']
 
 
 def misspelt(line):
@@ -149,33 +158,45 @@ def misspelt(line):
         name.upper() + ' ' + rest, name[:-1] + ' ' + rest, name + 'x ' + rest, line[:-1], line + '+']
     for digit in 'G@/:':
         yield head + ' ' + digit * 16
-    if name not in ('source', 'loop', 'joined', 'direct'):
+    if name not in FITS:
         yield from [head, f'{line} {HALF}', line + ' 1']
     if HALF in line:
         for other in ('3fe0000000000000', '3FE000000000000', '3FE00000000000000', '0x3FE00000000000', '+3FE000000000000', '0.5'):
             yield line.replace(HALF, other, 1)
 
 
-def counted(marks='2', curves='1', first='0', params=values(0, 1)):
-    return f'check {HALF} {marks} {TWO} {curves} {first} {ARCH} {params}'
+COUNTED = {'check': ('2', TWO, values(0, 1)), 'check_ring': ('3', THREE, values(0, 0, 0, 1))}  # marks and parameters of a well-formed line
+
+
+def counted(kind, count=None, curves='1', first='0', params=None):
+    right, marks, times = COUNTED[kind]
+    return f'{kind} {HALF} {right if count is None else count} {marks} {curves} {first} {ARCH} {times if params is None else params}'
 
 
 def miscounted():
     """Whole numbers that are none, and counts that are others than the line has."""
     for text in ('', '-1', '+1', '01', '00', '1.0', '1e0', '0x1', 'A', '18446744073709551616', '99999999999999999999', '100000000000000000000', '1' * 40):
-        yield from [
-            f'coefficients {text} {ARCH}', f'refine {ARCH} {QUERY} {HALF} {text}', counted(marks=text), counted(curves=text), counted(first=text)]
-    for text in ('0', '1', '3', '4201', '18446744073709551615'):
-        yield counted(marks=text)
-        yield counted(curves=text) if text != '1' else 'x'
-    for text in ('4294967296', '18446744073709551615'):
-        yield counted(first=text)
-    yield from [counted(params=values(0)), counted(params=values(0, 1, 1)), f'check {HALF} 2 {TWO}', f'check {HALF} 2 {TWO} 0', f'check {HALF}', f'check {HALF} 0']
+        yield from [f'coefficients {text} {ARCH}', f'refine {ARCH} {QUERY} {HALF} {text}']
+        for kind in CHECKS:
+            yield from [counted(kind, count=text), counted(kind, curves=text), counted(kind, first=text)]
+    for kind in CHECKS:
+        right, marks, _ = COUNTED[kind]
+        for text in ('0', '1', '2', '3', '4', '4201', '18446744073709551615'):
+            if text != right:
+                yield counted(kind, count=text)
+            if text != '1':
+                yield counted(kind, curves=text)
+        for text in ('4294967296', '18446744073709551615'):
+            yield counted(kind, first=text)
+        for params in (values(0), values(0, 1), values(0, 0, 1), values(0, 0, 0, 1), values(0, 0, 0, 0, 1)):
+            if params != COUNTED[kind][2]:
+                yield counted(kind, params=params)
+        yield from [f'{kind} {HALF} {right} {marks}', f'{kind} {HALF} {right} {marks} 0', f'{kind} {HALF}', f'{kind} {HALF} 0']
 
 
 def bad():
     yield from ['', ' ', '  ', 'BAD', 'x', '0', HALF]
-    yield from ['sqrt', 'basis', 'coefficients', 'refine', 'nearest', 'direct', 'source', 'loop', 'joined', 'check']
+    yield from ['sqrt', 'basis', 'coefficients', 'refine', 'nearest', *FITS, *CHECKS]
     for line in GOOD:
         yield from misspelt(line)
     yield from [f'direct {HALF} {values(1, 0, -1)}', f'direct {HALF}']
@@ -196,7 +217,7 @@ def nans():
     for text in ('7FF0000000000001', '7FFFFFFFFFFFFFFF', 'FFF0000000000001', 'FFF8000000000000', 'FFFFFFFFFFFFFFFF'):
         yield from [
             (f'sqrt {text}', f'0 {word(NAN)}'), (f'basis {text} {ARCH}', '5'), (f'nearest {ARCH} {text} {values(1)}', '5'), (f'source {text} {ARCH}', '5'),
-            (f'joined {HALF} {ARCH} {text} {values(1)}', '5')]
+            (f'joined {HALF} {ARCH} {text} {values(1)}', '5'), (f'ring {HALF} {ARCH} {text} {values(1)}', '5')]
 
 
 # ---- the file

@@ -1,9 +1,9 @@
-"""fit_cases: outlines by the four fits.
+"""fit_cases: outlines by the five fits.
 
 A record is eleven words (which fit, how many numbers the marks have, the rooms for curves, first marks and parameters, whether lists are
 printed, tolerance, tangents) and the marks. A line says 0 and how many curves, or the refusal, and of each lent slice how many places are as
 before, how many are plus zero, and a digest. The lists are the Rust's, 6 is where one of its operations was not finite, and what else is refused,
-and what the slices hold then, is by the document's table. The first 454 outlines are read from the kept input; both sides of each line of the document
+and what the slices hold then, is by the document's table. The first KEPT outlines are read from the kept input; both sides of each line of the document
 come from `borders`."""
 import itertools
 import math
@@ -13,7 +13,7 @@ from shared.table import FITS, fit_refusal
 from shared.words import INFINITY, MINUS, NAN, bits, digest_of, number, numbers, pattern_of, patterns_of, words
 
 NAME = 'fit_cases'
-KEPT = 454
+KEPT = 551
 HEAD = 11
 SHORT = 64  # marks of which lists are printed
 BEFORE, BEFORE_FIRST = bits(7.5), 7  # what the lent slices hold
@@ -22,9 +22,10 @@ ABOVE = bits(math.nextafter(1e6, math.inf))
 ABOVE_TWO = bits(math.nextafter(2.0, math.inf))
 
 
-def room_for(count, curves=0, firsts=0, params=0):
-    """The room that so many marks want, with more or less of each."""
-    return [8 * (count - 1) + curves, count - 1 + firsts, count + params]
+def room_for(kind, count, curves=0, firsts=0, params=0):
+    """The room that so many marks want, with more or less of each. A ring has a curve and a parameter more."""
+    most = count if kind == 'ring' else count - 1
+    return [8 * most + curves, most + firsts, most + 1 + params]
 
 
 class Outline:
@@ -34,7 +35,7 @@ class Outline:
         self.kind, self.tolerance, self.marks = kind, tolerance, marks
         self.tangents = tangents or NO_TANGENTS
         self.count = len(marks) // 2
-        self.room = room or room_for(self.count)
+        self.room = room or room_for(kind, self.count)
         self.lists = self.count <= SHORT if lists is None else lists
 
     def line(self):
@@ -47,7 +48,7 @@ class Outline:
 
     def refusal(self):
         """The table's, with 4 in its place."""
-        wanted = room_for(self.count)
+        wanted = room_for(self.kind, self.count)
         short = any(have < want for have, want in zip(self.room, wanted))
         return fit_refusal(self.line().split(' '), short)
 
@@ -107,7 +108,7 @@ def few_marks(kind):
     yield taken(kind, THOUSANDTH, LINE_OF_THREE)
     yield taken(kind, THOUSANDTH, LINE_OF_TWO)
     yield taken(kind, THOUSANDTH, ON_ONE_SPOT[:4])
-    yield Outline(kind, THOUSANDTH, ON_ONE_SPOT, room_for(3, 8, 1, 1))
+    yield Outline(kind, THOUSANDTH, ON_ONE_SPOT, room_for(kind, 3, 8, 1, 1))
     for room in ([0, 0, 0], [16, 3, 4]):
         yield Outline(kind, THOUSANDTH, [], room)
         yield Outline(kind, THOUSANDTH, patterns_of(1, 2), room)
@@ -118,9 +119,9 @@ def few_marks(kind):
 
 def rooms(kind, arc):
     yield taken(kind, THOUSANDTH, arc(9))
-    yield taken(kind, THOUSANDTH, arc(9), room_for(9, 1, 1, 1))
+    yield taken(kind, THOUSANDTH, arc(9), room_for(kind, 9, 1, 1, 1))
     for less in ((-1, 0, 0), (-8, 0, 0), (0, -1, 0), (0, 0, -1), (-8, -1, -1)):
-        yield Outline(kind, THOUSANDTH, arc(9), room_for(9, *less))
+        yield Outline(kind, THOUSANDTH, arc(9), room_for(kind, 9, *less))
     yield Outline(kind, THOUSANDTH, arc(2), [0, 0, 1])
 
 
@@ -144,6 +145,33 @@ def orders(kind, arc):
     yield Outline(kind, NAN, ON_ONE_SPOT)
 
 
+def saw(count):
+    """Teeth, in whole numbers: at tolerance 0 every curve has two marks, so that a ring of the most marks fills its room."""
+    return patterns_of(*(value for i in range(count) for value in (37 * i % 1024, i * i % 11)))
+
+
+def rings(arc):
+    """What a ring alone has: one mark less is too few, the room is for one curve more, and the last mark may be the first."""
+    for count in (1, 2):
+        yield Outline('ring', THOUSANDTH, arc(3)[:2 * count])
+        yield Outline('ring', NAN, arc(3)[:2 * count], [0, 0, 0])
+    for less in ((-1, 0, 0), (0, -1, 0), (0, 0, -1), (0, 0, 0)):
+        yield Outline('ring', THOUSANDTH, arc(3), room_for('ring', 3, *less))
+    for count in (3, 4, 198):
+        yield Outline('ring', THOUSANDTH, arc(count))
+    for marks in (LINE_OF_TWO, LINE_OF_THREE, arc(9), arc(198), arc(199)):  # the first mark once more, and twice
+        yield Outline('ring', THOUSANDTH, marks + marks[:2])
+        yield Outline('ring', THOUSANDTH, marks + marks[:2] * 2)
+    for count in (2, 4, 199, 200):
+        yield Outline('ring', THOUSANDTH, ON_ONE_SPOT[:2] * count)
+    for count in (4095, 4096):
+        yield Outline('ring', 0, saw(count))
+    for less in ((-1, 0, 0), (0, -1, 0), (0, 0, -1)):
+        yield Outline('ring', THOUSANDTH, arc(200), room_for('ring', 200, *less))
+    yield Outline('ring', THOUSANDTH, saw(4097), room_for('ring', 4096))
+    yield Outline('ring', NAN, [NAN] + saw(4097)[1:], [0, 0, 0])
+
+
 def borders(arc):
     for kind in FITS:
         yield from few_marks(kind)
@@ -157,9 +185,10 @@ def borders(arc):
     yield Outline('source', THOUSANDTH, arc(4097))
     yield Outline('direct', THOUSANDTH, arc(513))
     yield Outline('direct', NAN, arc(513), [0, 0, 0])
-    for kind in ('source', 'loop', 'joined'):
+    for kind in ('source', 'loop', 'joined', 'ring'):
         for count in (199, 200, 201, 249, 250, 400):
             yield taken(kind, THOUSANDTH, arc(count))
+    yield from rings(arc)
 
 
 def kept_borders():

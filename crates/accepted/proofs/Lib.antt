@@ -1,5 +1,5 @@
 pub mod Within
-pub mod Joined
+pub mod ByBlocks
 pub mod Laid
 pub mod Runs
 pub mod Pieces

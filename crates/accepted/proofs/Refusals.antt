@@ -18,15 +18,19 @@ use Rattle.part.proofs.Ends.{Stops}
 use Rattle.cut.specs.Run.{Run, refused, done, join, turned, runOf}
 use Rattle.tangents.specs.declared.Ways.{Ways}
 use Rattle.cut.proofs.Run.{run-ind}
+use Rattle.ring.specs.Ring.{again}
+use Rattle.ring.specs.declared.Outline.{Outline}
+use Rattle.ring.specs.declared.Outline.the-variants.{Open}
+use Rattle.ring.proofs.Whole.{whole-even}
 use Rattle.gate.specs.Gate.{inRange, tolerable, refuse, gateFor, gateOf}
-use Rattle.gate.proofs.Tests.{passed-for}
+use Rattle.gate.proofs.Tests.{passed, passed-even}
 use Rattle.tangents.specs.declared.Cutting.{Cutting}
-use Rattle.blocks.specs.Blocks.{blockOf, lastOf, blocks, blocksFrom, blocksOf}
-use Rattle.tangents.specs.Ways.{over, waysOf}
+use Rattle.blocks.specs.Blocks.{blockAt, blockOf, lastOf, blocks, blocksFrom, blocksOf}
+use Rattle.tangents.specs.Ways.{over, outlineOf, marksOf, waysOf}
 use Rattle.fit.specs.Fit.{Ending, fittedAnswer, ending, ended, entered, fitOf, areTangents, cubicGate, cubicOf}
 use Rattle.fit.proofs.Entries.{size-within, cubic-passed}
 use Rattle.accepted.specs.Refusals.{Before, Inside, FitRefuses, DirectRefuses}
-use Rattle.accepted.proofs.Within.{blockAt, block-count}
+use Rattle.accepted.proofs.Within.{block-count}
 
 -- ---- a run refuses by 6 or 7
 
@@ -76,25 +80,25 @@ one-of : (b : Bool) (q n : ℕ) → q ≤ 5 → n ≤ 5 → refuse b q n ≤ 5
 one-of true q n h l = h
 one-of false q n h l = l
 
-gate-most : (top k : ℕ) (ms : List Float) (tol : Float) (c f p : ℕ) → gateFor top k ms tol c f p ≤ 5
+gate-most : (top : ℕ) (o : Outline) (k : ℕ) (ms : List Float) (tol : Float) (c f p : ℕ) → gateFor top o k ms tol c f p ≤ 5
 unfolding gateFor
-gate-most top k ms tol c f p =
+gate-most top o k ms tol c f p =
     one-of (not (eqb (length ms % 2) 0)) 3 _ (omega arith)
-    (one-of (ltb (count ms) 2) 1 _ (omega arith)
+    (one-of (ltb (count ms) (again o + 2)) 1 _ (omega arith)
     (one-of (ltb top (count ms)) 2 _ (omega arith)
     (one-of (ltb c (8 * k)) 4 _ (omega arith)
     (one-of (ltb f k) 4 _ (omega arith)
-    (one-of (ltb p (count ms)) 4 _ (omega arith)
+    (one-of (ltb p (again o + count ms)) 4 _ (omega arith)
     (one-of (not (inRange ms)) 5 _ (omega arith)
     (one-of (not (tolerable tol)) 5 0 (omega arith) (omega arith))))))))
 
 cubic-most : (ms : List Float) (s e : Point) (tol : Float) (c f p : ℕ) → cubicGate ms s e tol c f p ≤ 5
 unfolding cubicGate
-cubic-most ms s e tol c f p = go (eqb (gateOf 512 ms tol c f p) 0)
+cubic-most ms s e tol c f p = go (eqb (gateOf 512 Open ms tol c f p) 0)
   where
-    go : (b : Bool) → cond b (refuse (not (areTangents s e)) 5 0) (gateOf 512 ms tol c f p) ≤ 5
+    go : (b : Bool) → cond b (refuse (not (areTangents s e)) 5 0) (gateOf 512 Open ms tol c f p) ≤ 5
     go true = one-of (not (areTangents s e)) 5 0 (omega arith) (omega arith)
-    go false = gate-most 512 (count ms - 1) ms tol c f p
+    go false = gate-most 512 Open (0 + count ms - 1) ms tol c f p
 
 -- ---- a call that is refused
 
@@ -127,22 +131,24 @@ module _ (q g : ℕ) (R : Run) (C C′ : List Float) (F F′ : List ℕ) (P P′
 pub fit-refuses : FitRefuses
 unfolding fittedAnswer fitOf blocksOf
 fit-refuses k ms tol q C C′ F F′ P P′ h =
-    refuses q g (blocksOf k ms (blockSize (count ms)) tol) C C′ F F′ P P′ (gate-most 4096 (count ms - 1) ms tol (length C) (length F) (length P)) stops h
+    refuses q g (blocksOf k ws (blockSize (count ws)) tol) C C′ F F′ P P′ (gate-most 4096 (outlineOf k) (again (outlineOf k) + count ms - 1) ms tol (length C) (length F) (length P)) stops h
   where
-    g : ℕ
-    g = gateOf 4096 ms tol (length C) (length F) (length P)
+    ws : List Float
+    ws = marksOf k ms
 
-    stops : g ≡ 0 → Stopped (blocksOf k ms (blockSize (count ms)) tol)
+    g : ℕ
+    g = gateOf 4096 (outlineOf k) ms tol (length C) (length F) (length P)
+
+    stops : g ≡ 0 → Stopped (blocksOf k ws (blockSize (count ws)) tol)
     stops z =
-        let p = passed-for 4096 (count ms - 1) ms tol (length C) (length F) (length P) z in
-        let t = p .two in
-        let even : length ms ≡ 2 * count ms = let e = p .even in omega arith in
-        blocks-stop k ms (count ms) (blockSize (count ms)) tol even (size-within (count ms) (blockSize (count ms)) refl .0) (omega arith)
+        let e = whole-even (outlineOf k) ms (passed-even (passed 4096 (outlineOf k) ms tol (length C) (length F) (length P) z)) in
+        let even : length ws ≡ 2 * count ws = omega (arith, e) in
+        blocks-stop k ws (count ws) (blockSize (count ws)) tol even (size-within (count ws) (blockSize (count ws)) refl .0) (e .1)
 
 pub direct-refuses : DirectRefuses
 unfolding fittedAnswer cubicOf
 direct-refuses ms s e tol q C C′ F F′ P P′ h =
-    refuses q g (runOf ms 0 s e tol) C C′ F F′ P P′ (cubic-most ms s e tol (length C) (length F) (length P)) (λ z. run-stops ms 0 s e tol (cubic-passed ms s e tol (length C) (length F) (length P) g refl z .two)) h
+    refuses q g (runOf ms 0 s e tol) C C′ F F′ P P′ (cubic-most ms s e tol (length C) (length F) (length P)) (λ z. run-stops ms 0 s e tol (let p = cubic-passed ms s e tol (length C) (length F) (length P) g refl z .two in omega arith)) h
   where
     g : ℕ
     g = cubicGate ms s e tol (length C) (length F) (length P)

@@ -15,13 +15,14 @@ use Rattle.part.proofs.Ends.{Sound}
 use Rattle.cut.specs.Run.{Run, refused, done, flat, leftOf, rightOf, join, runOf}
 use Rattle.tangents.specs.declared.Ways.{Ways}
 use Rattle.cut.proofs.Run.{run-by, left-count, right-count}
-use Rattle.tangents.specs.declared.Cutting.the-variants.{Joined}
-use Rattle.blocks.specs.Blocks.{blocksFrom}
+use Rattle.tangents.specs.declared.Cutting.{Cutting}
+use Rattle.tangents.specs.Ways.{over}
+use Rattle.blocks.specs.Blocks.{blockAt, blocksFrom}
 use Rattle.ends.specs.Ends.{FitsP, Near}
 use Rattle.ends.proofs.Lines.{WP}
 use Rattle.ends.proofs.Accepted.{Marked, Fits, Accepted, part-accepted}
-use Rattle.accepted.proofs.Within.{Within, within-left, within-right, blockAt, block-count, block-within}
-use Rattle.accepted.proofs.Joined.{blocks-by}
+use Rattle.accepted.proofs.Within.{Within, within-left, within-right, block-count, block-within}
+use Rattle.accepted.proofs.ByBlocks.{blocks-by}
 use Rattle.accepted.proofs.Laid.{Laid, last, laid-append}
 
 -- marks among others that are in range are in range
@@ -80,7 +81,7 @@ module _ (tol : Float) (t : Le f0 tol) where
       let z : 0 + (count ms - 1) ≡ count ms - 1 = omega arith in
       subst (λ (x : ℕ). Laid ms tol 0 x cs fs ps) z (l m ms (own ms))
 
-  -- the joined fit's
+  -- a fit's by blocks that meet
   module _ (ms : List Float) (n size : ℕ) (even : length ms ≡ 2 * n) (m : Marked ms) where
     block-laid : (from to : ℕ) (w : Ways) (cs : List Float) (fs : List ℕ) (ps : List Float) → from + 2 ≤ to → to ≤ n → runOf (blockAt ms from to) from (w .start) (w .end) tol ≡ done cs fs ps
         → Laid ms tol from (to - 1) cs fs ps
@@ -95,5 +96,5 @@ module _ (tol : Float) (t : Le f0 tol) where
         inside : (a b i : ℕ) → a ≡ to - from → b ≡ n → i < a → from + i < b
         inside a b i p q r = omega arith
 
-    pub blocks-laid : (cs : List Float) (fs : List ℕ) (ps : List Float) → 0 < size → 2 ≤ n → blocksFrom Joined ms n size tol 0 ≡ done cs fs ps → Laid ms tol 0 (n - 1) cs fs ps
-    blocks-laid = blocks-by ms n size tol (Laid ms tol) block-laid (λ f g e cs cs′ fs fs′ ps ps′ l x y. laid-append x y)
+    pub blocks-laid : (k : Cutting) → over k ≡ 1 → (cs : List Float) (fs : List ℕ) (ps : List Float) → 0 < size → 2 ≤ n → blocksFrom k ms n size tol 0 ≡ done cs fs ps → Laid ms tol 0 (n - 1) cs fs ps
+    blocks-laid k meet = blocks-by k meet ms n size tol (Laid ms tol) block-laid (λ f g e cs cs′ fs fs′ ps ps′ l x y. laid-append x y)

@@ -1,13 +1,13 @@
--- Demand 3: every list that the joined or the direct fit accepts is sound, with the same marks and tolerance. Assumes nothing.
+-- Demand 3: every list that the joined, the ring or the direct fit accepts is sound, with the same marks and tolerance. Assumes nothing.
 use mathlib.Core.Path.{_≡_, refl, sym, ap, _∙_, subst}
 use mathlib.Core.Bool.{Bool, true, false, cond}
 use mathlib.Core.List.{List, [], _∷_, _++_}
 use Prim.Native.Nat.{ℕ, zero, suc, _+_, _-_, _*_, _≤_, _<_}
 use native.Mathlib.Omega.{arith}
-use lib.Dec.{T, eqb}
+use lib.Dec.{T, eqb, ltb}
 use lib.ListN.{length, drop, getD, length-append}
 use lib.Ieee.{Float, nan, binary64, toBits, eq, le, ofBits}
-use borrow.Author.Tests.{eqb-true}
+use borrow.Author.Tests.{eqb-true, ltb-true, ltb-false}
 use Rattle.float.specs.Number.{f0, f1, finite}
 use Rattle.float.specs.Answer.{Answer, ok}
 use Rattle.float.specs.Answer.{refused as no}
@@ -18,14 +18,21 @@ use Rattle.plane.specs.Range.{coordinate}
 use Rattle.plane.proofs.Fine.{good-point}
 use Rattle.plane.proofs.Ranges.{coordinate-fits}
 use Rattle.marks.specs.Marks.{count, markAt}
+use Rattle.ring.specs.Ring.{again, whole, Even}
+use Rattle.ring.specs.declared.Outline.{Outline}
+use Rattle.ring.specs.declared.Outline.the-variants.{Open, Closed}
+use Rattle.ring.proofs.Whole.{whole-length, whole-count, given, comes-back}
 use Rattle.squares.proofs.Controls.{GoodCurve}
 use Rattle.numbers.specs.Words.{one, Zero}
 use Rattle.ends.proofs.Accepted.{Marked}
-use Rattle.ends.proofs.Lines.{coordinate-w}
+use Rattle.ends.specs.Ends.{FitsP}
+use Rattle.ends.proofs.Lines.{WP, coordinate-w}
 use Rattle.gate.specs.Gate.{inRange, tolerable, gateFor, gateOf}
-use Rattle.gate.proofs.Tests.{PassedFor, passed-for, passes}
+use Rattle.gate.proofs.Tests.{PassedFor, passed-for, passed-even, passes, Passed, passed}
 use Rattle.cut.specs.Run.{Run, refused, done, runOf}
-use Rattle.tangents.specs.declared.Cutting.the-variants.{Joined}
+use Rattle.tangents.specs.Ways.{over, outlineOf, marksOf}
+use Rattle.tangents.specs.declared.Cutting.{Cutting}
+use Rattle.tangents.specs.declared.Cutting.the-variants.{Joined, Ring}
 use Rattle.blocks.specs.Blocks.{blocksOf}
 use Rattle.marks.specs.Block.{blockSize}
 use Rattle.fit.specs.Fit.{Ending, fittedAnswer, ending, ended, entered, fitOf, cubicGate, cubicOf}
@@ -37,7 +44,9 @@ use Rattle.checker.specs.declared.Checked.the-variants as checked
 use Rattle.sound.specs.Sound.{Sound, SamePoint}
 use Rattle.sound.proofs.Sound.{sound-passes}
 use Rattle.sound.proofs.Agree.{same-checked}
-use Rattle.accepted.specs.Passes.{JoinedPasses, DirectPasses}
+use Rattle.sound.proofs.Closes.{sound-closes}
+use Rattle.accepted.specs.Passes.{BlocksPass, JoinedPasses, RingPasses, DirectPasses}
+use Rattle.accepted.specs.Closes.{FitCloses}
 use Rattle.accepted.proofs.Laid.{Laid, laid-many, laid-curves}
 use Rattle.accepted.proofs.Runs.{run-laid, blocks-laid}
 use Rattle.accepted.proofs.Pieces.{Piece, laid-first, laid-some, laid-one, laid-unit, laid-piece}
@@ -97,6 +106,21 @@ marked ms r k l =
     let b = in-range-at ms r (2 * k + 1) (omega arith) in
     ((subst T (sym (coordinate-fits _ a)) tt, subst T (sym (coordinate-fits _ b)) tt), (coordinate-w _ a, coordinate-w _ b))
 
+-- mark 0 again is a mark as well
+abbrev Good : Point → Type 0
+Good p = FitsP p × WP 20 p
+
+marked-whole : (o : Outline) (ms : List Float) → Even ms → Marked ms → Marked (whole o ms)
+marked-whole Open ms e m k l = m k l
+marked-whole Closed ms e m k l = go (ltb k (count ms)) refl
+  where
+    go : (b : Bool) → ltb k (count ms) ≡ b → Good (markAt (whole Closed ms) k)
+    go true t = let h = ltb-true k (count ms) t in subst Good (sym (given Closed ms k (omega arith))) (m k h)
+    go false t =
+        let h = ltb-false k (count ms) t in
+        let n = whole-count Closed ms e in
+        subst Good (sym (comes-back ms k e (omega arith))) (m 0 (e .1))
+
 -- ---- a call that is accepted
 
 -- what an accepted call leaves is a run's list over the lent slices
@@ -135,64 +159,94 @@ accepted-done ms tol k C C′ F F′ P P′ g R h = go (eqb g 0) refl h
     go false e h = let a : _≡_ {A = Answer ℕ} (ok k) (no g) = ap (λ (x : Ending). x .answer) h in let y : _≡_ {A = ℕ} 0 1 = cc in absurd (omega arith)
 
 -- a list laid by an accepted call is sound, and the checker does not refuse it
-pub record Passing (ms : List Float) (tol : Float) (k : ℕ) (C : List Float) (F : List ℕ) (P : List Float) : Type 0 where
-  pub taken : gateFor 4096 k ms tol (length C) (length F) (length P) ≡ 0
-  pub sound : Sound ms tol k C F P
+pub record Passing (o : Outline) (ms : List Float) (tol : Float) (k : ℕ) (C : List Float) (F : List ℕ) (P : List Float) : Type 0 where
+  pub taken : gateFor 4096 o k ms tol (length C) (length F) (length P) ≡ 0
+  pub sound : Sound (whole o ms) tol k C F P
 
-laid-passing : (ms : List Float) (tol : Float) (k top : ℕ) (cs C : List Float) (fs F : List ℕ) (ps P : List Float) → top ≤ 4096 → PassedFor top (count ms - 1) ms tol (length C) (length F) (length P) → k ≡ length fs
-    → Laid ms tol 0 (count ms - 1) cs fs ps → Passing ms tol k (written cs C) (written fs F) (written ps P)
-laid-passing ms tol k top cs C fs F ps P t g e l = rw e (record { taken = passes 4096 (length fs) ms tol _ _ _ room; sound = laid-sound ms tol cs fs ps _ _ _ (g .two) l })
-  where
-    room : PassedFor 4096 (length fs) ms tol (length (written cs C)) (length (written fs F)) (length (written ps P))
-    room =
-        let a = laid-curves l in
-        let b = laid-many l in
-        let two = g .two in
-        let most = g .most in
-        let x = length-append cs (drop (length cs) C) in
-        let y = length-append fs (drop (length fs) F) in
-        let z = length-append ps (drop (length ps) P) in
-        record { even = g .even; two = two; most = omega arith; curves = omega arith; firsts = omega arith; params = omega arith; near = g .near; usable = g .usable }
+module _ (o : Outline) (ms : List Float) (tol : Float) (k : ℕ) where
+  laid-passing : (top : ℕ) (cs C : List Float) (fs F : List ℕ) (ps P : List Float) → top ≤ 4096 → Passed top o ms tol (length C) (length F) (length P) → k ≡ length fs
+      → Laid (whole o ms) tol 0 (count (whole o ms) - 1) cs fs ps → Passing o ms tol k (written cs C) (written fs F) (written ps P)
+  laid-passing top cs C fs F ps P t g e l = rw e (record { taken = passes 4096 o (length fs) ms tol _ _ _ room; sound = laid-sound (whole o ms) tol cs fs ps _ _ _ (omega (arith, n, two)) l })
+    where
+      two : again o + 2 ≤ count ms
+      two = g .two
 
-same-lists : (ms : List Float) (tol : Float) (k : ℕ) (C C′ : List Float) (F F′ : List ℕ) (P P′ : List Float) → C′ ≡ C → F′ ≡ F → P′ ≡ P → Passing ms tol k C F P → Passing ms tol k C′ F′ P′
-same-lists ms tol k C C′ F F′ P P′ x y z h = rw (x, y, z) h
+      n : count (whole o ms) ≡ again o + count ms
+      n = whole-count o ms (passed-even g)
+
+      room : PassedFor 4096 o (length fs) ms tol (length (written cs C)) (length (written fs F)) (length (written ps P))
+      room =
+          let a = laid-curves l in
+          let b = laid-many l in
+          let m = n in
+          let most = g .most in
+          let x = length-append cs (drop (length cs) C) in
+          let y = length-append fs (drop (length fs) F) in
+          let z = length-append ps (drop (length ps) P) in
+          record { even = g .even; two = two; most = omega arith; curves = omega arith; firsts = omega arith; params = omega (arith, two); near = g .near; usable = g .usable }
+
+  same-lists : (C C′ : List Float) (F F′ : List ℕ) (P P′ : List Float) → C′ ≡ C → F′ ≡ F → P′ ≡ P → Passing o ms tol k C F P → Passing o ms tol k C′ F′ P′
+  same-lists C C′ F F′ P P′ x y z h = rw (x, y, z) h
 
 not-below : (tol : Float) → tolerable tol ≡ true → le f0 tol ≡ true
 unfolding tolerable
 not-below tol h = and-right (finite tol) (le f0 tol) h
 
 module _ (ms : List Float) (tol : Float) (k : ℕ) (C C′ : List Float) (F F′ : List ℕ) (P P′ : List Float) where
-  pub joined-passing : ending (ok k) C′ F′ P′ ≡ fitOf Joined ms tol C F P → Passing ms tol k C′ F′ P′
+  -- by blocks that meet
+  pub blocks-passing : (cutting : Cutting) → over cutting ≡ 1 → ending (ok k) C′ F′ P′ ≡ fitOf cutting ms tol C F P → Passing (outlineOf cutting) ms tol k C′ F′ P′
   unfolding fitOf blocksOf
-  joined-passing h =
-      let d = accepted-done ms tol k C C′ F F′ P P′ (gateOf 4096 ms tol (length C) (length F) (length P)) (blocksOf Joined ms (blockSize (count ms)) tol) h in
-      let g = passed-for 4096 (count ms - 1) ms tol (length C) (length F) (length P) (d .let-pass) in
-      let size = size-within (count ms) (blockSize (count ms)) refl in
-      let even : length ms ≡ 2 * count ms = let e = g .even in omega arith in
-      same-lists ms tol k _ C′ _ F′ _ P′ (d .curves) (d .firsts) (d .params)
-      (laid-passing ms tol k 4096 (d .cs) C (d .fs) F (d .ps) P (omega arith) g (d .many)
-      (blocks-laid tol (not-below tol (g .usable)) ms (count ms) (blockSize (count ms)) even (marked ms (g .near)) (d .cs) (d .fs) (d .ps) (omega arith) (g .two) (d .is-done)))
+  blocks-passing cutting meet h =
+      let o = outlineOf cutting in
+      let ws = marksOf cutting ms in
+      let d = accepted-done ms tol k C C′ F F′ P P′ (gateOf 4096 o ms tol (length C) (length F) (length P)) (blocksOf cutting ws (blockSize (count ws)) tol) h in
+      let g = passed 4096 o ms tol (length C) (length F) (length P) (d .let-pass) in
+      let two = g .two in
+      let e = passed-even g in
+      let n = whole-count o ms e in
+      let l = whole-length o ms e in
+      let even : length ws ≡ 2 * count ws = omega arith in
+      let size = size-within (count ws) (blockSize (count ws)) refl in
+      same-lists o ms tol k _ C′ _ F′ _ P′ (d .curves) (d .firsts) (d .params)
+      (laid-passing o ms tol k 4096 (d .cs) C (d .fs) F (d .ps) P (omega arith) g (d .many)
+      (blocks-laid tol (not-below tol (g .usable)) ws (count ws) (blockSize (count ws)) even (marked-whole o ms e (marked ms (g .near))) cutting meet (d .cs) (d .fs) (d .ps) (omega arith) (omega arith) (d .is-done)))
 
-  pub direct-passing : (s e : Point) → ending (ok k) C′ F′ P′ ≡ cubicOf ms s e tol C F P → Passing ms tol k C′ F′ P′
+  pub direct-passing : (s e : Point) → ending (ok k) C′ F′ P′ ≡ cubicOf ms s e tol C F P → Passing Open ms tol k C′ F′ P′
   unfolding cubicOf
   direct-passing s e h =
       let d = accepted-done ms tol k C C′ F F′ P P′ (cubicGate ms s e tol (length C) (length F) (length P)) (runOf ms 0 s e tol) h in
       let g = cubic-passed ms s e tol (length C) (length F) (length P) (cubicGate ms s e tol (length C) (length F) (length P)) refl (d .let-pass) in
-      same-lists ms tol k _ C′ _ F′ _ P′ (d .curves) (d .firsts) (d .params)
-      (laid-passing ms tol k 512 (d .cs) C (d .fs) F (d .ps) P (omega arith) g (d .many)
-      (run-laid tol (not-below tol (g .usable)) ms s e (d .cs) (d .fs) (d .ps) (g .two) (marked ms (g .near)) (d .is-done)))
+      let two = g .two in
+      same-lists Open ms tol k _ C′ _ F′ _ P′ (d .curves) (d .firsts) (d .params)
+      (laid-passing Open ms tol k 512 (d .cs) C (d .fs) F (d .ps) P (omega arith) g (d .many)
+      (run-laid tol (not-below tol (g .usable)) ms s e (d .cs) (d .fs) (d .ps) (omega arith) (marked ms (g .near)) (d .is-done)))
 
 -- ---- stated of the promises
 
-module _ (ms : List Float) (tol : Float) (k : ℕ) (C : List Float) (F : List ℕ) (P : List Float) (answer : Checked) (checks : checkedAnswer answer ≡ checkOf ms tol k C F P) where
-  passing-passes : Passing ms tol k C F P → answer ≡ checked.Passed
+module _ (o : Outline) (ms : List Float) (tol : Float) (k : ℕ) (C : List Float) (F : List ℕ) (P : List Float) (answer : Checked) (checks : checkedAnswer answer ≡ checkOf o ms tol k C F P) where
+  passing-passes : Passing o ms tol k C F P → answer ≡ checked.Passed
   unfolding checkedAnswer
-  passing-passes h = same-checked answer checked.Passed (checks ∙ sound-passes ms tol k C F P (h .taken) (h .sound))
+  passing-passes h = same-checked answer checked.Passed (checks ∙ sound-passes o ms tol k C F P (h .taken) (h .sound))
+
+blocks-pass : (cutting : Cutting) → over cutting ≡ 1 → BlocksPass cutting
+unfolding fittedAnswer
+blocks-pass cutting meet ms tol k C C′ F F′ P P′ answer fits checks = passing-passes (outlineOf cutting) ms tol k C′ F′ P′ answer checks (blocks-passing ms tol k C C′ F F′ P P′ cutting meet fits)
 
 pub joined-passes : JoinedPasses
-unfolding fittedAnswer
-joined-passes ms tol k C C′ F F′ P P′ answer fits checks = passing-passes ms tol k C′ F′ P′ answer checks (joined-passing ms tol k C C′ F F′ P P′ fits)
+unfolding over
+joined-passes = blocks-pass Joined refl
+
+pub ring-passes : RingPasses
+unfolding over
+ring-passes = blocks-pass Ring refl
 
 pub direct-passes : DirectPasses
 unfolding fittedAnswer
-direct-passes ms s e tol k C C′ F F′ P P′ answer fits checks = passing-passes ms tol k C′ F′ P′ answer checks (direct-passing ms tol k C C′ F F′ P P′ s e fits)
+direct-passes ms s e tol k C C′ F F′ P P′ answer fits checks = passing-passes Open ms tol k C′ F′ P′ answer checks (direct-passing ms tol k C C′ F F′ P P′ s e fits)
+
+pub fit-closes : FitCloses
+unfolding fittedAnswer over
+fit-closes ms tol k C C′ F F′ P P′ fits =
+    let h = blocks-passing ms tol k C C′ F F′ P P′ Ring refl fits in
+    let g = passed-for 4096 Closed k ms tol (length C′) (length F′) (length P′) (h .taken) in
+    sound-closes ms tol k C′ F′ P′ (passed-even g) (h .sound)

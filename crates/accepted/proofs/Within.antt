@@ -3,11 +3,12 @@ use Prim.Native.Nat.{ℕ, _+_, _-_, _*_, _≤_, _<_}
 use native.Mathlib.Omega.{arith}
 use mathlib.Core.Path.{_≡_, sym, ap, _∙_}
 use mathlib.Core.List.{List}
-use lib.ListN.{length, take, drop, length-take, length-drop}
+use lib.ListN.{length, drop, length-take, length-drop}
 use lib.Seq.{getD-take, getD-drop}
 use lib.Ieee.{Float, nan}
 use Rattle.marks.specs.Marks.{count, markAt}
 use Rattle.cut.specs.Run.{leftOf, rightOf}
+use Rattle.blocks.specs.Blocks.{blockAt}
 use Rattle.cut.proofs.Run.{left-count, right-count}
 
 -- ms is ws from mark `first` on, as far as ms goes
@@ -30,9 +31,6 @@ within-right ws ms first k h w i l =
     ap (markAt ws) a ∙ w (k + i) (omega arith) ∙ sym (rw (getD-drop (2 * k) ms (2 * i) nan, getD-drop (2 * k) ms (2 * i + 1) nan, x, y))
 
 -- the marks of a block of an outline of n
-abbrev pub blockAt : List Float → ℕ → ℕ → List Float
-blockAt ms from to = take (2 * to - 2 * from) (drop (2 * from) ms)
-
 module _ (ms : List Float) (n : ℕ) (even : length ms ≡ 2 * n) (from to : ℕ) (h : from + 2 ≤ to) (l : to ≤ n) where
   pub block-count : count (blockAt ms from to) ≡ to - from
   block-count = simp (length-take, length-drop) (omega arith)

@@ -1,2 +1,3 @@
 pub mod Passes
 pub mod Refusals
+pub mod Closes

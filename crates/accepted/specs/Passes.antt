@@ -6,24 +6,34 @@ use mathlib.Core.List.{List}
 use lib.Ieee.{Float}
 use Rattle.plane.specs.declared.Point.{Point}
 use Rattle.cut.specs.declared.Fitted.the-variants.{Curves}
-use Rattle.tangents.specs.declared.Cutting.the-variants.{Joined}
+use Rattle.ring.specs.declared.Outline.the-variants.{Open}
+use Rattle.tangents.specs.Ways.{outlineOf}
+use Rattle.tangents.specs.declared.Cutting.{Cutting}
+use Rattle.tangents.specs.declared.Cutting.the-variants.{Joined, Ring}
 use Rattle.fit.specs.Fit.{fittedAnswer, ending, fitOf, cubicOf}
 use Rattle.checker.specs.Check.{checkOf, checkedAnswer}
 use Rattle.checker.specs.declared.Checked.{Checked}
 use Rattle.checker.specs.declared.Checked.the-variants.{Passed}
 
--- the joined fit; a slice is C before the call and C′ after it
-abbrev pub JoinedPasses : Type 0
-JoinedPasses =
+-- a fit by blocks, and the checker of the outlines that it cuts; a slice is C before the call and C′ after it
+abbrev pub BlocksPass : Cutting → Type 0
+BlocksPass cutting =
     (ms : List Float) (tol : Float) (k : ℕ) (C C′ : List Float) (F F′ : List ℕ) (P P′ : List Float) (answer : Checked)
-    → ending (fittedAnswer (Curves k)) C′ F′ P′ ≡ fitOf Joined ms tol C F P
-    → checkedAnswer answer ≡ checkOf ms tol k C′ F′ P′
+    → ending (fittedAnswer (Curves k)) C′ F′ P′ ≡ fitOf cutting ms tol C F P
+    → checkedAnswer answer ≡ checkOf (outlineOf cutting) ms tol k C′ F′ P′
     → answer ≡ Passed
+
+-- the joined fit, and the ring fit
+abbrev pub JoinedPasses : Type 0
+JoinedPasses = BlocksPass Joined
+
+abbrev pub RingPasses : Type 0
+RingPasses = BlocksPass Ring
 
 -- the direct fit, with the tangents s and e
 abbrev pub DirectPasses : Type 0
 DirectPasses =
     (ms : List Float) (s e : Point) (tol : Float) (k : ℕ) (C C′ : List Float) (F F′ : List ℕ) (P P′ : List Float) (answer : Checked)
     → ending (fittedAnswer (Curves k)) C′ F′ P′ ≡ cubicOf ms s e tol C F P
-    → checkedAnswer answer ≡ checkOf ms tol k C′ F′ P′
+    → checkedAnswer answer ≡ checkOf Open ms tol k C′ F′ P′
     → answer ≡ Passed

@@ -1,15 +1,18 @@
 -- Laws of the blocks' definition. Assumes nothing.
 use Prim.Native.Nat.{ℕ, zero, suc, _+_, _-_, _*_, _≤_, _<_}
 use native.Mathlib.Omega.{arith}
-use mathlib.Core.Path.{_≡_, refl, ap, _∙_}
+use mathlib.Core.Path.{_≡_, refl, ap, subst, _∙_}
 use mathlib.Core.Bool.{Bool, true, false}
 use mathlib.Core.List.{List, [], _++_, append-assoc}
 use lib.ListN.{length, take, drop, length-take, length-drop}
+use lib.Seq.{take-all, take-at}
 use lib.Dec.{leb, ltb}
 use lib.Ieee.{Float}
 use borrow.Author.Tests.{le-leb, lt-leb, leb-false}
 use Rattle.float.specs.Answer.{Answer, ok, outcome}
 use Rattle.float.specs.Answer.{refused as no}
+use Rattle.float.specs.Slices.{written}
+use Rattle.plane.specs.declared.Point.{Point}
 use Rattle.marks.specs.Marks.{count}
 use Rattle.cut.specs.Run.{Run, refused, done, join, turned, runOf}
 use Rattle.tangents.specs.declared.Ways.{Ways}
@@ -22,8 +25,11 @@ use Rattle.tangents.specs.Ways.{turnAnswer}
 use Rattle.cut.proofs.Run.{Sizes}
 use Rattle.cut.proofs.Cut.{sizes, ways-are, ways-lost}
 use Rattle.tangents.specs.declared.Cutting.{Cutting}
-use Rattle.blocks.specs.Blocks.{blockOf, lastOf, blocks, blocksFrom}
-use Rattle.tangents.specs.Ways.{over, waysOf}
+use Rattle.blocks.specs.Blocks.{blockAt, blockOf, lastOf, blocks, blocksFrom}
+use Rattle.tangents.specs.Ways.{over, outlineOf, marksOf, waysOf}
+use Rattle.ring.specs.Ring.{whole, Even}
+use Rattle.ring.specs.declared.Outline.the-variants.{Closed}
+use Rattle.ring.proofs.Whole.{whole-length, part-given, part-as-closed}
 
 module _ (k : Cutting) (ms : List Float) (n size : ℕ) (tol : Float) where
   -- ---- the blocks by cases: proofs unfold them by `blocks-last` and `blocks-more`, and never see the bound
@@ -63,29 +69,54 @@ module _ (k : Cutting) (ms : List Float) (n size : ℕ) (tol : Float) where
   pub block-sized : (from to : ℕ) (cs : List Float) (fs : List ℕ) (p : List Float) → length ms ≡ 2 * n → from + 2 ≤ to → to ≤ n → blockOf k ms n tol from to ≡ done cs fs p → Sizes (to - from) cs fs p
   block-sized from to cs fs p e h l q = go (outcome (waysOf k ms n from to)) q
     where
-      many : count (take (2 * to - 2 * from) (drop (2 * from) ms)) ≡ to - from
+      many : count (blockAt ms from to) ≡ to - from
       many = simp (length-take, length-drop) (omega arith)
 
-      go : (w : Answer Ways) → turned w (λ w. runOf (take (2 * to - 2 * from) (drop (2 * from) ms)) from (w .start) (w .end) tol) ≡ done cs fs p → Sizes (to - from) cs fs p
+      go : (w : Answer Ways) → turned w (λ w. runOf (blockAt ms from to) from (w .start) (w .end) tol) ≡ done cs fs p → Sizes (to - from) cs fs p
       go (ok w) q =
-          let z = sizes (take (2 * to - 2 * from) (drop (2 * from) ms)) from (w .start) (w .end) tol cs fs p (omega (arith, many)) q in
+          let z = sizes (blockAt ms from to) from (w .start) (w .end) tol cs fs p (omega (arith, many)) q in
           (z .0, omega (arith, many, z .1), z .2, z .3 ∙ many)
       go (no i) q = let z : _≡_ {A = ℕ} 0 1 = cc in absurd (omega arith)
 
 -- ---- fit_block's returns
 
 pub block-room : (ms : List Float) (n from to : ℕ) (C : List Float) (F : List ℕ) (P : List Float) → length ms ≡ 2 * n → (from + 2 ≤ to) × (to ≤ n) × (n ≤ 65536)
-    → (to ≡ from + length P) × (8 * length P ≤ length C + 8) × (length P ≤ length F + 1) → Room (take (2 * to - 2 * from) (drop (2 * from) ms)) from C F P
+    → (to ≡ from + length P) × (length P ≤ 201) × (8 * length P ≤ length C + 8) × (length P ≤ length F + 1) → Room (blockAt ms from to) from C F P
 block-room ms n from to C F P e h l =
-    let m : length (take (2 * to - 2 * from) (drop (2 * from) ms)) ≡ 2 * to - 2 * from = simp (length-take, length-drop) (omega arith) in
+    let m : length (blockAt ms from to) ≡ 2 * to - 2 * from = simp (length-take, length-drop) (omega arith) in
     record { even = omega arith; two = omega arith; near = omega arith; curves = omega arith; firsts = omega arith }
+
+-- a run over one list of marks is that over another, where the two are equal
+pub same-marks : (ms ws : List Float) (first : ℕ) (s e : Point) (tol : Float) (r : Fitted) (C C₁ : List Float) (F F₁ : List ℕ) (p : List Float) → ms ≡ ws → Left (runOf ms first s e tol) r C C₁ F F₁ p → Left (runOf ws first s e tol) r C C₁ F F₁ p
+same-marks ms ws first s e tol r C C₁ F F₁ p h ran = subst (λ (l : List Float). Left (runOf l first s e tol) r C C₁ F F₁ p) h ran
+
+pub same-room : (ms ws : List Float) (first : ℕ) (C : List Float) (F : List ℕ) (P : List Float) → ms ≡ ws → Room ms first C F P → Room ws first C F P
+same-room ms ws first C F P h room = subst (λ (l : List Float). Room l first C F P) h room
+
+-- the marks of a block that were all given, and of one that mark 0 ends
+module _ (ms : List Float) (from to : ℕ) (even : Even ms) (l : from ≤ to) where
+  pub all-given : 2 * to ≤ length ms → blockAt (whole Closed ms) from to ≡ blockAt ms from to
+  all-given h = part-given Closed ms (2 * from) (2 * to) (omega arith) h
+
+  pub to-the-end : 2 * to ≡ length ms + 2 → blockAt (whole Closed ms) from to ≡ drop (2 * from) (whole Closed ms)
+  to-the-end h =
+      let n = whole-length Closed ms even in
+      take-all (2 * to - 2 * from) (drop (2 * from) (whole Closed ms)) (simp length-drop (omega arith))
+
+-- these, laid over the front of an array
+pub laid-front : (xs room : List Float) (m : ℕ) {R : List Float} → R ≡ written xs room → length xs ≡ m → take m R ≡ xs
+laid-front xs room m e l = rw e (take-at xs _ m l)
+
+-- they are the block's, however the outline is cut
+pub block-as-closed : (k : Cutting) (ms : List Float) (n from to : ℕ) → length (marksOf k ms) ≡ 2 * n → from ≤ to → to ≤ n → blockAt (whole Closed ms) from to ≡ blockAt (marksOf k ms) from to
+block-as-closed k ms n from to e h l = part-as-closed (outlineOf k) ms (2 * from) (2 * to) (omega arith) (omega (arith, e))
 
 module _ (k : Cutting) (ms : List Float) (n : ℕ) (tol : Float) (from to : ℕ) (w : Turn) (h : turnAnswer w ≡ outcome (waysOf k ms n from to)) where
   pub block-lost : w ≡ turn.Lost → (C C₁ : List Float) (F F₁ : List ℕ) (p : List Float) → Left (blockOf k ms n tol from to) (Refused 6) C C₁ F F₁ p
   block-lost e C C₁ F F₁ p = rw (ways-lost w (outcome (waysOf k ms n from to)) h e) refl
 
   pub block-ran : (T : Ways) → w ≡ turn.At T → (r : Fitted) (C C₁ : List Float) (F F₁ : List ℕ) (p : List Float)
-      → Left (runOf (take (2 * to - 2 * from) (drop (2 * from) ms)) from (T .start) (T .end) tol) r C C₁ F F₁ p → Left (blockOf k ms n tol from to) r C C₁ F F₁ p
+      → Left (runOf (blockAt ms from to) from (T .start) (T .end) tol) r C C₁ F F₁ p → Left (blockOf k ms n tol from to) r C C₁ F F₁ p
   block-ran T e r C C₁ F F₁ p ran = rw (ways-are w (outcome (waysOf k ms n from to)) T h e) ran
 
 -- ---- what has been written stands before the rest of the run

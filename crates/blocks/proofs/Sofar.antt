@@ -11,12 +11,13 @@ use borrow.Author.Tests.{lt-ltb, le-ltb}
 use Rattle.float.specs.Number.{f0}
 use Rattle.float.specs.Slices.{written}
 use Rattle.marks.specs.Marks.{count}
-use Rattle.cut.specs.Run.{Run, refused, done, join}
+use Rattle.cut.specs.Run.{Run, done, join}
 use Rattle.cut.specs.Lent.{Left, Room}
 use Rattle.cut.specs.declared.Fitted.{Fitted}
 use Rattle.cut.specs.declared.Fitted.the-variants.{Curves, Refused}
 use Rattle.cut.proofs.Run.{Sizes}
-use Rattle.cut.proofs.Cut.{Done, is-done, is-refused, written-behind, part-length, inner-length}
+use Rattle.float.proofs.Slices.{written-behind, part-length, inner-length}
+use Rattle.cut.proofs.Cut.{Done, is-done, is-refused}
 use Rattle.tangents.specs.declared.Cutting.{Cutting}
 use Rattle.blocks.specs.Blocks.{blockOf, lastOf, blocksFrom, blocksOf}
 use Rattle.tangents.specs.Ways.{over}
@@ -217,7 +218,7 @@ module _ (H : Head) where
     to = from + (K .w)
 
     pub block-asks : (length (K .ms) ≡ 2 * n) × (((from + 2 ≤ to) × (to ≤ n) × (n ≤ 65536))
-        × ((to ≡ from + length (take (to - from) (drop from P₁))) × (8 * length (take (to - from) (drop from P₁)) ≤ length CC + 8) × (length (take (to - from) (drop from P₁)) ≤ length FF + 1)))
+        × ((to ≡ from + length (take (to - from) (drop from P₁))) × (length (take (to - from) (drop from P₁)) ≤ 201) × (8 * length (take (to - from) (drop from P₁)) ≤ length CC + 8) × (length (take (to - from) (drop from P₁)) ≤ length FF + 1)))
     block-asks =
         let m = numbers in
         let lp = m .lp in
@@ -225,7 +226,7 @@ module _ (H : Head) where
         let bp : length (take (to - from) (drop from P₁)) ≡ K .w = part-len from (to - from) P₁ (omega (arith, m)) ∙ d in
         let bc : length CC ≡ length C₁ - 8 * made = part-len (8 * made) _ C₁ (omega (arith, m)) in
         let bf : length FF ≡ length F₁ - made = part-len made _ F₁ (omega (arith, m)) in
-        (omega (arith, m), ((omega (arith, m), omega (arith, m), omega (arith, m)), (omega (arith, m), omega (arith, m), omega (arith, m))))
+        (omega (arith, m), ((omega (arith, m), omega (arith, m), omega (arith, m)), (omega (arith, m), omega (arith, m), omega (arith, m), omega (arith, m))))
 
     module _ (R : Ran to (to - from)) where
       abbrev did : (j : ℕ) → R .r ≡ Curves j → Done (block K from to) j CC (R .D₁) FF (R .E₁) (R .p)
@@ -293,13 +294,13 @@ module _ (H : Head) where
 
     module _ (some : 2 ≤ n - from) where
       pub last-asks : (length (K .ms) ≡ 2 * n) × (((from + 2 ≤ n) × (n ≤ n) × (n ≤ 65536))
-          × ((n ≡ from + length (take (length P₁ - from) (drop from P₁))) × (8 * length (take (length P₁ - from) (drop from P₁)) ≤ length CC + 8) × (length (take (length P₁ - from) (drop from P₁)) ≤ length FF + 1)))
+          × ((n ≡ from + length (take (length P₁ - from) (drop from P₁))) × (length (take (length P₁ - from) (drop from P₁)) ≤ 201) × (8 * length (take (length P₁ - from) (drop from P₁)) ≤ length CC + 8) × (length (take (length P₁ - from) (drop from P₁)) ≤ length FF + 1)))
       last-asks =
           let m = numbers in
           let bp : length (take (length P₁ - from) (drop from P₁)) ≡ length P₁ - from = part-len from _ P₁ (omega (arith, m)) in
           let bc : length CC ≡ length C₁ - 8 * made = part-len (8 * made) _ C₁ (omega (arith, m)) in
           let bf : length FF ≡ length F₁ - made = part-len made _ F₁ (omega (arith, m)) in
-          (omega (arith, m), ((omega (arith, m), omega arith, omega (arith, m)), (omega (arith, m), omega (arith, m), omega (arith, m))))
+          (omega (arith, m), ((omega (arith, m), omega arith, omega (arith, m)), (omega (arith, m), omega (arith, m), omega (arith, m), omega (arith, m))))
 
       whole-last : blocksOf (K .k) (K .ms) (K .size) (K .tol) ≡ prepend (so .cs) (so .fs) (so .ps) (block K from n)
       whole-last = all-is ∙ rw (le-ltb (n - from) 2 some)

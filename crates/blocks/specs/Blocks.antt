@@ -1,4 +1,4 @@
--- Source cutting and the joined fit: blocks of `size` marks, each a run of its own. Definitions only.
+-- Source cutting, the joined fit and the ring fit: blocks of `size` marks, each a run of its own. Definitions only.
 use Prim.Native.Nat.{ℕ, zero, suc, _+_, _-_, _*_}
 use mathlib.Core.Bool.{Bool, true, false}
 use mathlib.Core.List.{List, [], _∷_}
@@ -12,10 +12,13 @@ use Rattle.cut.specs.Run.{Run, refused, done, join, turned, runOf}
 use Rattle.tangents.specs.declared.Cutting.{Cutting}
 use Rattle.tangents.specs.Ways.{over, waysOf}
 
+-- the marks from `from` up to `to`, which is not among them
+abbrev pub blockAt : List Float → ℕ → ℕ → List Float
+blockAt ms from to = take (2 * to - 2 * from) (drop (2 * from) ms)
+
 -- one block
 abbrev pub blockOf : Cutting → List Float → ℕ → Float → ℕ → ℕ → Run
-blockOf k ms n tol from to =
-    turned (outcome (waysOf k ms n from to)) (λ w. runOf (take (2 * to - 2 * from) (drop (2 * from) ms)) from (w .start) (w .end) tol)
+blockOf k ms n tol from to = turned (outcome (waysOf k ms n from to)) (λ w. runOf (blockAt ms from to) from (w .start) (w .end) tol)
 
 -- the last block: of a single mark there is no curve, and its parameter is 0
 abbrev pub lastOf : Bool → Cutting → List Float → ℕ → Float → ℕ → Run

@@ -1,6 +1,6 @@
-// The list checker over kept lists and damaged copies of them. A record on standard input is seven words of eight bytes: how many numbers the
-// marks have, the claimed number of curves, the lengths of the curve, first-mark and parameter slices, whether copies are damaged, and the
-// tolerance. Then the numbers of the marks, curves and parameters, and the first marks, a word each.
+// The list checker over kept lists and damaged copies of them. A record on standard input is eight words of eight bytes: whether the list is a
+// ring's, how many numbers the marks have, the claimed number of curves, the lengths of the curve, first-mark and parameter slices, whether copies are
+// damaged, and the tolerance. Then the numbers of the marks, curves and parameters, and the first marks, a word each.
 //
 // A record's first line is the answer. Where copies are damaged, a line for each kind of damage follows: how many copies pass, how many have
 // fault A, B, C and D and how many are refused, and a digest of all their answers in turn. Each number in turn has its last bit changed, is
@@ -15,9 +15,11 @@ use checker::Fault;
 use checker::Place;
 use libc::STDIN_FILENO;
 use libc::STDOUT_FILENO;
+use ring::Outline;
 
-// The claimed count, the lengths, where the curves and the parameters begin, how many numbers there are in all, and the tolerance.
+// The outline that the list is of, the claimed count, the lengths, where the curves and the parameters begin, how many numbers there are in all, and the tolerance.
 struct Sizes {
+    outline: Outline,
     marks: usize,
     count: usize,
     curves: usize,
@@ -133,7 +135,9 @@ fn print_tally(t: Tally) {
 
 // What the checker says of the lists in `all` (marks, curves, parameters) and `firsts`, cut to the given sizes.
 fn judge(all: &[f64], firsts: &[u32], s: Sizes) -> Verdict {
-    said(checker::check_list(
+    let outline = s.outline;
+    said(checker::check(
+        outline,
         front_floats(all, s.marks),
         s.tolerance,
         s.count,
@@ -177,7 +181,7 @@ fn damage_numbers(all: &mut [f64], firsts: &[u32], s: Sizes, n: usize, kind: u64
     print_tally(t);
 }
 
-// Another first mark in the place of a, whose neighbour is b, for n marks.
+// Another first mark in the place of a, whose neighbour is b, for curves over n marks.
 fn another(a: u32, b: u32, n: u32, kind: u64) -> u32 {
     match kind {
         0 => std::num::wrapping_add_u32(a, 1),
@@ -315,6 +319,16 @@ fn read_firsts(out: &mut [u32]) {
     }
 }
 
+// How many marks the curves run over: a ring comes back to its first mark.
+fn places(s: Sizes) -> u32 {
+    let n = (s.marks / 2 % 0x1_0000_0000) as u32;
+    let outline = s.outline;
+    match outline {
+        Outline::Open => n,
+        Outline::Closed => std::num::wrapping_add_u32(n, 1),
+    }
+}
+
 // The lines of a record whose lists are read.
 fn answer(all: &mut [f64], firsts: &mut [u32], s: Sizes, n: usize, damage: u64) {
     print_said(judge(all, firsts, s));
@@ -322,31 +336,40 @@ fn answer(all: &mut [f64], firsts: &mut [u32], s: Sizes, n: usize, damage: u64) 
         return;
     }
     every_number(all, firsts, s, n);
-    every_first(all, firsts, s, (s.marks / 2 % 0x1_0000_0000) as u32);
+    every_first(all, firsts, s, places(s));
     damage_sizes(all, firsts, s);
 }
 
+// A ring's outline is closed.
+fn outline_of(ring: u64) -> Outline {
+    if ring == 0 {
+        return Outline::Open;
+    }
+    Outline::Closed
+}
+
 // What a record's head says.
-fn sizes_of(head: &[u8; 56]) -> Sizes {
-    let marks = (cases::word(head, 0) % 65536) as usize;
-    let curves = (cases::word(head, 16) % 65536) as usize;
-    let params = (cases::word(head, 32) % 65536) as usize;
+fn sizes_of(head: &[u8; 64]) -> Sizes {
+    let marks = (cases::word(head, 8) % 65536) as usize;
+    let curves = (cases::word(head, 24) % 65536) as usize;
+    let params = (cases::word(head, 40) % 65536) as usize;
     Sizes {
+        outline: outline_of(cases::word(head, 0)),
         marks,
-        count: cases::word(head, 8) as usize,
+        count: cases::word(head, 16) as usize,
         curves,
-        firsts: (cases::word(head, 24) % 65536) as usize,
+        firsts: (cases::word(head, 32) % 65536) as usize,
         params,
         first_curve: marks,
         first_param: marks + curves,
         numbers: marks + curves + params,
-        tolerance: cases::number(head, 48),
+        tolerance: cases::number(head, 56),
     }
 }
 
 // A record's lists, read and judged.
 fn record(s: Sizes, damage: u64) {
-    let mut all = [0.0; 45056];
+    let mut all = [0.0; 45057];
     let mut firsts = [0u32; 4096];
     cases::read_floats(&mut all, s.numbers);
     let lent = lent_firsts(&mut firsts, s.firsts);
@@ -356,11 +379,11 @@ fn record(s: Sizes, damage: u64) {
 
 // One record, if there is one.
 fn step() -> bool {
-    let mut head = [0u8; 56];
-    if io::read_full(STDIN_FILENO, &mut head) < 56 {
+    let mut head = [0u8; 64];
+    if io::read_full(STDIN_FILENO, &mut head) < 64 {
         return false;
     }
-    record(sizes_of(&head), cases::word(&head, 40));
+    record(sizes_of(&head), cases::word(&head, 48));
     true
 }
 

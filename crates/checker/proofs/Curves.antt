@@ -1,73 +1,91 @@
--- One curve: its marks lie within the lists, and the part that is walked shows them. Assumes nothing.
+-- One curve: its marks lie within the lists, and the marks that are read and walked are those of the outline. Assumes nothing.
 use Prim.Native.Nat.{ℕ, _+_, _-_, _*_, _≤_, _<_}
 use native.Mathlib.Omega.{arith}
 use mathlib.Core.Path.{_≡_, sym, ap, _∙_}
 use mathlib.Core.Bool.{Bool, true, false}
 use mathlib.Core.List.{List}
-use lib.ListN.{length, take, drop, getD, length-take, length-drop}
-use lib.Seq.{getD-drop, getD-take}
-use lib.Ieee.{Float, nan}
+use lib.ListN.{length, drop}
+use lib.Seq.{getD-drop}
+use lib.Ieee.{Float}
 use Rattle.float.specs.Answer.{Answer, ok}
+use Rattle.plane.specs.declared.Point.{Point}
 use Rattle.plane.specs.declared.Curve.{Curve}
 use Rattle.marks.specs.Marks.{count, markAt}
-use Rattle.marks.proofs.Parts.{mark-drop, mark-take}
+use Rattle.marks.proofs.Parts.{mark-drop}
+use Rattle.ring.specs.Ring.{again, whole, Even}
+use Rattle.ring.specs.declared.Outline.{Outline}
+use Rattle.ring.specs.declared.Outline.the-variants.{Closed}
+use Rattle.ring.proofs.Whole.{again-small, whole-count, halves, given, as-closed}
 use Rattle.faults.specs.Tests.{firstAt, curveAt, lastAt, stopAt, runs}
 use Rattle.faults.proofs.Firsts.{span}
 use Rattle.checker.specs.declared.Fault.the-variants.{B}
 use Rattle.checker.specs.Check.{Verdict, fault, place, inTurn, markChecked, curveChecked}
-use Rattle.checker.specs.Inner.{underChecked, Listed}
+use Rattle.checker.specs.Inner.{underChecked, Listed, Under}
 use Rattle.checker.proofs.Turns.{turn-same}
 use Rattle.checker.proofs.Firsts.{risen}
+use Rattle.checker.proofs.Walks.{walk}
 
-pub part-length : {A : Type 0} (a e : ℕ) (l : List A) → e ≤ length l → {t : List A} → t ≡ take (e - a) (drop a l) → length t ≡ e - a
-part-length a e l h i = ap length i ∙ simp (length-take, length-drop) (omega arith)
+-- the places of curve j's marks in the lists, of n marks that count
+pub record Places (o : Outline) (ms : List Float) (n k : ℕ) (fs : List ℕ) (ps : List Float) (j : ℕ) : Type 0 where
+  pub even : Even ms
+  pub all : n ≡ count (whole o ms)
+  pub two : 2 ≤ n
+  pub first : firstAt fs j < count ms
+  pub last : lastAt n k fs j < n
+  pub order : firstAt fs j < stopAt n k fs j
+  pub stop : stopAt n k fs j ≤ n
+  pub round : n ≤ count ms + 1
+  pub params : n ≤ length ps
 
--- the places of curve j's marks in the lists
-pub record Places (ms : List Float) (k : ℕ) (fs : List ℕ) (ps : List Float) (j : ℕ) : Type 0 where
-  pub two : 2 ≤ count ms
-  pub first : 2 * firstAt fs j + 1 < length ms
-  pub last : 2 * lastAt (count ms) k fs j + 1 < length ms
-  pub order : firstAt fs j < stopAt (count ms) k fs j
-  pub stop : stopAt (count ms) k fs j ≤ count ms
-  pub marks : 2 * stopAt (count ms) k fs j ≤ length ms
-  pub params : stopAt (count ms) k fs j ≤ length ps
-
-module _ (ms : List Float) (tol : Float) (k : ℕ) (cs : List Float) (fs : List ℕ) (ps : List Float) where
-  pub places : (j : ℕ) → (j < k) × Listed ms k cs fs ps → Places ms k fs ps j
-  places j (l, h) =
-      let r = risen (count ms) k fs (h .rising) in
+module _ (o : Outline) (ms : List Float) (tol : Float) (k : ℕ) (cs : List Float) (fs : List ℕ) (ps : List Float) where
+  pub places : (n j : ℕ) → n ≡ again o + count ms → (j < k) × Listed (whole o ms) k cs fs ps → Places o ms n k fs ps j
+  places n j is (l, h) =
+      let r = risen (count (whole o ms)) k fs (h .rising) in
       let few = r .few in
-      let s = span (count ms) k fs j r l in
+      let some = r .some in
+      let two : 2 ≤ count (whole o ms) = omega arith in
+      let even = halves o ms (count (whole o ms)) (let e = h .even in omega arith) two .0 in
+      let all : n ≡ count (whole o ms) = is ∙ sym (whole-count o ms even) in
+      let small = again-small o in
       let p = h .params in
-      record { two = omega arith; first = omega arith; last = omega arith; order = omega arith; stop = omega arith; marks = omega arith; params = omega arith }
+      let b = r .below j l in
+      let s = span n k fs j (rw all r) l in
+      record { even = even; all = all; two = omega arith; first = omega arith; last = s .last; order = s .starts; stop = s .stops; round = omega arith; params = omega arith }
 
-  module _ (j : ℕ) (c : Curve) (first : ℕ) (is-c : c ≡ curveAt cs j) (is-first : first ≡ firstAt fs j) where
-    module _ (last : ℕ) (b : Bool) (is-last : last ≡ lastAt (count ms) k fs j) (is-b : b ≡ runs c (markAt ms first) (markAt ms last)) where
-      abbrev test : Bool
-      test = runs (curveAt cs j) (markAt ms (firstAt fs j)) (markAt ms (lastAt (count ms) k fs j))
+  module _ (n j : ℕ) (b : Places o ms n k fs ps j) (c : Curve) (first : ℕ) (is-c : c ≡ curveAt cs j) (is-first : first ≡ firstAt fs j) where
+    abbrev test : Bool
+    test = runs (curveAt cs j) (markAt (whole o ms) (firstAt fs j)) (markAt (whole o ms) (lastAt (count (whole o ms)) k fs j))
 
-      pub tested : b ≡ test
-      tested = cc
+    module _ (last : ℕ) (p q : Point) (r : Bool) (is-last : last ≡ lastAt n k fs j) (is-p : p ≡ markAt ms first) (is-q : q ≡ markAt (whole Closed ms) last) (is-r : r ≡ runs c p q) where
+      pub tested : r ≡ test
+      tested =
+          let p-is : p ≡ markAt (whole o ms) (firstAt fs j) = is-p ∙ sym (given o ms first (omega arith)) ∙ ap (markAt (whole o ms)) is-first in
+          let at : last ≡ lastAt (count (whole o ms)) k fs j = is-last ∙ ap (λ (m : ℕ). lastAt m k fs j) (b .all) in
+          let q-is : q ≡ markAt (whole o ms) (lastAt (count (whole o ms)) k fs j) = is-q ∙ as-closed o ms last (omega arith) ∙ ap (markAt (whole o ms)) at in
+          cc
 
-      pub fault-b : b ≡ false → fault (B (place j first)) ≡ curveChecked ms tol k cs fs ps j
+      pub fault-b : r ≡ false → fault (B (place j first)) ≡ curveChecked (whole o ms) tol k cs fs ps j
       unfolding curveChecked
       fault-b f =
           let t : test ≡ false = sym tested ∙ f in
           rw (t, is-first)
 
-    -- the marks under the curve, and their parameters
-    module _ (stop : ℕ) (is-stop : stop ≡ stopAt (count ms) k fs j) (us ts : List Float) (is-us : us ≡ take (2 * stop - 2 * first) (drop (2 * first) ms)) (is-ts : ts ≡ take (stop - first) (drop first ps)) where
-      one : (i : ℕ) → i < stop - first → underChecked tol (count ms) j first c us ts i ≡ markChecked ms tol k cs fs ps j (first + i)
+    -- the marks under the curve
+    module _ (stop : ℕ) (is-stop : stop ≡ stopAt n k fs j) where
+      pub under : Under ms ps n first stop
+      under = record { even = b .even; order = omega arith; given = omega arith; behind = omega arith; within = omega arith; params = omega arith }
+
+      one : (i : ℕ) → i < stop - first → walk tol n j first c ms ps i ≡ markChecked (whole o ms) tol k cs fs ps j (first + i)
       unfolding underChecked markChecked
       one i l =
-          let m : markAt us i ≡ markAt ms (first + i) = rw is-us (mark-take (drop (2 * first) ms) (2 * stop - 2 * first) i (omega arith) ∙ mark-drop ms first i) in
-          let t : getD ts i nan ≡ getD ps (first + i) nan = rw is-ts (getD-take (stop - first) (drop first ps) i nan l ∙ getD-drop first ps i nan) in
-          simp (m, t, is-c, is-first)
+          let s = b .stop in
+          let a = b .all in
+          let u : markAt (drop (2 * first) (whole Closed ms)) i ≡ markAt (whole o ms) (first + i) = mark-drop (whole Closed ms) first i ∙ as-closed o ms (first + i) (omega arith) in
+          rw u (simp (getD-drop, is-c, is-first, a))
 
-      pub curve-rest : runs (curveAt cs j) (markAt ms (firstAt fs j)) (markAt ms (lastAt (count ms) k fs j)) ≡ true → length ts ≡ stop - first → {a : Answer Verdict}
-          → a ≡ ok (inTurn (length ts) (underChecked tol (count ms) j first c us ts)) → a ≡ ok (curveChecked ms tol k cs fs ps j)
+      pub curve-rest : test ≡ true → {a : Answer Verdict} → a ≡ ok (inTurn (stop - first) (walk tol n j first c ms ps)) → a ≡ ok (curveChecked (whole o ms) tol k cs fs ps j)
       unfolding curveChecked
-      curve-rest t n e =
+      curve-rest t e =
           e
-          ∙ ap ok (turn-same (underChecked tol (count ms) j first c us ts) (λ i. markChecked ms tol k cs fs ps j (first + i)) (length ts) (λ i l. one i (rw n at l))
-          ∙ rw (t, n, is-stop, is-first))
+          ∙ ap ok (turn-same (walk tol n j first c ms ps) (λ i. markChecked (whole o ms) tol k cs fs ps j (first + i)) (stop - first) one
+          ∙ rw (t, is-stop, b .all, is-first))

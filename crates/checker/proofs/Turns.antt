@@ -6,10 +6,14 @@ use native.Mathlib.Omega.{arith}
 use mathlib.Core.Path.{_≡_, refl, ap, _∙_}
 use mathlib.Core.Logic.{_⊎_, inl, inr}
 use mathlib.Core.Bool.{Bool, true, false}
+use mathlib.Core.List.{[], _∷_}
+use types.Run.{OneOf}
+use denote.Enum.Declared.{tagOf}
 use Rattle.float.specs.Answer.{ok}
 use Rattle.checker.specs.declared.Fault.{Fault}
 use Rattle.checker.specs.declared.Checked.{Checked}
-use Rattle.checker.specs.declared.Checked.the-variants.{Faulty}
+use Rattle.checker.specs.declared.Checked.the-variants.{Passed, Faulty, Refused}
+use Rattle.checker.proofs.Checked.{the-type}
 use Rattle.checker.specs.Check.{Verdict, checkedAnswer, passed, fault, must, _then_, inTurn}
 
 never-fault : {f : Fault} {A : Type 0} → fault f ≡ passed → A
@@ -19,6 +23,19 @@ never-fault e = let z : _≡_ {A = ℕ} 0 1 = cc in absurd (omega arith)
 pub by-fault : {r : Checked} {f : Fault} {v : Verdict} → r ≡ Faulty f → fault f ≡ v → checkedAnswer r ≡ ok v
 unfolding checkedAnswer
 by-fault e h = ap checkedAnswer e ∙ ap ok h
+
+-- an answer with a verdict, by its cases
+pub passed-is : {r : Checked} {v : Verdict} → checkedAnswer r ≡ ok v → r ≡ Passed → v ≡ passed
+unfolding checkedAnswer
+passed-is {r} {v} h e = let g : checkedAnswer r ≡ ok passed = ap checkedAnswer e in cc
+
+-- the arm of an answer that is not Passed
+pub other-is : (r : Checked) {v : Verdict} → checkedAnswer r ≡ ok v → OneOf (1 ∷ 2 ∷ []) (tagOf the-type r) → (f : Fault) × (v ≡ fault f)
+unfolding checkedAnswer
+other-is Passed h (inl e) = absurd (omega arith)
+other-is Passed h (inr e) = absurd (omega arith)
+other-is (Faulty f) h o = (f, cc)
+other-is (Refused q) h o = let z : _≡_ {A = ℕ} 0 1 = cc in absurd (omega arith)
 
 pub must-true : (f : Fault) (b : Bool) → must f b ≡ passed → b ≡ true
 must-true f true h = refl
@@ -32,6 +49,19 @@ module _ (f : ℕ → Verdict) where
   pub turn-next : (n : ℕ) → inTurn n f ≡ passed → f n ≡ passed → inTurn (n + 1) f ≡ passed
   unfolding inTurn
   turn-next n h g = rw (add-one, h) g
+
+  -- one more test after those that passed, and after a fault
+  pub turn-last : (n : ℕ) → inTurn n f ≡ passed → inTurn (suc n) f ≡ f n
+  unfolding inTurn
+  turn-last n h = rw h
+
+  pub turn-halted : (n : ℕ) (x : Fault) → inTurn n f ≡ fault x → inTurn (suc n) f ≡ fault x
+  unfolding inTurn
+  turn-halted n x h = rw h
+
+  pub turn-one : inTurn 1 f ≡ f 0
+  unfolding inTurn
+  turn-one = refl
 
   pub turn-stop : (n j : ℕ) (x : Fault) → j < n → inTurn j f ≡ passed → f j ≡ fault x → inTurn n f ≡ fault x
   unfolding inTurn

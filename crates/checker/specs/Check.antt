@@ -8,6 +8,8 @@ use lib.Dec.{leb, ltb, eqb}
 use lib.Ieee.{Float, nan}
 use Rattle.float.specs.Answer.{Answer, ok, refused}
 use Rattle.marks.specs.Marks.{count, markAt}
+use Rattle.ring.specs.Ring.{whole}
+use Rattle.ring.specs.declared.Outline.{Outline}
 use Rattle.gate.specs.Gate.{gateFor}
 use Rattle.faults.specs.Tests.{firstAt, curveAt, lastAt, stopAt, rises, runs, timed, near}
 use Rattle.checker.specs.declared.Place.{Place}
@@ -71,7 +73,10 @@ module _ (ms : List Float) (tol : Float) (k : ℕ) (cs : List Float) (fs : List 
   unfoldable pub listChecked : Verdict
   listChecked = listed (count ms) k fs then inTurn k curveChecked
 
-  -- 3, 1, 2 of more than 4,096 marks, 4, 5; else the verdict
-  unfoldable pub checkOf : Answer Verdict
-  checkOf =
-      cond (eqb (gateFor 4096 k ms tol (length cs) (length fs) (length ps)) 0) (ok listChecked) (refused (gateFor 4096 k ms tol (length cs) (length fs) (length ps)))
+-- 3, 1, 2 of more than 4,096 marks given, 4, 5; else the verdict over the marks that the outline runs over
+unfoldable pub checkOf : Outline → List Float → Float → ℕ → List Float → List ℕ → List Float → Answer Verdict
+checkOf o ms tol k cs fs ps =
+    cond
+    (eqb (gateFor 4096 o k ms tol (length cs) (length fs) (length ps)) 0)
+    (ok (listChecked (whole o ms) tol k cs fs ps))
+    (refused (gateFor 4096 o k ms tol (length cs) (length fs) (length ps)))

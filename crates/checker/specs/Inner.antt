@@ -6,14 +6,24 @@ use lib.ListN.{length, getD}
 use lib.Ieee.{Float, nan}
 use Rattle.plane.specs.declared.Curve.{Curve}
 use Rattle.marks.specs.Marks.{count, markAt}
+use Rattle.ring.specs.Ring.{Even}
 use Rattle.faults.specs.Tests.{timed, near}
 use Rattle.checker.specs.declared.Fault.the-variants.{C, D}
 use Rattle.checker.specs.Check.{Verdict, passed, place, must, _then_, listed}
 
--- C and D at mark i of the part us that lies under a curve c, number j, whose first mark is mark `first` of n; ts are the part's parameters
-unfoldable pub underChecked : Float → ℕ → ℕ → ℕ → Curve → List Float → List Float → ℕ → Verdict
-underChecked tol n j first c us ts i =
-    must (C (place j (first + i))) (timed n first (first + i) (getD ts i nan)) then must (D (place j (first + i))) (near tol (markAt us i) c (getD ts i nan))
+-- C and D at mark i of the part us that lies under a curve c, number j, whose first mark is mark `first` of n; the part begins at mark `from`, and ts are its parameters
+unfoldable pub underChecked : Float → ℕ → ℕ → ℕ → ℕ → Curve → List Float → List Float → ℕ → Verdict
+underChecked tol n j first from c us ts i =
+    must (C (place j (from + i))) (timed n first (from + i) (getD ts i nan)) then must (D (place j (from + i))) (near tol (markAt us i) c (getD ts i nan))
+
+-- the marks under a curve, from mark `first` up to mark `stop` of n: those given, and behind them mark 0 at most
+pub record Under (ms ps : List Float) (n first stop : ℕ) : Type 0 where
+  pub even : Even ms
+  pub order : first ≤ stop
+  pub given : first ≤ count ms
+  pub behind : stop ≤ count ms + 1
+  pub within : stop ≤ n
+  pub params : stop ≤ length ps
 
 -- a list that the gate lets through and that has no fault A
 pub record Listed (ms : List Float) (k : ℕ) (cs : List Float) (fs : List ℕ) (ps : List Float) : Type 0 where

@@ -1,11 +1,14 @@
-// The list checker: whether a list of curves, whoever made it, is sound for its marks and tolerance.
+// The list checker: whether a list of curves, whoever made it, is sound for its marks and tolerance, over an open outline or a closed one.
 ghost use mathlib.Core.Path.{_≡_};
-ghost use Prim.Native.Nat.{_+_, _*_, _≤_, _<_};
-ghost use lib.ListN.{length};
+ghost use Prim.Native.Nat.{_+_, _-_, _*_, _≤_, _<_};
+ghost use lib.ListN.{length, drop};
 ghost use Rattle.float.specs.Answer.{ok};
+ghost use Rattle.ring.specs.Ring.{whole};
+ghost use Rattle.ring.specs.declared.Outline.the-variants as outlines;
 ghost use Rattle.checker.specs.Check.{checkedAnswer, place, inTurn, listed, curveChecked, checkOf};
-ghost use Rattle.checker.specs.Inner.{underChecked, Listed};
+ghost use Rattle.checker.specs.Inner.{underChecked, Under, Listed};
 use plane::Curve;
+use ring::Outline;
 
 // The most marks that are taken.
 const MOST: usize = 4096;
@@ -83,23 +86,24 @@ fn check_firsts(firsts: &[u32], n: usize, count: usize) -> Checked
 
 // ---- C and D: the marks under a curve
 
-// C and D, mark by mark, over the part of the marks under curve j, whose first mark is `first` of n.
+// C and D, mark by mark, over a part of the marks under curve j, whose first mark is `first` of n. The part begins at mark `from`.
 fn check_marks(
     under: &[f64],
     params: &[f64],
     n: usize,
     j: usize,
     first: usize,
+    from: usize,
     c: Curve,
     tolerance: f64,
 ) -> Checked
-    requires { ⌜ (length (now under) ≡ 2 * length (now params)) × (first + length (now params) ≤ n) ⌝ }
-    ensures { λ r. ⌜ checkedAnswer r ≡ ok (inTurn (length (now (params .entry))) (underChecked tolerance n j first c (now (under .entry)) (now (params .entry)))) ⌝ }
+    requires { ⌜ (length (now under) ≡ 2 * length (now params)) × (from + length (now params) ≤ n) ⌝ }
+    ensures { λ r. ⌜ checkedAnswer r ≡ ok (inTurn (length (now (params .entry))) (underChecked tolerance n j first from c (now (under .entry)) (now (params .entry)))) ⌝ }
 {
     let mut i = 0;
     while i < params.len() {
         let t = params[i];
-        let mark = first + i;
+        let mark = from + i;
         if !faults::is_timed(n, first, mark, t) {
             return fault_c(j, mark);
         }
@@ -111,10 +115,50 @@ fn check_marks(
     Checked::Passed
 }
 
+// C and D over all marks under curve j, from mark `first` up to mark `stop`. Mark 0, where it counts again, has a walk of its own, so that no slice is
+// longer than what is lent: behind those given, mark k is mark k - given.
+fn check_under(
+    marks: &[f64],
+    params: &[f64],
+    n: usize,
+    j: usize,
+    first: usize,
+    stop: usize,
+    c: Curve,
+    tolerance: f64,
+) -> Checked
+    requires { ⌜ Under (now marks) (now params) n first stop ⌝ }
+    ensures { λ r. ⌜ checkedAnswer r ≡ ok (inTurn (stop - first) (underChecked tolerance n j first first c (drop (2 * first) (whole outlines.Closed (now (marks .entry)))) (drop first (now (params .entry))))) ⌝ }
+{
+    let given = marks.len() / 2;
+    if stop <= given {
+        let all = faults::marks_under(marks, first, stop);
+        return check_marks(all, &params[first..stop], n, j, first, first, c, tolerance);
+    }
+    let most = faults::marks_under(marks, first, given);
+    let walked = check_marks(
+        most,
+        &params[first..given],
+        n,
+        j,
+        first,
+        first,
+        c,
+        tolerance,
+    );
+    let Checked::Passed = walked else {
+        return walked;
+    };
+    let last = stop - 1;
+    let again = faults::marks_under(marks, last - given, stop - given);
+    check_marks(again, &params[last..stop], n, j, first, last, c, tolerance)
+}
+
 // ---- the whole
 
 // B of curve j, then C and D of the marks under it.
 fn check_curve(
+    outline: Outline,
     marks: &[f64],
     tolerance: f64,
     count: usize,
@@ -123,23 +167,26 @@ fn check_curve(
     params: &[f64],
     j: usize,
 ) -> Checked
-    requires { ⌜ (j < «count») × Listed (now marks) «count» (now curves) (now firsts) (now params) ⌝ }
-    ensures { λ r. ⌜ checkedAnswer r ≡ ok (curveChecked (now (marks .entry)) tolerance «count» (now (curves .entry)) (now (firsts .entry)) (now (params .entry)) j) ⌝ }
+    requires { ⌜ (j < «count») × Listed (whole outline (now marks)) «count» (now curves) (now firsts) (now params) ⌝ }
+    ensures { λ r. ⌜ checkedAnswer r ≡ ok (curveChecked (whole outline (now (marks .entry))) tolerance «count» (now (curves .entry)) (now (firsts .entry)) (now (params .entry)) j) ⌝ }
 {
-    let n = marks.len() / 2;
+    let given = marks.len() / 2;
+    let n = ring::again(outline) + given;
     let c = faults::curve_at(curves, j);
     let first = faults::first_at(firsts, j);
     let last = faults::last_at(firsts, n, count, j);
-    if !faults::is_run(marks, c, first, last) {
+    let p = marks::mark_at(marks, first);
+    let q = ring::mark_round(marks, last);
+    if !faults::is_run(c, p, q) {
         return fault_b(j, first);
     }
     let stop = faults::stop_at(firsts, n, count, j);
-    let under = faults::marks_under(marks, first, stop);
-    check_marks(under, &params[first..stop], n, j, first, c, tolerance)
+    check_under(marks, params, n, j, first, stop, c, tolerance)
 }
 
 // Curve by curve.
 fn check_curves(
+    outline: Outline,
     marks: &[f64],
     tolerance: f64,
     count: usize,
@@ -147,12 +194,12 @@ fn check_curves(
     firsts: &[u32],
     params: &[f64],
 ) -> Checked
-    requires { ⌜ Listed (now marks) «count» (now curves) (now firsts) (now params) ⌝ }
-    ensures { λ r. ⌜ checkedAnswer r ≡ ok (inTurn «count» (curveChecked (now (marks .entry)) tolerance «count» (now (curves .entry)) (now (firsts .entry)) (now (params .entry)))) ⌝ }
+    requires { ⌜ Listed (whole outline (now marks)) «count» (now curves) (now firsts) (now params) ⌝ }
+    ensures { λ r. ⌜ checkedAnswer r ≡ ok (inTurn «count» (curveChecked (whole outline (now (marks .entry))) tolerance «count» (now (curves .entry)) (now (firsts .entry)) (now (params .entry)))) ⌝ }
 {
     let mut j = 0;
     while j < count {
-        let one = check_curve(marks, tolerance, count, curves, firsts, params, j);
+        let one = check_curve(outline, marks, tolerance, count, curves, firsts, params, j);
         let Checked::Passed = one else {
             return one;
         };
@@ -161,8 +208,10 @@ fn check_curves(
     Checked::Passed
 }
 
-// Whether `count` curves are a sound list for these marks and this tolerance, or the first fault, with its curve's number and its mark's.
-pub fn check_list(
+// Whether `count` curves are a sound list for the marks of an outline and this tolerance, or the first fault, with its curve's number and its mark's: the gate,
+// then A, then curve by curve.
+pub fn check(
+    outline: Outline,
     marks: &[f64],
     tolerance: f64,
     count: usize,
@@ -170,9 +219,10 @@ pub fn check_list(
     firsts: &[u32],
     params: &[f64],
 ) -> Checked
-    ensures { λ r. ⌜ checkedAnswer r ≡ checkOf (now (marks .entry)) tolerance «count» (now (curves .entry)) (now (firsts .entry)) (now (params .entry)) ⌝ }
+    ensures { λ r. ⌜ checkedAnswer r ≡ checkOf outline (now (marks .entry)) tolerance «count» (now (curves .entry)) (now (firsts .entry)) (now (params .entry)) ⌝ }
 {
     let refusal = gate::gate_for(
+        outline,
         marks,
         tolerance,
         MOST,
@@ -184,9 +234,54 @@ pub fn check_list(
     if refusal != 0 {
         return Checked::Refused(refusal);
     }
-    let risen = check_firsts(firsts, marks.len() / 2, count);
+    let n = ring::again(outline) + marks.len() / 2;
+    let risen = check_firsts(firsts, n, count);
     let Checked::Passed = risen else {
         return risen;
     };
-    check_curves(marks, tolerance, count, curves, firsts, params)
+    check_curves(outline, marks, tolerance, count, curves, firsts, params)
+}
+
+// The same for an open outline, from its first mark to its last.
+pub fn check_list(
+    marks: &[f64],
+    tolerance: f64,
+    count: usize,
+    curves: &[f64],
+    firsts: &[u32],
+    params: &[f64],
+) -> Checked
+    ensures { λ r. ⌜ checkedAnswer r ≡ checkOf outlines.Open (now (marks .entry)) tolerance «count» (now (curves .entry)) (now (firsts .entry)) (now (params .entry)) ⌝ }
+{
+    check(
+        Outline::Open,
+        marks,
+        tolerance,
+        count,
+        curves,
+        firsts,
+        params,
+    )
+}
+
+// The same for a closed outline: mark 0 counts again behind the last one, and the last curve has to end there.
+pub fn check_ring(
+    marks: &[f64],
+    tolerance: f64,
+    count: usize,
+    curves: &[f64],
+    firsts: &[u32],
+    params: &[f64],
+) -> Checked
+    ensures { λ r. ⌜ checkedAnswer r ≡ checkOf outlines.Closed (now (marks .entry)) tolerance «count» (now (curves .entry)) (now (firsts .entry)) (now (params .entry)) ⌝ }
+{
+    check(
+        Outline::Closed,
+        marks,
+        tolerance,
+        count,
+        curves,
+        firsts,
+        params,
+    )
 }

@@ -101,13 +101,10 @@ fn is_finite(c: Curve) -> bool
         & (plane::point_finite(c.cp1) & (plane::point_finite(c.cp2) & plane::point_finite(c.end)))
 }
 
-// Whether c's numbers are finite and it runs from mark `first` to mark `last`.
-pub fn is_run(marks: &[f64], c: Curve, first: usize, last: usize) -> bool
-    requires { ⌜ (2 * first + 1 < length (now marks)) × (2 * last + 1 < length (now marks)) ⌝ }
-    ensures { λ r. ⌜ r ≡ runs c (markAt (now (marks .entry)) first) (markAt (now (marks .entry)) last) ⌝ }
+// Whether c's numbers are finite and it runs from the mark p to the mark q.
+pub fn is_run(c: Curve, p: Point, q: Point) -> bool
+    ensures { λ r. ⌜ r ≡ runs c p q ⌝ }
 {
-    let p = marks::mark_at(marks, first);
-    let q = marks::mark_at(marks, last);
     is_finite(c) & (is_same(c.start, p) & is_same(c.end, q))
 }
 

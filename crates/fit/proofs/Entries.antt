@@ -1,5 +1,5 @@
 -- What a passed gate gives a run, and the three ways a fit ends. Assumes nothing.
-use Prim.Native.Nat.{ℕ, zero, suc, _+_, _%_, _≤_}
+use Prim.Native.Nat.{ℕ, zero, suc, _+_, _%_, _≤_, _<_}
 use native.Mathlib.Omega.{arith}
 use mathlib.Core.Path.{_≡_, refl, sym, _∙_, subst}
 use mathlib.Core.Bool.{Bool, true, false, not, cond}
@@ -14,13 +14,18 @@ use Rattle.float.specs.Answer.{refused as no}
 use Rattle.plane.specs.declared.Point.{Point}
 use Rattle.marks.specs.Marks.{count}
 use Rattle.marks.specs.Block.{sizeFrom, blockSize}
+use Rattle.ring.specs.Ring.{again, whole}
+use Rattle.ring.specs.declared.Outline.{Outline}
+use Rattle.ring.specs.declared.Outline.the-variants.{Open}
+use Rattle.ring.proofs.Whole.{again-small, whole-length}
 use Rattle.gate.specs.Gate.{refuse, gateOf}
-use Rattle.gate.proofs.Tests.{Passed, passed}
+use Rattle.gate.proofs.Tests.{Passed, passed, passed-even}
 use Rattle.cut.specs.Run.{Run, refused}
 use Rattle.cut.specs.Lent.{Left, Room}
 use Rattle.cut.specs.declared.Fitted.{Fitted}
 use Rattle.cut.specs.declared.Fitted.the-variants.{Curves, Refused}
-use Rattle.cut.proofs.Cut.{Done, is-done, is-refused, front-length}
+use Rattle.float.proofs.Slices.{front-length}
+use Rattle.cut.proofs.Cut.{Done, is-done, is-refused}
 use Rattle.tangents.specs.declared.Cutting.{Cutting}
 use Rattle.blocks.specs.Blocks.{blocksOf}
 use Rattle.fit.specs.Fit.{fittedAnswer, ending, ended, entered, areTangents, cubicGate}
@@ -50,17 +55,26 @@ of-size k ms tol s t r C C₁ F F₁ p e h = subst (λ (i : ℕ). Left (blocksOf
 
 -- ---- a passed gate
 
-pub passed-room : (top : ℕ) (ms : List Float) (tol : Float) (C : List Float) (F : List ℕ) (P : List Float) → top ≤ 65536 → Passed top ms tol (length C) (length F) (length P) → Room ms 0 C F (take (count ms) P)
-passed-room top ms tol C F P t g =
-    let n : length (take (count ms) P) ≡ count ms = simp length-take (let r = g .params in omega arith) in
+pub passed-room : (top : ℕ) (o : Outline) (ms : List Float) (tol : Float) (C : List Float) (F : List ℕ) (P : List Float) → top < 65536 → Passed top o ms tol (length C) (length F) (length P) → Room (whole o ms) 0 C F (take (again o + count ms) P)
+passed-room top o ms tol C F P t g =
+    let n : length (take (again o + count ms) P) ≡ again o + count ms = simp length-take (let r = g .params in omega arith) in
+    let l = whole-length o ms (passed-even g) in
+    let s = again-small o in
     record { even = omega arith; two = omega arith; near = omega arith; curves = omega arith; firsts = omega arith }
 
-pub cubic-passed : (ms : List Float) (s e : Point) (tol : Float) (c f p q : ℕ) → q ≡ cubicGate ms s e tol c f p → q ≡ 0 → Passed 512 ms tol c f p
+-- the same test and the same room, by equal outlines and equal counts
+pub of-outline : (top : ℕ) (o o′ : Outline) (ms : List Float) (tol : Float) (c f p q : ℕ) → o ≡ o′ → q ≡ gateOf top o ms tol c f p → q ≡ gateOf top o′ ms tol c f p
+of-outline top o o′ ms tol c f p q e h = subst (λ (o : Outline). q ≡ gateOf top o ms tol c f p) e h
+
+pub of-count : (ms C : List Float) (F : List ℕ) (P : List Float) (m n : ℕ) → n ≡ m → Room ms 0 C F (take m P) → Room ms 0 C F (take n P)
+of-count ms C F P m n e h = subst (λ (i : ℕ). Room ms 0 C F (take i P)) (sym e) h
+
+pub cubic-passed : (ms : List Float) (s e : Point) (tol : Float) (c f p q : ℕ) → q ≡ cubicGate ms s e tol c f p → q ≡ 0 → Passed 512 Open ms tol c f p
 unfolding cubicGate
-cubic-passed ms s e tol c f p q h z = passed 512 ms tol c f p (go (eqb (gateOf 512 ms tol c f p) 0) refl (sym h ∙ z))
+cubic-passed ms s e tol c f p q h z = passed 512 Open ms tol c f p (go (eqb (gateOf 512 Open ms tol c f p) 0) refl (sym h ∙ z))
   where
-    go : (b : Bool) → eqb (gateOf 512 ms tol c f p) 0 ≡ b → cond b (refuse (not (areTangents s e)) 5 0) (gateOf 512 ms tol c f p) ≡ 0 → gateOf 512 ms tol c f p ≡ 0
-    go true t h = eqb-true (gateOf 512 ms tol c f p) 0 t
+    go : (b : Bool) → eqb (gateOf 512 Open ms tol c f p) 0 ≡ b → cond b (refuse (not (areTangents s e)) 5 0) (gateOf 512 Open ms tol c f p) ≡ 0 → gateOf 512 Open ms tol c f p ≡ 0
+    go true t h = eqb-true (gateOf 512 Open ms tol c f p) 0 t
     go false t h = h
 
 -- ---- the ends of a fit, of any run

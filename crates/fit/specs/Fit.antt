@@ -1,4 +1,4 @@
--- The four fits: what each answers, and what the three lent slices hold after it. Definitions only.
+-- The five fits: what each answers, and what the three lent slices hold after it. Definitions only.
 use Prim.Native.Nat.{ℕ}
 use mathlib.Core.Bool.{Bool, not, _&&_, cond}
 use mathlib.Core.List.{List}
@@ -17,6 +17,8 @@ use Rattle.gate.specs.Gate.{refuse, gateOf}
 use Rattle.cut.specs.Run.{Run, refused, done, runOf}
 use Rattle.cut.specs.declared.Fitted.{Fitted}
 use Rattle.cut.specs.declared.Fitted.the-variants as fitted
+use Rattle.ring.specs.declared.Outline.the-variants.{Open}
+use Rattle.tangents.specs.Ways.{outlineOf, marksOf}
 use Rattle.tangents.specs.declared.Cutting.{Cutting}
 use Rattle.blocks.specs.Blocks.{blocksOf}
 
@@ -45,9 +47,10 @@ ended (done cs fs ps) C F P = ending (ok (length fs)) (written cs C) (written fs
 abbrev pub entered : ℕ → Run → List Float → List ℕ → List Float → Ending
 entered g R C F P = cond (eqb g 0) (ended R C F P) (ending (no g) C F P)
 
--- by blocks, at most 4,096 marks
+-- by blocks, at most 4,096 marks given; the size of a block is by the marks that are cut, a ring's with mark 0 once more
 unfoldable pub fitOf : Cutting → List Float → Float → List Float → List ℕ → List Float → Ending
-fitOf k ms tol C F P = entered (gateOf 4096 ms tol (length C) (length F) (length P)) (blocksOf k ms (blockSize (count ms)) tol) C F P
+fitOf k ms tol C F P =
+    entered (gateOf 4096 (outlineOf k) ms tol (length C) (length F) (length P)) (blocksOf k (marksOf k ms) (blockSize (count (marksOf k ms))) tol) C F P
 
 -- a tangent's components: finite and of magnitude at most 2
 unfoldable pub component : Float → Bool
@@ -58,7 +61,7 @@ areTangents v w = component (v .x) && component (v .y) && (component (w .x) && c
 
 -- the direct fit tests the tangents last
 unfoldable pub cubicGate : List Float → Point → Point → Float → ℕ → ℕ → ℕ → ℕ
-cubicGate ms s e tol c f p = cond (eqb (gateOf 512 ms tol c f p) 0) (refuse (not (areTangents s e)) 5 0) (gateOf 512 ms tol c f p)
+cubicGate ms s e tol c f p = cond (eqb (gateOf 512 Open ms tol c f p) 0) (refuse (not (areTangents s e)) 5 0) (gateOf 512 Open ms tol c f p)
 
 -- direct, with the tangents given, at most 512 marks
 unfoldable pub cubicOf : List Float → Point → Point → Float → List Float → List ℕ → List Float → Ending

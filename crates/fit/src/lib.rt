@@ -7,6 +7,7 @@ ghost use Rattle.fit.specs.Fit.{fittedAnswer, ending, component, areTang
 use cut::Fitted;
 use float::refusal::OUT_OF_RANGE;
 use plane::Point;
+use ring::Outline;
 use tangents::Cutting;
 
 // The most marks that are taken, and the most that the direct fit takes.
@@ -49,7 +50,15 @@ fn gate_cubic(
 ) -> u32
     ensures { λ r. ⌜ r ≡ cubicGate (now (marks .entry)) start end tolerance «curves» «firsts» «params» ⌝ }
 {
-    let refusal = gate::gate(marks, tolerance, MOST_DIRECT, curves, firsts, params);
+    let refusal = gate::gate(
+        Outline::Open,
+        marks,
+        tolerance,
+        MOST_DIRECT,
+        curves,
+        firsts,
+        params,
+    );
     if refusal != 0 {
         return refusal;
     }
@@ -101,7 +110,7 @@ pub fn fit_curve_cubic(
     Fitted::Curves(made)
 }
 
-// A fit by blocks, of the size that suits the number of marks.
+// A fit by blocks, of the size that suits the number of marks that are cut.
 fn fit_cut(
     cutting: Cutting,
     marks: &[f64],
@@ -112,7 +121,9 @@ fn fit_cut(
 ) -> Fitted
     ensures { λ r. ⌜ ending (fittedAnswer r) (now (curves .exit)) (now (firsts .exit)) (now (params .exit)) ≡ fitOf cutting (now (marks .entry)) tolerance (now (curves .entry)) (now (firsts .entry)) (now (params .entry)) ⌝ }
 {
+    let outline = tangents::outline_of(cutting);
     let refusal = gate::gate(
+        outline,
         marks,
         tolerance,
         MOST,
@@ -123,7 +134,7 @@ fn fit_cut(
     if refusal != 0 {
         return Fitted::Refused(refusal);
     }
-    let n = marks.len() / 2;
+    let n = ring::again(outline) + marks.len() / 2;
     let size = marks::max_points_to_fit(n);
     let out = blocks::fit_blocks(
         cutting,
@@ -178,4 +189,18 @@ pub fn fit_joined(
     ensures { λ r. ⌜ ending (fittedAnswer r) (now (curves .exit)) (now (firsts .exit)) (now (params .exit)) ≡ fitOf variants.Joined (now (marks .entry)) tolerance (now (curves .entry)) (now (firsts .entry)) (now (params .entry)) ⌝ }
 {
     fit_cut(Cutting::Joined, marks, tolerance, curves, firsts, params)
+}
+
+// The ring fit: the joined fit of a closed outline. Mark 0 counts again behind the last, so that the last curve ends on the very mark where the first
+// begins, and along the same tangent. For n marks there is room for n curves and n + 1 parameters.
+pub fn fit_ring(
+    marks: &[f64],
+    tolerance: f64,
+    curves: &mut [f64],
+    firsts: &mut [u32],
+    params: &mut [f64],
+) -> Fitted
+    ensures { λ r. ⌜ ending (fittedAnswer r) (now (curves .exit)) (now (firsts .exit)) (now (params .exit)) ≡ fitOf variants.Ring (now (marks .entry)) tolerance (now (curves .entry)) (now (firsts .entry)) (now (params .entry)) ⌝ }
+{
+    fit_cut(Cutting::Ring, marks, tolerance, curves, firsts, params)
 }

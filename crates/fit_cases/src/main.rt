@@ -130,7 +130,7 @@ fn fit_direct(
     fit::fit_curve_cubic(marks, start, end, tolerance, curves, firsts, params)
 }
 
-// The fits by their numbers: 0 as the source cuts, 1 the same of a loop, 2 direct, 3 joined.
+// The fits by their numbers: 0 as the source cuts, 1 the same of a loop, 2 direct, 3 joined, 4 of a ring.
 fn fit_by_kind(
     head: &[u8; 88],
     marks: &[f64],
@@ -143,8 +143,15 @@ fn fit_by_kind(
         0 => fit::fit_curve(marks, tolerance, curves, firsts, params),
         1 => fit::fit_curve_loop(marks, tolerance, curves, firsts, params),
         2 => fit_direct(head, marks, curves, firsts, params),
-        _ => fit::fit_joined(marks, tolerance, curves, firsts, params),
+        3 => fit::fit_joined(marks, tolerance, curves, firsts, params),
+        _ => fit::fit_ring(marks, tolerance, curves, firsts, params),
     }
+}
+
+// How many parameters a fit of these marks has: a ring comes back to its first mark.
+fn params_of(head: &[u8; 88], marks: &[f64]) -> usize {
+    let n = marks.len() / 2;
+    if cases::word(head, 0) == 4 { n + 1 } else { n }
 }
 
 // A fit's number: 0 and how many curves, or the refusal.
@@ -162,7 +169,7 @@ fn print_fitted(fitted: Fitted) {
 fn print_answer(
     lists: u64,
     fitted: Fitted,
-    marks: usize,
+    times: usize,
     curves: &[f64],
     firsts: &[u32],
     params: &[f64],
@@ -175,7 +182,7 @@ fn print_answer(
     let Fitted::Curves(n) = fitted else {
         return;
     };
-    print_lists(n, curves, firsts, params, marks);
+    print_lists(n, curves, firsts, params, times);
 }
 
 // The lines of one answer.
@@ -190,7 +197,7 @@ fn answer(
     print_answer(
         cases::word(head, 40),
         fitted,
-        marks.len() / 2,
+        params_of(head, marks),
         curves,
         firsts,
         params,
@@ -204,13 +211,13 @@ fn print_left(curves: &[f64], firsts: &[u32], params: &[f64]) {
     cases::end_line();
 }
 
-fn print_lists(n: usize, curves: &[f64], firsts: &[u32], params: &[f64], marks: usize) {
+fn print_lists(n: usize, curves: &[f64], firsts: &[u32], params: &[f64], times: usize) {
     print_curves(n, curves, firsts);
-    if marks > params.len() {
+    if times > params.len() {
         return;
     }
     let from: usize = 0;
-    print_floats(&params[from..marks]);
+    print_floats(&params[from..times]);
     cases::end_line();
 }
 

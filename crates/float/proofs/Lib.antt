@@ -8,3 +8,4 @@ pub mod Bits
 mod Unit
 pub mod Answers
 pub mod Folds
+pub mod Slices

@@ -1,5 +1,5 @@
 -- What a fit tests before it runs, in the order 3, 1, 2, 4, 5. Definitions only.
-use Prim.Native.Nat.{ℕ, _-_, _*_, _%_}
+use Prim.Native.Nat.{ℕ, _+_, _-_, _*_, _%_}
 use mathlib.Core.Bool.{Bool, true, false, not, _&&_}
 use mathlib.Core.List.{List, [], _∷_}
 use lib.ListN.{length}
@@ -8,6 +8,8 @@ use lib.Ieee.{Float, le}
 use Rattle.float.specs.Number.{f0, finite}
 use Rattle.plane.specs.Range.{coordinate}
 use Rattle.marks.specs.Marks.{count}
+use Rattle.ring.specs.Ring.{again}
+use Rattle.ring.specs.declared.Outline.{Outline}
 
 -- each number finite and of magnitude at most 1,000,000
 unfoldable pub inRange : List Float → Bool
@@ -23,18 +25,19 @@ abbrev pub refuse : Bool → ℕ → ℕ → ℕ
 refuse true q n = q
 refuse false q n = n
 
--- at most `top` marks; room for k curves in c numbers of curves and f first marks, and for every mark in p parameters; 0 if all tests pass
-unfoldable pub gateFor : ℕ → ℕ → List Float → Float → ℕ → ℕ → ℕ → ℕ
-gateFor top k ms tol c f p =
+-- two marks, of a closed outline three, and at most `top`; room for k curves in c numbers of curves and f first marks, and in p parameters for every
+-- mark, where one that counts again has its own; 0 if all tests pass
+unfoldable pub gateFor : ℕ → Outline → ℕ → List Float → Float → ℕ → ℕ → ℕ → ℕ
+gateFor top o k ms tol c f p =
     refuse (not (eqb (length ms % 2) 0)) 3
-    (refuse (ltb (count ms) 2) 1
+    (refuse (ltb (count ms) (again o + 2)) 1
     (refuse (ltb top (count ms)) 2
     (refuse (ltb c (8 * k)) 4
     (refuse (ltb f k) 4
-    (refuse (ltb p (count ms)) 4
+    (refuse (ltb p (again o + count ms)) 4
     (refuse (not (inRange ms)) 5
     (refuse (not (tolerable tol)) 5 0)))))))
 
--- a fit wants room for as many curves as there can be, one fewer than the marks
-abbrev pub gateOf : ℕ → List Float → Float → ℕ → ℕ → ℕ → ℕ
-gateOf top ms tol c f p = gateFor top (count ms - 1) ms tol c f p
+-- a fit wants room for as many curves as there can be, one fewer than the marks that the outline runs over
+abbrev pub gateOf : ℕ → Outline → List Float → Float → ℕ → ℕ → ℕ → ℕ
+gateOf top o ms tol c f p = gateFor top o (again o + count ms - 1) ms tol c f p

@@ -8,6 +8,7 @@ use float::refusal::ODD;
 use float::refusal::OUT_OF_RANGE;
 use float::refusal::TOO_FEW;
 use float::refusal::TOO_MANY;
+use ring::Outline;
 
 // Whether every number may be a coordinate.
 pub fn all_in_range(marks: &[f64]) -> bool
@@ -31,9 +32,10 @@ pub fn is_tolerable(x: f64) -> bool
     float::finite(x) & (0.0 <= x)
 }
 
-// The refusal before a run over these marks, at most `top` of them, with so many numbers of curves, first marks and parameters, where room for
-// `wanted` curves is asked; 0 if there is none. Eight times `wanted` may be no `usize`, so the room is divided.
+// The refusal before a run over the marks of an outline, at most `top` of them, with so many numbers of curves, first marks and parameters, where
+// room for `wanted` curves is asked; 0 if there is none. Eight times `wanted` may be no `usize`, so the room is divided.
 pub fn gate_for(
+    outline: Outline,
     marks: &[f64],
     tolerance: f64,
     top: usize,
@@ -42,14 +44,15 @@ pub fn gate_for(
     firsts: usize,
     params: usize,
 ) -> u32
-    ensures { λ r. ⌜ r ≡ gateFor «top» «wanted» (now (marks .entry)) tolerance «curves» «firsts» «params» ⌝ }
+    ensures { λ r. ⌜ r ≡ gateFor «top» outline «wanted» (now (marks .entry)) tolerance «curves» «firsts» «params» ⌝ }
 {
     let len = marks.len();
     if len % 2 != 0 {
         return ODD;
     }
     let n = len / 2;
-    if n < 2 {
+    let more = ring::again(outline);
+    if n < more + 2 {
         return TOO_FEW;
     }
     if n > top {
@@ -61,7 +64,7 @@ pub fn gate_for(
     if firsts < wanted {
         return NO_ROOM;
     }
-    if params < n {
+    if params < more + n {
         return NO_ROOM;
     }
     if !all_in_range(marks) {
@@ -75,6 +78,7 @@ pub fn gate_for(
 
 // The same with room for as many curves as these marks can have: the refusal before a fit.
 pub fn gate(
+    outline: Outline,
     marks: &[f64],
     tolerance: f64,
     top: usize,
@@ -82,13 +86,22 @@ pub fn gate(
     firsts: usize,
     params: usize,
 ) -> u32
-    ensures { λ r. ⌜ r ≡ gateOf «top» (now (marks .entry)) tolerance «curves» «firsts» «params» ⌝ }
+    ensures { λ r. ⌜ r ≡ gateOf «top» outline (now (marks .entry)) tolerance «curves» «firsts» «params» ⌝ }
 {
-    let n = marks.len() / 2;
+    let n = ring::again(outline) + marks.len() / 2;
     if n == 0 {
-        return gate_for(marks, tolerance, top, 0, curves, firsts, params);
+        return gate_for(outline, marks, tolerance, top, 0, curves, firsts, params);
     }
-    gate_for(marks, tolerance, top, n - 1, curves, firsts, params)
+    gate_for(
+        outline,
+        marks,
+        tolerance,
+        top,
+        n - 1,
+        curves,
+        firsts,
+        params,
+    )
 }
 
 // Every number plus zero.

@@ -11,6 +11,7 @@ use Rattle.float.specs.Answer.{ok}
 use Rattle.float.specs.Answer.{refused as no}
 use Rattle.marks.specs.Marks.{count}
 use Rattle.marks.specs.Block.{blockSize}
+use Rattle.ring.specs.declared.Outline.the-variants.{Open}
 use Rattle.gate.specs.Gate.{gateOf}
 use Rattle.tangents.specs.declared.Cutting.the-variants.{Joined}
 use Rattle.blocks.specs.Blocks.{blocksOf}
@@ -31,5 +32,5 @@ unfolding fileFit fitOf
 fit-count F C P Q k e =
     let ms : List Float = floats (F .marks) in
     let t : Float = ofBits binary64 (F .tolerance) in
-    let g : ℕ = gateOf 4096 ms t (length C) (length P) (length Q) in
+    let g : ℕ = gateOf 4096 Open ms t (length C) (length P) (length Q) in
     ran (eqb g 0) g (blocksOf Joined ms (blockSize (count ms)) t) C P Q k e

@@ -6,6 +6,7 @@ use crate::outline::Fit;
 use crate::single;
 use bytes::scan;
 use libc::STDOUT_FILENO;
+use ring::Outline;
 
 // Whether a line is a case; what a case answers is printed. The kinds are in the order of their names' list.
 fn answered(line: &[u8]) -> bool {
@@ -25,7 +26,9 @@ fn answered(line: &[u8]) -> bool {
         10 => outline::blocks_case(Fit::Source, line, end),
         11 => outline::blocks_case(Fit::Loop, line, end),
         12 => outline::blocks_case(Fit::Joined, line, end),
-        13 => listing::check_case(line, end),
+        13 => listing::check_case(Outline::Open, line, end),
+        14 => outline::blocks_case(Fit::Ring, line, end),
+        15 => listing::check_case(Outline::Closed, line, end),
         _ => false,
     }
 }

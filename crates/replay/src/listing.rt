@@ -13,6 +13,7 @@ use checker::Checked;
 use checker::Fault;
 use checker::Place;
 use libc::STDOUT_FILENO;
+use ring::Outline;
 
 // More marks than this are bad; more curves than this do not fit on a line.
 const MOST_MARKS: u64 = 4200;
@@ -83,51 +84,100 @@ fn say_checked(r: Checked) {
     }
 }
 
-// What the checker says of the list of n marks and k curves that stands at the start of these slices.
-fn say_list(
-    tolerance: f64,
-    n: usize,
-    k: usize,
+// What the call for a list, or for a ring's, says.
+fn checked(
+    outline: Outline,
     marks: &[f64],
+    tolerance: f64,
+    k: usize,
+    curves: &[f64],
+    firsts: &[u32],
+    params: &[f64],
+) -> Checked {
+    match outline {
+        Outline::Open => checker::check_list(marks, tolerance, k, curves, firsts, params),
+        Outline::Closed => checker::check_ring(marks, tolerance, k, curves, firsts, params),
+    }
+}
+
+// What the checker says of the list of k curves and `times` parameters that stands at the start of these slices.
+fn say_list(
+    outline: Outline,
+    marks: &[f64],
+    tolerance: f64,
+    k: usize,
+    times: usize,
     curves: &[f64],
     firsts: &[u32],
     params: &[f64],
 )
-    requires { ⌜ (n ≤ 4200) × (k ≤ 8192) ⌝ }
+    requires { ⌜ k ≤ 8192 ⌝ }
 {
-    say_checked(checker::check_list(
-        front(marks, 2 * n),
+    say_checked(checked(
+        outline,
+        marks,
         tolerance,
         k,
         front(curves, 8 * k),
         front_marks(firsts, k),
-        front(params, n),
+        front(params, times),
     ));
 }
 
-// A list after its marks: `at` is the place before the number of its curves.
-fn list_case(line: &[u8], at: usize, tolerance: f64, n: usize, marks: &[f64]) -> bool
-    requires { ⌜ n ≤ 4200 ⌝ }
-{
+// A list after its marks, with `times` parameters: `at` is the place before the number of its curves.
+fn list_case(
+    outline: Outline,
+    line: &[u8],
+    at: usize,
+    tolerance: f64,
+    times: usize,
+    marks: &[f64],
+) -> bool {
     let mut firsts = [0u32; 8192];
     let mut curves = [0.0; 65536];
-    let mut params = [0.0; 4200];
+    let mut params = [0.0; 4201];
     let count = take_count(line, at, MOST_CURVES);
     let k = count.x as usize;
     let then = take_curves(line, count.then, k, &mut firsts, &mut curves);
-    if take_some(line, then, n, &mut params) != line.len() {
+    if take_some(line, then, times, &mut params) != line.len() {
         return false;
     }
-    say_list(tolerance, n, k, marks, &curves, &firsts, &params);
+    say_list(
+        outline,
+        marks,
+        tolerance,
+        k,
+        times,
+        &curves,
+        &firsts,
+        &params,
+    );
     true
 }
 
-// check TOL N X0 Y0 .. K F0 C8 F1 C8 .. T0 .. T(N-1)
-pub fn check_case(line: &[u8], at: usize) -> bool {
+// How many parameters a list of n marks has: a ring comes back to its first mark.
+fn params_of(outline: Outline, n: usize) -> usize
+    requires { ⌜ n ≤ 4200 ⌝ }
+{
+    match outline {
+        Outline::Open => n,
+        Outline::Closed => n + 1,
+    }
+}
+
+// check TOL N X0 Y0 .. K F0 C8 F1 C8 .. T0 .. T(N-1), and check_ring with one parameter more
+pub fn check_case(outline: Outline, line: &[u8], at: usize) -> bool {
     let mut marks = [0.0; 8400];
     let tolerance = take_float(line, at);
     let count = take_count(line, tolerance.then, MOST_MARKS);
     let n = count.x as usize;
     let then = take_some(line, count.then, 2 * n, &mut marks);
-    list_case(line, then, tolerance.x, n, &marks)
+    list_case(
+        outline,
+        line,
+        then,
+        tolerance.x,
+        params_of(outline, n),
+        front(&marks, 2 * n),
+    )
 }

@@ -1,4 +1,4 @@
-// Cases of an outline: the four fits. Up to 4,200 marks are handed on, so that the fits' own refusal of more than 4,096 shows.
+// Cases of an outline: the five fits. Up to 4,200 marks are handed on, so that the fits' own refusal of more than 4,096 shows.
 use crate::cursor::front;
 use crate::cursor::front_marks;
 use crate::cursor::take_float;
@@ -16,6 +16,7 @@ pub enum Fit {
     Source,
     Loop,
     Joined,
+    Ring,
 }
 
 fn fit_by(
@@ -33,7 +34,17 @@ fn fit_by(
         Fit::Source => fit::fit_curve(marks, tolerance, curves, firsts, params),
         Fit::Loop => fit::fit_curve_loop(marks, tolerance, curves, firsts, params),
         Fit::Joined => fit::fit_joined(marks, tolerance, curves, firsts, params),
+        Fit::Ring => fit::fit_ring(marks, tolerance, curves, firsts, params),
     }
+}
+
+// How many parameters a fit of these marks has: a ring comes back to its first mark.
+fn params_of(fit: Fit, marks: &[f64]) -> usize {
+    let n = marks.len() / 2;
+    let Fit::Ring = fit else {
+        return n;
+    };
+    n + 1
 }
 
 // How many numbers a line has behind a place: each is a blank and 16 digits.
@@ -68,7 +79,7 @@ fn print_curves(curves: &[f64], firsts: &[u32]) {
     }
 }
 
-// How many curves, the curves, and a parameter for each mark.
+// How many curves, the curves, and the parameters.
 fn print_fit(k: usize, curves: &[f64], firsts: &[u32], params: &[f64]) {
     print_accepted();
     cases::print_next_count(k as u64);
@@ -78,12 +89,12 @@ fn print_fit(k: usize, curves: &[f64], firsts: &[u32], params: &[f64]) {
 
 // A fit's answer.
 fn say_fit(fit: Fit, marks: &[f64], tolerance: f64) {
-    let mut curves = [0.0; 32760];
-    let mut firsts = [0u32; 4095];
-    let mut params = [0.0; 4096];
+    let mut curves = [0.0; 32768];
+    let mut firsts = [0u32; 4096];
+    let mut params = [0.0; 4097];
     let fitted = fit_by(fit, marks, tolerance, &mut curves, &mut firsts, &mut params);
     match fitted {
-        Fitted::Curves(k) => print_fit(k, &curves, &firsts, front(&params, marks.len() / 2)),
+        Fitted::Curves(k) => print_fit(k, &curves, &firsts, front(&params, params_of(fit, marks))),
         Fitted::Refused(q) => print_refused(q),
     }
 }
@@ -109,7 +120,7 @@ pub fn direct_case(line: &[u8], at: usize) -> bool {
     fit_case(Fit::Direct(from, to), tolerance.x, line, end.then)
 }
 
-// source, loop, joined TOL X0 Y0 ..
+// source, loop, joined, ring TOL X0 Y0 ..
 pub fn blocks_case(fit: Fit, line: &[u8], at: usize) -> bool {
     let tolerance = take_float(line, at);
     fit_case(fit, tolerance.x, line, tolerance.then)

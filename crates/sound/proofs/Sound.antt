@@ -10,6 +10,8 @@ use lib.Ieee.{Float, nan}
 use borrow.Author.Tests.{eqb-true, eq-eqb}
 use Rattle.float.specs.Answer.{ok, refused}
 use Rattle.marks.specs.Marks.{count}
+use Rattle.ring.specs.Ring.{whole}
+use Rattle.ring.specs.declared.Outline.{Outline}
 use Rattle.gate.specs.Gate.{gateFor}
 use Rattle.faults.specs.Tests.{firstAt}
 use Rattle.faults.proofs.Firsts.{Risen, ending, span}
@@ -22,22 +24,10 @@ use Rattle.sound.proofs.Under.{home, risen-of}
 use Rattle.sound.proofs.Passes.{Clear, clear, clear-passes}
 
 module _ (ms : List Float) (tol : Float) (k : ℕ) (cs : List Float) (fs : List ℕ) (ps : List Float) where
-  abbrev gate : ℕ
-  gate = gateFor 4096 k ms tol (length cs) (length fs) (length ps)
-
-  -- a verdict is given exactly where the gate gives 0
-  pub judged : (v : Verdict) → checkOf ms tol k cs fs ps ≡ ok v → (gate ≡ 0) × (listChecked ms tol k cs fs ps ≡ v)
-  unfolding checkOf
-  judged v h = go (eqb gate 0) refl h
-    where
-      go : (b : Bool) → eqb gate 0 ≡ b → cond b (ok (listChecked ms tol k cs fs ps)) (refused gate) ≡ ok v → (gate ≡ 0) × (listChecked ms tol k cs fs ps ≡ v)
-      go true e h = (eqb-true gate 0 e, cc)
-      go false e h = let z : _≡_ {A = ℕ} 0 1 = cc in absurd (omega arith)
-
-  pub passes-sound : checkOf ms tol k cs fs ps ≡ ok passed → Sound ms tol k cs fs ps
+  pub checked-sound : listChecked ms tol k cs fs ps ≡ passed → Sound ms tol k cs fs ps
   unfolding listChecked
-  passes-sound h =
-      let b = both-pass (listed (count ms) k fs) (inTurn k (curveChecked ms tol k cs fs ps)) (judged passed h .1) in
+  checked-sound h =
+      let b = both-pass (listed (count ms) k fs) (inTurn k (curveChecked ms tol k cs fs ps)) h in
       sound (risen (count ms) k fs (b .0)) (λ j l. clear ms tol k cs fs ps j (turn-each (curveChecked ms tol k cs fs ps) k (b .1) j l))
     where
       sound : Risen (count ms) k fs → ((j : ℕ) → j < k → Clear ms tol k cs fs ps j) → Sound ms tol k cs fs ps
@@ -63,11 +53,11 @@ module _ (ms : List Float) (tol : Float) (k : ℕ) (cs : List Float) (fs : List 
         near-enough = λ j l i f u. c j l .nears i f u;
       }
 
-  pub sound-passes : gate ≡ 0 → Sound ms tol k cs fs ps → checkOf ms tol k cs fs ps ≡ ok passed
-  unfolding checkOf listChecked
-  sound-passes g s =
+  pub sound-checked : Sound ms tol k cs fs ps → listChecked ms tol k cs fs ps ≡ passed
+  unfolding listChecked
+  sound-checked s =
       let r = risen-of (count ms) k fs (s .some) (s .from-first) (s .two-or-more) in
-      rw (eq-eqb gate 0 g, listed-of (count ms) k fs r) (ap ok (turn-all (curveChecked ms tol k cs fs ps) k (λ j l. clear-passes ms tol k cs fs ps j (one r j l) (let p = span (count ms) k fs j r l in let q = p .starts in omega arith))))
+      rw (listed-of (count ms) k fs r) (turn-all (curveChecked ms tol k cs fs ps) k (λ j l. clear-passes ms tol k cs fs ps j (one r j l) (let p = span (count ms) k fs j r l in let q = p .starts in omega arith)))
     where
       one : Risen (count ms) k fs → (j : ℕ) → j < k → Clear ms tol k cs fs ps j
       one r j l = record {
@@ -80,3 +70,27 @@ module _ (ms : List Float) (tol : Float) (k : ℕ) (cs : List Float) (fs : List 
             timed-of (count ms) (firstAt fs j) i (getD ps i nan) (λ e. rw e (s .zero-at-first j l)) (λ e. let d : i ≡ count ms - 1 = omega arith in rw d (s .one-at-last)) (s .within-unit i (omega arith));
         nears = λ i f u. s .near-enough j l i f u;
       }
+
+-- the marks that an outline runs over
+module _ (o : Outline) (ms : List Float) (tol : Float) (k : ℕ) (cs : List Float) (fs : List ℕ) (ps : List Float) where
+  abbrev gate : ℕ
+  gate = gateFor 4096 o k ms tol (length cs) (length fs) (length ps)
+
+  abbrev checked : Verdict
+  checked = listChecked (whole o ms) tol k cs fs ps
+
+  -- a verdict is given exactly where the gate gives 0
+  pub judged : (v : Verdict) → checkOf o ms tol k cs fs ps ≡ ok v → (gate ≡ 0) × (checked ≡ v)
+  unfolding checkOf
+  judged v h = go (eqb gate 0) refl h
+    where
+      go : (b : Bool) → eqb gate 0 ≡ b → cond b (ok checked) (refused gate) ≡ ok v → (gate ≡ 0) × (checked ≡ v)
+      go true e h = (eqb-true gate 0 e, cc)
+      go false e h = let z : _≡_ {A = ℕ} 0 1 = cc in absurd (omega arith)
+
+  pub passes-sound : checkOf o ms tol k cs fs ps ≡ ok passed → Sound (whole o ms) tol k cs fs ps
+  passes-sound h = checked-sound (whole o ms) tol k cs fs ps (judged passed h .1)
+
+  pub sound-passes : gate ≡ 0 → Sound (whole o ms) tol k cs fs ps → checkOf o ms tol k cs fs ps ≡ ok passed
+  unfolding checkOf
+  sound-passes g s = rw (eq-eqb gate 0 g) (ap ok (sound-checked (whole o ms) tol k cs fs ps s))

@@ -1,4 +1,4 @@
--- Where two joined blocks meet there is no kink: the tangent that the right block starts with is the left block's end tangent times -1. Definitions only.
+-- Where two blocks meet there is no kink: the tangent that the right block starts with is the left block's end tangent times -1. Definitions only.
 use Prim.Native.Nat.{ℕ, _+_, _≤_, _<_}
 use mathlib.Core.Path.{_≡_}
 use mathlib.Core.List.{List}
@@ -7,15 +7,25 @@ use Rattle.float.specs.Number.{f1}
 use Rattle.float.specs.Answer.{ok, outcome}
 use Rattle.plane.specs.Plane.{times}
 use Rattle.tangents.specs.declared.Ways.{Ways}
-use Rattle.tangents.specs.declared.Cutting.the-variants.{Joined}
+use Rattle.tangents.specs.declared.Cutting.{Cutting}
+use Rattle.tangents.specs.declared.Cutting.the-variants.{Ring}
 use Rattle.tangents.specs.Ways.{over, waysOf}
 
 -- the left block takes `size` marks from `from` on and the first of the right block, after which marks are left; the right one goes up to `to`
 abbrev pub NoKink : Type 0
 NoKink =
-    (ms : List Float) (n size from to : ℕ) (left right : Ways)
+    (k : Cutting) (ms : List Float) (n size from to : ℕ) (left right : Ways)
+    → over k ≡ 1
     → 1 ≤ size
-    → from + (size + over Joined) < n
-    → outcome (waysOf Joined ms n from (from + (size + over Joined))) ≡ ok left
-    → outcome (waysOf Joined ms n (from + size) to) ≡ ok right
+    → from + (size + over k) < n
+    → outcome (waysOf k ms n from (from + (size + over k))) ≡ ok left
+    → outcome (waysOf k ms n (from + size) to) ≡ ok right
     → outcome (times (left .end) (neg f1)) ≡ ok (right .start)
+
+-- nor where a ring comes back: its last block goes up to the last of its n marks, its first one starts at mark 0
+abbrev pub NoKinkAtSeam : Type 0
+NoKinkAtSeam =
+    (ms : List Float) (n from to : ℕ) (last first : Ways)
+    → outcome (waysOf Ring ms n from n) ≡ ok last
+    → outcome (waysOf Ring ms n 0 to) ≡ ok first
+    → outcome (times (last .end) (neg f1)) ≡ ok (first .start)

@@ -4,10 +4,15 @@ ghost use mathlib.Core.Path.{_≡_};
 ghost use Prim.Native.Nat.{_+_, _*_, _≤_};
 ghost use lib.ListN.{length};
 ghost use Rattle.float.specs.Answer.{outcome};
+ghost use Rattle.float.specs.Answer.{_>>=_ as chain};
 ghost use Rattle.marks.specs.Answers.{wayAnswer};
-ghost use Rattle.tangents.specs.Ways.{turnAnswer, Inner, tangentAt, opposite, oppositeAt, waysAt, over, startAt, endAt, meets, startOf, endOf, waysOf};
+ghost use Rattle.ring.specs.Ring.{whole, Even};
+ghost use Rattle.ring.specs.declared.Outline.the-variants as outline;
+ghost use Rattle.marks.specs.Marks.{count};
+ghost use Rattle.tangents.specs.Ways.{turnAnswer, Inner, tangentAt, opposite, waysAt, over, outlineOf, marksOf, startAt, endAt, meets, seamAt, startOf, endOf, waysOf};
 use marks::Way;
 use plane::Point;
+use ring::Outline;
 
 // Two tangents: at a cut that at the left side's end, and that turned about at the right side's start; of a block those at its own end and start.
 pub struct Ways {
@@ -21,15 +26,15 @@ pub enum Turn {
     Lost,
 }
 
-// The tangent at mark `at`, from its two neighbours.
+// The tangent at mark `at`, from its two neighbours; behind the last mark stands mark 0.
 fn tangent_at(marks: &[f64], at: usize) -> Way
-    requires { ⌜ Inner (now marks) at ⌝ }
-    ensures { λ r. ⌜ wayAnswer r ≡ outcome (tangentAt (now (marks .entry)) at) ⌝ }
+    requires { ⌜ Inner outline.Closed (now marks) at ⌝ }
+    ensures { λ r. ⌜ wayAnswer r ≡ outcome (tangentAt (whole outline.Closed (now (marks .entry))) at) ⌝ }
 {
     marks::tangent_between(
         marks::mark_at(marks, at - 1),
         marks::mark_at(marks, at),
-        marks::mark_at(marks, at + 1),
+        ring::mark_round(marks, at + 1),
     )
 }
 
@@ -44,12 +49,11 @@ fn opposite(tangent: Point) -> Way
     Way::Lost
 }
 
-// The tangent at mark `at`, turned about.
-fn opposite_at(marks: &[f64], at: usize) -> Way
-    requires { ⌜ Inner (now marks) at ⌝ }
-    ensures { λ r. ⌜ wayAnswer r ≡ outcome (oppositeAt (now (marks .entry)) at) ⌝ }
+// The same of a tangent that may not have come out.
+fn opposite_of(way: Way) -> Way
+    ensures { λ r. ⌜ wayAnswer r ≡ chain (wayAnswer way) (λ t. outcome (opposite t)) ⌝ }
 {
-    let Way::Toward(end) = tangent_at(marks, at) else {
+    let Way::Toward(end) = way else {
         return Way::Lost;
     };
     opposite(end)
@@ -57,7 +61,7 @@ fn opposite_at(marks: &[f64], at: usize) -> Way
 
 // The tangents at a cut at mark `at`.
 pub fn ways_at(marks: &[f64], at: usize) -> Turn
-    requires { ⌜ Inner (now marks) at ⌝ }
+    requires { ⌜ Inner outline.Open (now marks) at ⌝ }
     ensures { λ r. ⌜ turnAnswer r ≡ outcome (waysAt (now (marks .entry)) at) ⌝ }
 {
     let Way::Toward(end) = tangent_at(marks, at) else {
@@ -74,6 +78,7 @@ pub enum Cutting {
     Source,
     Loop,
     Joined,
+    Ring,
 }
 
 // How many marks of the next block a block takes in.
@@ -84,6 +89,19 @@ pub fn shared(cutting: Cutting) -> usize
         Cutting::Source => 0,
         Cutting::Loop => 0,
         Cutting::Joined => 1,
+        Cutting::Ring => 1,
+    }
+}
+
+// Whether the outline that is cut is open or closed.
+pub fn outline_of(cutting: Cutting) -> Outline
+    ensures { λ r. ⌜ r ≡ outlineOf cutting ⌝ }
+{
+    match cutting {
+        Cutting::Source => Outline::Open,
+        Cutting::Loop => Outline::Open,
+        Cutting::Joined => Outline::Open,
+        Cutting::Ring => Outline::Closed,
     }
 }
 
@@ -95,6 +113,7 @@ fn start_at(cutting: Cutting, n: usize, from: usize) -> usize
     match cutting {
         Cutting::Source => from,
         Cutting::Joined => from,
+        Cutting::Ring => from,
         Cutting::Loop => {
             if from <= 1 {
                 return n - 2;
@@ -112,6 +131,7 @@ fn end_at(cutting: Cutting, n: usize, to: usize) -> usize
 {
     match cutting {
         Cutting::Joined => to,
+        Cutting::Ring => to,
         Cutting::Source => {
             let past = to + 1;
             if past < n {
@@ -135,37 +155,60 @@ fn meets(cutting: Cutting, a: usize, b: usize) -> bool
     0 < shared(cutting) && a < b
 }
 
-// The tangent at the start of a block from mark `from`.
+// The tangent where a ring comes back to its first mark, from its last, first and second.
+fn seam_at(marks: &[f64]) -> Way
+    requires { ⌜ Even (now marks) ⌝ }
+    ensures { λ r. ⌜ wayAnswer r ≡ outcome (seamAt (whole outline.Closed (now (marks .entry))) (1 + count (now (marks .entry)))) ⌝ }
+{
+    let last = marks.len() / 2 - 1;
+    marks::tangent_between(
+        marks::mark_at(marks, last),
+        marks::mark_at(marks, 0),
+        ring::mark_round(marks, 1),
+    )
+}
+
+// The tangent at the start of a block from mark `from`, where n marks are cut into blocks.
 fn start_of(cutting: Cutting, marks: &[f64], n: usize, from: usize) -> Way
-    requires { ⌜ length (now marks) ≡ 2 * n ⌝ }
+    requires { ⌜ length (marksOf cutting (now marks)) ≡ 2 * n ⌝ }
     requires { ⌜ (from + 2 ≤ n) × (n ≤ 65536) ⌝ }
-    ensures { λ r. ⌜ wayAnswer r ≡ outcome (startOf cutting (now (marks .entry)) n from) ⌝ }
+    ensures { λ r. ⌜ wayAnswer r ≡ outcome (startOf cutting (marksOf cutting (now (marks .entry))) n from) ⌝ }
 {
     if meets(cutting, 0, from) {
-        return opposite_at(marks, from);
+        return opposite_of(tangent_at(marks, from));
     }
-    let head = 2 * start_at(cutting, n, from);
-    marks::start_tangent(&marks[head..])
+    match outline_of(cutting) {
+        Outline::Closed => opposite_of(seam_at(marks)),
+        Outline::Open => {
+            let head = 2 * start_at(cutting, n, from);
+            marks::start_tangent(&marks[head..])
+        }
+    }
 }
 
 // The tangent at the end of a block up to mark `to`, which is not in it.
 fn end_of(cutting: Cutting, marks: &[f64], n: usize, to: usize) -> Way
-    requires { ⌜ length (now marks) ≡ 2 * n ⌝ }
+    requires { ⌜ length (marksOf cutting (now marks)) ≡ 2 * n ⌝ }
     requires { ⌜ (2 ≤ to) × (to ≤ n) × (n ≤ 65536) ⌝ }
-    ensures { λ r. ⌜ wayAnswer r ≡ outcome (endOf cutting (now (marks .entry)) n to) ⌝ }
+    ensures { λ r. ⌜ wayAnswer r ≡ outcome (endOf cutting (marksOf cutting (now (marks .entry))) n to) ⌝ }
 {
     if meets(cutting, to, n) {
         return tangent_at(marks, to - 1);
     }
-    let tail = 2 * end_at(cutting, n, to);
-    marks::end_tangent(&marks[..tail])
+    match outline_of(cutting) {
+        Outline::Closed => seam_at(marks),
+        Outline::Open => {
+            let tail = 2 * end_at(cutting, n, to);
+            marks::end_tangent(&marks[..tail])
+        }
+    }
 }
 
 // The tangents at the ends of a block.
 pub fn ways_of(cutting: Cutting, marks: &[f64], n: usize, from: usize, to: usize) -> Turn
-    requires { ⌜ length (now marks) ≡ 2 * n ⌝ }
+    requires { ⌜ length (marksOf cutting (now marks)) ≡ 2 * n ⌝ }
     requires { ⌜ (from + 2 ≤ to) × (to ≤ n) × (n ≤ 65536) ⌝ }
-    ensures { λ r. ⌜ turnAnswer r ≡ outcome (waysOf cutting (now (marks .entry)) n from to) ⌝ }
+    ensures { λ r. ⌜ turnAnswer r ≡ outcome (waysOf cutting (marksOf cutting (now (marks .entry))) n from to) ⌝ }
 {
     let Way::Toward(start) = start_of(cutting, marks, n, from) else {
         return Turn::Lost;

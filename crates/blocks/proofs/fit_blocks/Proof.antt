@@ -5,11 +5,12 @@ use Prim.Native.Nat.{_≤_, _<_, _-_, _+_}
 use lib.ListN.{length, length-set}
 use Rattle.tangents.proofs.Blocks.{over-small}
 use Rattle.blocks.proofs.Sofar.{Call, call, Asked, asked, Sofar, so-none, Head, numbers, Ran, as-long-curves, as-long-firsts, as-long-params, block-asks, so-stops, so-few, so-more, last-one, last-asks, last-stops, last-few, last-done}
+use Rattle.tangents.specs.Ways.{marksOf}
 use Rattle.blocks.proofs.fit_blocks.Statement.{statement}
 use Rattle.blocks.proofs.fit_blocks.Tie as tie
 
 abbrev Inv-loop : tie.InvT-loop
-Inv-loop cutting marks size tolerance curves₀ firsts₀ params₀ n whole from₀ made₀ curves firsts params from made = Sofar (call cutting marks size tolerance curves₀ firsts₀ params₀ whole) from made curves firsts params
+Inv-loop cutting marks size tolerance curves₀ firsts₀ params₀ n whole from₀ made₀ curves firsts params from made = Sofar (call cutting (marksOf cutting marks) size tolerance curves₀ firsts₀ params₀ whole) from made curves firsts params
 
 abbrev μ-loop : tie.MeasureT-loop
 μ-loop cutting marks size tolerance curves₀ firsts₀ params₀ n whole from₀ made₀ curves firsts params from made = n - from
@@ -20,10 +21,10 @@ abbrev first : tie.After-shared Inv-loop μ-loop → tie.Start Inv-loop μ-loop
 first c = c .before .before .before .before .before
 
 abbrev entry : tie.After-shared Inv-loop μ-loop → Call
-entry c = call (first c .args .cutting) (first c .args .marks .now) (first c .args .size) (first c .args .tolerance) (first c .args .curves .now) (first c .args .firsts .now) (first c .args .params .now) (first c .args .size + c .shared .result)
+entry c = call (first c .args .cutting) (marksOf (first c .args .cutting) (first c .args .marks .now)) (first c .args .size) (first c .args .tolerance) (first c .args .curves .now) (first c .args .firsts .now) (first c .args .params .now) (first c .args .size + c .shared .result)
 
 abbrev asks : (c : tie.After-shared Inv-loop μ-loop) → Asked (entry c)
-asks c = asked (first c .args .cutting) (first c .args .marks .now) (first c .args .size) (first c .args .tolerance) (first c .args .curves .now) (first c .args .firsts .now) (first c .args .params .now) (c .shared .result) (first c .pre) (c .shared .ensures)
+asks c = asked (first c .args .cutting) (marksOf (first c .args .cutting) (first c .args .marks .now)) (first c .args .size) (first c .args .tolerance) (first c .args .curves .now) (first c .args .firsts .now) (first c .args .params .now) (c .shared .result) (first c .pre) (c .shared .ensures)
 
 abbrev head : tie.At-loop Inv-loop μ-loop → Head
 head c = record { K = entry (c .before); A = asks (c .before); from = c .loop .from; made = c .loop .made; C₁ = c .loop .curves; F₁ = c .loop .firsts; P₁ = c .loop .params; so = c .loop .inv }

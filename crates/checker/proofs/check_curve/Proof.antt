@@ -1,18 +1,33 @@
 -- `checker::check_curve` meets its contract. Assumes nothing.
 use borrow.Author.Needs.{needs}
-use Prim.Native.Nat.{_*_}
-use native.Mathlib.Omega.{arith}
-use mathlib.Core.Path.{refl, sym, _∙_}
 use borrow.Author.Tests.{not-true, not-false}
-use borrow.Author.Needs.{scaled-fits}
-use lib.ListN.{length}
-use Rattle.checker.proofs.Curves.{part-length, Places, places, fault-b, tested, curve-rest}
+use Prim.Native.Nat.{ℕ, _+_}
+use native.Mathlib.Omega.{arith}
+use mathlib.Core.Path.{sym, ap, _∙_}
+use Rattle.marks.specs.Marks.{count}
+use Rattle.ring.proofs.Whole.{again-small}
 use Rattle.checker.proofs.Turns.{by-fault}
+use Rattle.checker.proofs.Curves.{Places, places, tested, fault-b, under, curve-rest}
 use Rattle.checker.proofs.check_curve.Statement.{statement}
 use Rattle.checker.proofs.check_curve.Tie as tie
 
-bounds : (s : tie.Start) → Places (s .args .marks .now) (s .args .count) (s .args .firsts .now) (s .args .params .now) (s .args .j)
-bounds s = places (s .args .marks .now) (s .args .tolerance) (s .args .count) (s .args .curves .now) (s .args .firsts .now) (s .args .params .now) (s .args .j) (s .pre)
+-- the number of the marks that count is known from here on
+abbrev entry : tie.After-again → tie.Start
+entry s = s .before .before .before .before .before
+
+abbrev total : tie.After-again → ℕ
+total s = s .again .result + count (entry s .args .marks .now)
+
+bounds : (s : tie.After-again) → Places (entry s .args .outline) (entry s .args .marks .now) (total s) (entry s .args .count) (entry s .args .firsts .now) (entry s .args .params .now) (entry s .args .j)
+bounds s =
+    let a = entry s .args in
+    places (a .outline) (a .marks .now) (a .tolerance) (a .count) (a .curves .now) (a .firsts .now) (a .params .now) (total s) (a .j) (ap (λ (m : ℕ). m + count (a .marks .now)) (s .again .ensures)) (entry s .pre)
+
+again-requires : tie.Need-again-requires
+again-requires c κs = search needs
+
+add-n : tie.Need-add-n
+add-n c = let s = again-small (entry c .args .outline) in omega (arith, c .again .ensures)
 
 curve-at-requires : tie.Need-curve-at-requires
 curve-at-requires c κs = search needs
@@ -21,60 +36,55 @@ first-at-requires : tie.Need-first-at-requires
 first-at-requires c κs = search needs
 
 last-at-requires : tie.Need-last-at-requires
-last-at-requires c κs = let b = bounds (c .before .before .before .before .before .before) in (omega arith, (omega arith, omega arith))
+last-at-requires c κs = let b = bounds (c .before .before) in (omega arith, (omega arith, omega arith))
+
+mark-at-requires : tie.Need-mark-at-requires
+mark-at-requires c κs = let b = bounds (c .before .before .before) in omega (arith, c .before .first-at .ensures)
+
+mark-round-requires : tie.Need-mark-round-requires
+mark-round-requires c κs = let b = bounds (c .before .before .before .before) in (b .even, omega (arith, c .before .last-at .ensures))
 
 is-run-requires : tie.Need-is-run-requires
-is-run-requires c κs = let b = bounds (c .before .before .before .before .before .before .before) in (omega arith, omega arith)
+is-run-requires c κs = search needs
 
 fault-b-requires : tie.Need-fault-b-requires
 fault-b-requires c κs = search needs
 
 returns : tie.Need-returns
-returns c = by-fault (c .fault-b .ensures) (fault-b (c .before .before .before .before .before .before .before .before .before .before .args .marks .now) (c .before .before .before .before .before .before .before .before .before .before .args .tolerance) (c .before .before .before .before .before .before .before .before .before .before .args .count) (c .before .before .before .before .before .before .before .before .before .before .args .curves .now) (c .before .before .before .before .before .before .before .before .before .before .args .firsts .now) (c .before .before .before .before .before .before .before .before .before .before .args .params .now) (c .before .before .before .before .before .before .before .before .before .before .args .j) (c .before .before .before .before .before .curve-at .result) (c .before .before .before .before .first-at .result) (c .before .before .before .before .before .curve-at .ensures) (c .before .before .before .before .first-at .ensures) (c .before .before .before .last-at .result) (c .before .before .is-run .result) (c .before .before .before .last-at .ensures) (c .before .before .is-run .ensures) (not-true _ (c .before .if1 .taken)))
+returns c =
+    let s = c .before .before .before .before .before .before .before .before in
+    let a = entry s .args in
+    by-fault (c .fault-b .ensures) (fault-b (a .outline) (a .marks .now) (a .tolerance) (a .count) (a .curves .now) (a .firsts .now) (a .params .now) (total s) (a .j) (bounds s) _ _ (c .before .before .before .before .before .before .before .curve-at .ensures) (c .before .before .before .before .before .before .first-at .ensures) _ _ _ _ (c .before .before .before .before .before .last-at .ensures) (c .before .before .before .before .mark-at .ensures) (c .before .before .before .mark-round .ensures) (c .before .before .is-run .ensures) (not-true _ (c .before .if1 .taken)))
 
 stop-at-requires : tie.Need-stop-at-requires
 stop-at-requires c κs = search needs
 
-marks-under-requires : tie.Need-marks-under-requires
-marks-under-requires c κs = let b = bounds (c .before .before .before .before .before .before .before .before .before .before) in (omega arith, omega arith)
-
-mul-check-marks : tie.Need-mul-check-marks
-mul-check-marks c = let b = bounds (c .before .before .before .before .before .before .before .before .before .before .before) in scaled-fits (c .before .before .before .before .before .first-at .result) (length (c .before .before .before .before .before .before .before .before .before .before .before .args .params .now)) 8 (omega arith) (c .before .before .before .before .before .before .before .before .before .before .before .good .1 .1 .1 .1 .1 .0 .1)
-
-sub-check-marks : tie.Need-sub-check-marks
-sub-check-marks c = let b = bounds (c .before .before .before .before .before .before .before .before .before .before .before) in omega arith
-
-part-check-marks-start : tie.Need-part-check-marks-start
-part-check-marks-start c = let b = bounds (c .before .before .before .before .before .before .before .before .before .before .before) in omega arith
-
-part-check-marks-end : tie.Need-part-check-marks-end
-part-check-marks-end c = let b = bounds (c .before .before .before .before .before .before .before .before .before .before .before) in omega arith
-
-check-marks-requires : tie.Need-check-marks-requires
-check-marks-requires c κs = let b = bounds (c .before .before .before .before .before .before .before .before .before .before .before .before) in
-    let u = part-length (2 * c .before .before .before .before .before .before .first-at .result) (2 * c .before .before .stop-at .result) (c .before .before .before .before .before .before .before .before .before .before .before .before .args .marks .now) (omega arith) (c .before .marks-under .ensures) in
-    let t = part-length (c .before .before .before .before .before .before .first-at .result) (c .before .before .stop-at .result) (c .before .before .before .before .before .before .before .before .before .before .before .before .args .params .now) (omega arith) refl in
-    (omega arith, omega arith)
+check-under-requires : tie.Need-check-under-requires
+check-under-requires c κs =
+    let s = c .before .before .before .before .before .before .before .before in
+    let a = entry s .args in
+    under (a .outline) (a .marks .now) (a .tolerance) (a .count) (a .curves .now) (a .firsts .now) (a .params .now) (total s) (a .j) (bounds s) _ _ (c .before .before .before .before .before .before .before .curve-at .ensures) (c .before .before .before .before .before .before .first-at .ensures) _ (c .stop-at .ensures)
 
 returns-2 : tie.Need-returns-2
-returns-2 c = let b = bounds (c .before .before .before .before .before .before .before .before .before .before .before .before .before) in
-    curve-rest (c .before .before .before .before .before .before .before .before .before .before .before .before .before .args .marks .now) (c .before .before .before .before .before .before .before .before .before .before .before .before .before .args .tolerance) (c .before .before .before .before .before .before .before .before .before .before .before .before .before .args .count) (c .before .before .before .before .before .before .before .before .before .before .before .before .before .args .curves .now) (c .before .before .before .before .before .before .before .before .before .before .before .before .before .args .firsts .now) (c .before .before .before .before .before .before .before .before .before .before .before .before .before .args .params .now) (c .before .before .before .before .before .before .before .before .before .before .before .before .before .args .j) (c .before .before .before .before .before .before .before .before .curve-at .result) (c .before .before .before .before .before .before .before .first-at .result) (c .before .before .before .before .before .before .before .before .curve-at .ensures) (c .before .before .before .before .before .before .before .first-at .ensures) (c .before .before .before .stop-at .result) (c .before .before .before .stop-at .ensures) (c .before .before .marks-under .result .now) _ (c .before .before .marks-under .ensures) refl (sym (tested (c .before .before .before .before .before .before .before .before .before .before .before .before .before .args .marks .now) (c .before .before .before .before .before .before .before .before .before .before .before .before .before .args .tolerance) (c .before .before .before .before .before .before .before .before .before .before .before .before .before .args .count) (c .before .before .before .before .before .before .before .before .before .before .before .before .before .args .curves .now) (c .before .before .before .before .before .before .before .before .before .before .before .before .before .args .firsts .now) (c .before .before .before .before .before .before .before .before .before .before .before .before .before .args .params .now) (c .before .before .before .before .before .before .before .before .before .before .before .before .before .args .j) (c .before .before .before .before .before .before .before .before .curve-at .result) (c .before .before .before .before .before .before .before .first-at .result) (c .before .before .before .before .before .before .before .before .curve-at .ensures) (c .before .before .before .before .before .before .before .first-at .ensures) (c .before .before .before .before .before .before .last-at .result) (c .before .before .before .before .before .is-run .result) (c .before .before .before .before .before .before .last-at .ensures) (c .before .before .before .before .before .is-run .ensures)) ∙ not-false _ (c .before .before .before .before .if1 .left)) (part-length (c .before .before .before .before .before .before .before .first-at .result) (c .before .before .before .stop-at .result) (c .before .before .before .before .before .before .before .before .before .before .before .before .before .args .params .now) (omega arith) refl) (c .check-marks .ensures)
+returns-2 c =
+    let s = c .before .before .before .before .before .before .before .before .before in
+    let a = entry s .args in
+    curve-rest (a .outline) (a .marks .now) (a .tolerance) (a .count) (a .curves .now) (a .firsts .now) (a .params .now) (total s) (a .j) (bounds s) _ _ (c .before .before .before .before .before .before .before .before .curve-at .ensures) (c .before .before .before .before .before .before .before .first-at .ensures) _ (c .before .stop-at .ensures) (sym (tested (a .outline) (a .marks .now) (a .tolerance) (a .count) (a .curves .now) (a .firsts .now) (a .params .now) (total s) (a .j) (bounds s) _ _ (c .before .before .before .before .before .before .before .before .curve-at .ensures) (c .before .before .before .before .before .before .before .first-at .ensures) _ _ _ _ (c .before .before .before .before .before .before .last-at .ensures) (c .before .before .before .before .before .mark-at .ensures) (c .before .before .before .before .mark-round .ensures) (c .before .before .before .is-run .ensures)) ∙ not-false _ (c .before .before .if1 .left)) (c .check-under .ensures)
 
 pub check-curve-spec : {M : Type 1} → statement M
 check-curve-spec =
     tie.close
     (tie.spec
+    again-requires
+    add-n
     curve-at-requires
     first-at-requires
     last-at-requires
+    mark-at-requires
+    mark-round-requires
     is-run-requires
     fault-b-requires
     returns
     stop-at-requires
-    marks-under-requires
-    mul-check-marks
-    sub-check-marks
-    part-check-marks-start
-    part-check-marks-end
-    check-marks-requires
+    check-under-requires
     returns-2)

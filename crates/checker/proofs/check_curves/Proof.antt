@@ -4,16 +4,17 @@ use native.Mathlib.Omega.{arith}
 use mathlib.Core.Path.{refl, ap}
 use Rattle.float.specs.Answer.{ok}
 use borrow.Author.Needs.{needs}
+use Rattle.ring.specs.Ring.{whole}
 use Rattle.checker.specs.Check.{checkedAnswer, inTurn}
 use Rattle.checker.proofs.Lists.{Faultless, faultless, halt, end}
 use Rattle.checker.proofs.check_curves.Statement.{statement}
 use Rattle.checker.proofs.check_curves.Tie as tie
 
 abbrev Inv-loop : tie.InvT-loop
-Inv-loop marks tolerance count curves firsts params j₀ j = Faultless marks tolerance count curves firsts params j
+Inv-loop outline marks tolerance count curves firsts params j₀ j = Faultless (whole outline marks) tolerance count curves firsts params j
 
 abbrev μ-loop : tie.MeasureT-loop
-μ-loop marks tolerance count curves firsts params j₀ j = count - j
+μ-loop outline marks tolerance count curves firsts params j₀ j = count - j
 
 loop-holds : tie.Need-loop-holds Inv-loop μ-loop
 unfolding inTurn
@@ -26,7 +27,9 @@ enum-told : tie.Need-enum-told Inv-loop μ-loop
 enum-told c = search needs
 
 returns : tie.Need-returns Inv-loop μ-loop
-returns c = halt (c .before .before .before .before .before .before .before .before .args .marks .now) (c .before .before .before .before .before .before .before .before .args .tolerance) (c .before .before .before .before .before .before .before .before .args .count) (c .before .before .before .before .before .before .before .before .args .curves .now) (c .before .before .before .before .before .before .before .before .args .firsts .now) (c .before .before .before .before .before .before .before .before .args .params .now) (c .before .before .before .loop .j) (c .before .before .before .loop .inv) (c .before .before .loop-test .taken) (c .before .check-curve .result) (c .before .check-curve .ensures) (c .match .keys2)
+returns c =
+    let a = c .before .before .before .before .before .before .before .before .args in
+    halt (whole (a .outline) (a .marks .now)) (a .tolerance) (a .count) (a .curves .now) (a .firsts .now) (a .params .now) (c .before .before .before .loop .j) (c .before .before .before .loop .inv) (c .before .before .loop-test .taken) (c .before .check-curve .result) (c .before .check-curve .ensures) (c .match .keys2)
 
 add-j : tie.Need-add-j Inv-loop μ-loop
 add-j c = omega arith
@@ -35,11 +38,15 @@ loop-less : tie.Need-loop-less Inv-loop μ-loop
 loop-less c = omega arith
 
 loop-again : tie.Need-loop-again Inv-loop μ-loop
-loop-again c = faultless (c .before .before .before .before .before .before .before .before .before .args .marks .now) (c .before .before .before .before .before .before .before .before .before .args .tolerance) (c .before .before .before .before .before .before .before .before .before .args .count) (c .before .before .before .before .before .before .before .before .before .args .curves .now) (c .before .before .before .before .before .before .before .before .before .args .firsts .now) (c .before .before .before .before .before .before .before .before .before .args .params .now) (c .before .before .before .before .loop .j) (c .before .before .before .before .loop .inv) (c .before .before .before .loop-test .taken) (c .before .before .check-curve .result) (c .before .before .check-curve .ensures) (c .enum-told .given .1)
+loop-again c =
+    let a = c .before .before .before .before .before .before .before .before .before .args in
+    faultless (whole (a .outline) (a .marks .now)) (a .tolerance) (a .count) (a .curves .now) (a .firsts .now) (a .params .now) (c .before .before .before .before .loop .j) (c .before .before .before .before .loop .inv) (c .before .before .before .loop-test .taken) (c .before .before .check-curve .result) (c .before .before .check-curve .ensures) (c .enum-told .given .1)
 
 returns-2 : tie.Need-returns-2 Inv-loop μ-loop
 unfolding checkedAnswer
-returns-2 c = ap ok (end (c .before .before .before .before .before .before .args .marks .now) (c .before .before .before .before .before .before .args .tolerance) (c .before .before .before .before .before .before .args .count) (c .before .before .before .before .before .before .args .curves .now) (c .before .before .before .before .before .before .args .firsts .now) (c .before .before .before .before .before .before .args .params .now) (c .before .loop .j) (c .before .loop .inv) (c .loop-test .left))
+returns-2 c =
+    let a = c .before .before .before .before .before .before .args in
+    ap ok (end (whole (a .outline) (a .marks .now)) (a .tolerance) (a .count) (a .curves .now) (a .firsts .now) (a .params .now) (c .before .loop .j) (c .before .loop .inv) (c .loop-test .left))
 
 pub check-curves-spec : {M : Type 1} → statement M
 check-curves-spec =

@@ -13,10 +13,10 @@ use Rattle.checker.proofs.check_marks.Statement.{statement}
 use Rattle.checker.proofs.check_marks.Tie as tie
 
 abbrev Inv-loop : tie.InvT-loop
-Inv-loop under params n j first c tolerance i₀ i = Faultless tolerance n j first c under params i
+Inv-loop under params n j first from c tolerance i₀ i = Faultless tolerance n j first from c under params i
 
 abbrev μ-loop : tie.MeasureT-loop
-μ-loop under params n j first c tolerance i₀ i = length params - i
+μ-loop under params n j first from c tolerance i₀ i = length params - i
 
 loop-holds : tie.Need-loop-holds Inv-loop μ-loop
 unfolding inTurn
@@ -38,7 +38,7 @@ fault-c-requires : tie.Need-fault-c-requires Inv-loop μ-loop
 fault-c-requires c κs = search needs
 
 returns : tie.Need-returns Inv-loop μ-loop
-returns c = by-fault (c .fault-c .ensures) (fault-c (c .before .before .before .before .before .before .before .before .args .tolerance) (c .before .before .before .before .before .before .before .before .args .n) (c .before .before .before .before .before .before .before .before .args .j) (c .before .before .before .before .before .before .before .before .args .first) (c .before .before .before .before .before .before .before .before .args .c) (c .before .before .before .before .before .before .before .before .args .under .now) (c .before .before .before .before .before .before .before .before .args .params .now) (c .before .before .before .before .before .loop .i) (c .before .before .before .before .before .loop .inv) (c .before .before .before .before .loop-test .taken) (c .before .before .is-timed .result) (c .before .before .is-timed .ensures) (not-true _ (c .before .if1 .taken)))
+returns c = by-fault (c .fault-c .ensures) (fault-c (c .before .before .before .before .before .before .before .before .args .tolerance) (c .before .before .before .before .before .before .before .before .args .n) (c .before .before .before .before .before .before .before .before .args .j) (c .before .before .before .before .before .before .before .before .args .first) (c .before .before .before .before .before .before .before .before .args .from) (c .before .before .before .before .before .before .before .before .args .c) (c .before .before .before .before .before .before .before .before .args .under .now) (c .before .before .before .before .before .before .before .before .args .params .now) (c .before .before .before .before .before .loop .i) (c .before .before .before .before .before .loop .inv) (c .before .before .before .before .loop-test .taken) (c .before .before .is-timed .result) (c .before .before .is-timed .ensures) (not-true _ (c .before .if1 .taken)))
 
 is-near-requires : tie.Need-is-near-requires Inv-loop μ-loop
 is-near-requires c κs = omega arith
@@ -47,7 +47,7 @@ fault-d-requires : tie.Need-fault-d-requires Inv-loop μ-loop
 fault-d-requires c κs = search needs
 
 returns-2 : tie.Need-returns-2 Inv-loop μ-loop
-returns-2 c = by-fault (c .fault-d .ensures) (fault-d (c .before .before .before .before .before .before .before .before .before .before .args .tolerance) (c .before .before .before .before .before .before .before .before .before .before .args .n) (c .before .before .before .before .before .before .before .before .before .before .args .j) (c .before .before .before .before .before .before .before .before .before .before .args .first) (c .before .before .before .before .before .before .before .before .before .before .args .c) (c .before .before .before .before .before .before .before .before .before .before .args .under .now) (c .before .before .before .before .before .before .before .before .before .before .args .params .now) (c .before .before .before .before .before .before .before .loop .i) (c .before .before .before .before .before .before .before .loop .inv) (c .before .before .before .before .before .before .loop-test .taken) (c .before .before .before .before .is-timed .result) (c .before .before .before .before .is-timed .ensures) (not-false _ (c .before .before .before .if1 .left)) (c .before .before .is-near .result) (c .before .before .is-near .ensures) (not-true _ (c .before .if2 .taken)))
+returns-2 c = by-fault (c .fault-d .ensures) (fault-d (c .before .before .before .before .before .before .before .before .before .before .args .tolerance) (c .before .before .before .before .before .before .before .before .before .before .args .n) (c .before .before .before .before .before .before .before .before .before .before .args .j) (c .before .before .before .before .before .before .before .before .before .before .args .first) (c .before .before .before .before .before .before .before .before .before .before .args .from) (c .before .before .before .before .before .before .before .before .before .before .args .c) (c .before .before .before .before .before .before .before .before .before .before .args .under .now) (c .before .before .before .before .before .before .before .before .before .before .args .params .now) (c .before .before .before .before .before .before .before .loop .i) (c .before .before .before .before .before .before .before .loop .inv) (c .before .before .before .before .before .before .loop-test .taken) (c .before .before .before .before .is-timed .result) (c .before .before .before .before .is-timed .ensures) (not-false _ (c .before .before .before .if1 .left)) (c .before .before .is-near .result) (c .before .before .is-near .ensures) (not-true _ (c .before .if2 .taken)))
 
 add-i : tie.Need-add-i Inv-loop μ-loop
 add-i c = omega arith
@@ -56,11 +56,11 @@ loop-less : tie.Need-loop-less Inv-loop μ-loop
 loop-less c = omega arith
 
 loop-again : tie.Need-loop-again Inv-loop μ-loop
-loop-again c = faultless (c .before .before .before .before .before .before .before .before .before .args .tolerance) (c .before .before .before .before .before .before .before .before .before .args .n) (c .before .before .before .before .before .before .before .before .before .args .j) (c .before .before .before .before .before .before .before .before .before .args .first) (c .before .before .before .before .before .before .before .before .before .args .c) (c .before .before .before .before .before .before .before .before .before .args .under .now) (c .before .before .before .before .before .before .before .before .before .args .params .now) (c .before .before .before .before .before .before .loop .i) (c .before .before .before .before .before .before .loop .inv) (c .before .before .before .before .before .loop-test .taken) (c .before .before .before .is-timed .result) (c .before .before .before .is-timed .ensures) (not-false _ (c .before .before .if1 .left)) (c .before .is-near .result) (c .before .is-near .ensures) (not-false _ (c .if2 .left))
+loop-again c = faultless (c .before .before .before .before .before .before .before .before .before .args .tolerance) (c .before .before .before .before .before .before .before .before .before .args .n) (c .before .before .before .before .before .before .before .before .before .args .j) (c .before .before .before .before .before .before .before .before .before .args .first) (c .before .before .before .before .before .before .before .before .before .args .from) (c .before .before .before .before .before .before .before .before .before .args .c) (c .before .before .before .before .before .before .before .before .before .args .under .now) (c .before .before .before .before .before .before .before .before .before .args .params .now) (c .before .before .before .before .before .before .loop .i) (c .before .before .before .before .before .before .loop .inv) (c .before .before .before .before .before .loop-test .taken) (c .before .before .before .is-timed .result) (c .before .before .before .is-timed .ensures) (not-false _ (c .before .before .if1 .left)) (c .before .is-near .result) (c .before .is-near .ensures) (not-false _ (c .if2 .left))
 
 returns-3 : tie.Need-returns-3 Inv-loop μ-loop
 unfolding checkedAnswer
-returns-3 c = ap ok (faultless-end (c .before .before .before .before .args .tolerance) (c .before .before .before .before .args .n) (c .before .before .before .before .args .j) (c .before .before .before .before .args .first) (c .before .before .before .before .args .c) (c .before .before .before .before .args .under .now) (c .before .before .before .before .args .params .now) (c .before .loop .i) (c .before .loop .inv) (c .loop-test .left))
+returns-3 c = ap ok (faultless-end (c .before .before .before .before .args .tolerance) (c .before .before .before .before .args .n) (c .before .before .before .before .args .j) (c .before .before .before .before .args .first) (c .before .before .before .before .args .from) (c .before .before .before .before .args .c) (c .before .before .before .before .args .under .now) (c .before .before .before .before .args .params .now) (c .before .loop .i) (c .before .loop .inv) (c .loop-test .left))
 
 pub check-marks-spec : {M : Type 1} → statement M
 check-marks-spec =

@@ -5,6 +5,7 @@ use native.Mathlib.Omega.{arith}
 use mathlib.Core.Path.{_∙_}
 use lib.ListN.{length, length-take}
 use borrow.Author.Needs.{needs}
+use Rattle.float.proofs.Slices.{front-length}
 use Rattle.cut.proofs.Cut as laws
 use Rattle.cut.proofs.Cut.{Call, Half}
 use borrow.Fn.Kinds.{In, Out}
@@ -102,7 +103,7 @@ module _ (t : ℕ) where
   other c = let f = (c .before .before .before .before .before .before) .fit-part2 in record { r = f .result; D₁ = f .last .1 .1 .1 .1 .1 .0; E₁ = f .last .1 .1 .1 .1 .1 .1 .0; p′ = f .last .1 .1 .1 .1 .1 .1 .1 .0; left = f .ensures; ld = f .kept .1 .1 .1 .1 .1 .0; le = f .kept .1 .1 .1 .1 .1 .1 .0; lp = f .kept .1 .1 .1 .1 .1 .1 .1 .0 }
 
   cut-ways-at-requires : of-cut cuts.Need-ways-at-requires
-  cut-ways-at-requires c κs = omega arith
+  cut-ways-at-requires c κs = ((omega arith, omega arith), (omega arith, omega arith))
 
   cut-enum-known-ways : of-cut cuts.Need-enum-known-ways
   cut-enum-known-ways c = search needs
@@ -147,7 +148,7 @@ module _ (t : ℕ) where
   cut-same-length-2 c = c .before .before .before .before .before .before .before .before .fit-part .kept .1 .1 .1 .1 .1 .1 .0
 
   cut-same-length-3 : of-cut cuts.Need-same-length-3
-  cut-same-length-3 c = let k = call (c .before .before .before .before .before .before .before .before .before .before .before .before .before .before .before .before .before .before .before .before .before .before) in laws.front-length (k .at + 1) (k .P) (c .before .before .before .before .before .before .before .before .fit-part .last .1 .1 .1 .1 .1 .1 .1 .0) (omega arith) (c .before .before .before .before .before .before .before .before .fit-part .kept .1 .1 .1 .1 .1 .1 .1 .0)
+  cut-same-length-3 c = let k = call (c .before .before .before .before .before .before .before .before .before .before .before .before .before .before .before .before .before .before .before .before .before .before) in front-length (k .at + 1) (k .P) (c .before .before .before .before .before .before .before .before .fit-part .last .1 .1 .1 .1 .1 .1 .1 .0) (omega arith) (c .before .before .before .before .before .before .before .before .fit-part .kept .1 .1 .1 .1 .1 .1 .1 .0)
 
   cut-returns-2 : of-cut cuts.Need-returns-2
   cut-returns-2 c =

@@ -4,12 +4,6 @@ use Rattle.faults.specs.Tests.{runs}
 use Rattle.faults.proofs.is_run.Statement.{statement}
 use Rattle.faults.proofs.is_run.Tie as tie
 
-mark-at-requires : tie.Need-mark-at-requires
-mark-at-requires c κs = search needs
-
-mark-at-requires-2 : tie.Need-mark-at-requires-2
-mark-at-requires-2 c κs = search needs
-
 is-finite-requires : tie.Need-is-finite-requires
 is-finite-requires c κs = search needs
 
@@ -21,7 +15,7 @@ is-same-requires-2 c κs = search needs
 
 returns : tie.Need-returns
 unfolding runs
-returns c = simp (c .is-same2 .ensures, c .before .is-same .ensures, c .before .before .is-finite .ensures, c .before .before .before .mark-at2 .ensures, c .before .before .before .before .mark-at .ensures)
+returns c = simp (c .is-same2 .ensures, c .before .is-same .ensures, c .before .before .is-finite .ensures)
 
 pub is-run-spec : {M : Type 1} → statement M
-is-run-spec = tie.close (tie.spec mark-at-requires mark-at-requires-2 is-finite-requires is-same-requires is-same-requires-2 returns)
+is-run-spec = tie.close (tie.spec is-finite-requires is-same-requires is-same-requires-2 returns)

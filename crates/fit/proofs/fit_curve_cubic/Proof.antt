@@ -1,13 +1,15 @@
 -- `fit::fit_curve_cubic`: the gate, then the run, then zeros if it is refused. Assumes nothing.
 use borrow.Author.Needs.{needs}
 use native.Mathlib.Omega.{arith}
+use Prim.Native.Nat.{_+_}
 use mathlib.Core.Path.{_∙_}
 use lib.ListN.{length, length-take}
 use Rattle.marks.specs.Marks.{count}
 use Rattle.cut.specs.Run.{runOf}
+use Rattle.ring.specs.declared.Outline.the-variants.{Open}
 use Rattle.gate.proofs.Tests.{Passed}
 use Rattle.fit.specs.Fit.{fittedAnswer, cubicGate, cubicOf}
-use Rattle.fit.proofs.Entries.{cubic-passed, passed-room, Fit, end-gate, Ran, as-long, end-refused, end-done}
+use Rattle.fit.proofs.Entries.{of-count, cubic-passed, passed-room, Fit, end-gate, Ran, as-long, end-refused, end-done}
 use Rattle.fit.proofs.fit_curve_cubic.Statement.{statement}
 use Rattle.fit.proofs.fit_curve_cubic.Tie as tie
 
@@ -19,7 +21,7 @@ first c = c .before .before .before .before .before
 abbrev entry : tie.After-gate-cubic → Fit
 entry c = record { n = count (first c .args .marks .now); R = runOf (first c .args .marks .now) 0 (first c .args .start) (first c .args .end) (first c .args .tolerance); C = first c .args .curves .now; F = first c .args .firsts .now; P = first c .args .params .now; g = cubicGate (first c .args .marks .now) (first c .args .start) (first c .args .end) (first c .args .tolerance) (length (first c .args .curves .now)) (length (first c .args .firsts .now)) (length (first c .args .params .now)); q = c .gate-cubic .result; tested = c .gate-cubic .ensures }
 
-abbrev through : (c : tie.Else1) → Passed 512 (first (c .before) .args .marks .now) (first (c .before) .args .tolerance) (length (entry (c .before) .C)) (length (entry (c .before) .F)) (length (entry (c .before) .P))
+abbrev through : (c : tie.Else1) → Passed 512 Open (first (c .before) .args .marks .now) (first (c .before) .args .tolerance) (length (entry (c .before) .C)) (length (entry (c .before) .F)) (length (entry (c .before) .P))
 through c = cubic-passed (first (c .before) .args .marks .now) (first (c .before) .args .start) (first (c .before) .args .end) (first (c .before) .args .tolerance) (length (entry (c .before) .C)) (length (entry (c .before) .F)) (length (entry (c .before) .P)) (c .before .gate-cubic .result) (c .before .gate-cubic .ensures) (c .if1 .left)
 
 -- the run's answer, when the part that it was lent is back
@@ -30,7 +32,7 @@ abbrev begun : tie.After-slice-known6 → tie.Else1
 begun c = answer c .before .before .before .before
 
 abbrev ran : (c : tie.After-slice-known6) → Ran (entry (begun c .before))
-ran c = record { passed = begun c .if1 .left; room = through (begun c) .params; out = answer c .fit-part .result; C₁ = answer c .fit-part .last .1 .1 .1 .1 .1 .0; F₁ = answer c .fit-part .last .1 .1 .1 .1 .1 .1 .0; p = answer c .fit-part .last .1 .1 .1 .1 .1 .1 .1 .0; left = answer c .fit-part .ensures; lc = answer c .fit-part .kept .1 .1 .1 .1 .1 .0; lf = answer c .fit-part .kept .1 .1 .1 .1 .1 .1 .0; lp = answer c .fit-part .kept .1 .1 .1 .1 .1 .1 .1 .0 }
+ran c = record { passed = begun c .if1 .left; room = let q = through (begun c) .params in omega arith; out = answer c .fit-part .result; C₁ = answer c .fit-part .last .1 .1 .1 .1 .1 .0; F₁ = answer c .fit-part .last .1 .1 .1 .1 .1 .1 .0; p = answer c .fit-part .last .1 .1 .1 .1 .1 .1 .1 .0; left = answer c .fit-part .ensures; lc = answer c .fit-part .kept .1 .1 .1 .1 .1 .0; lf = answer c .fit-part .kept .1 .1 .1 .1 .1 .1 .0; lp = answer c .fit-part .kept .1 .1 .1 .1 .1 .1 .1 .0 }
 
 -- what was zeroed
 abbrev back : tie.After-slice-known9 → tie.After-slice-known6
@@ -49,13 +51,15 @@ unfolding fittedAnswer cubicOf
 returns c = end-gate (entry (c .before)) (c .if1 .taken)
 
 slice-relend-prefix-fit-part : tie.Need-slice-relend-prefix-fit-part
-slice-relend-prefix-fit-part c = through (c .before .before) .params
+slice-relend-prefix-fit-part c = let q = through (c .before .before) .params in omega arith
 
 slice-aggregate-fit-part : tie.Need-slice-aggregate-fit-part
 slice-aggregate-fit-part c = let q = through (c .before .before .before) .params in simp length-take (omega arith)
 
 fit-part-requires : tie.Need-fit-part-requires
-fit-part-requires c κs = passed-room 512 (first (c .before .before .before .before) .args .marks .now) (first (c .before .before .before .before) .args .tolerance) _ _ _ (omega arith) (through (c .before .before .before))
+fit-part-requires c κs =
+    let f = first (c .before .before .before .before) .args in
+    of-count (f .marks .now) (f .curves .now) (f .firsts .now) (f .params .now) (0 + count (f .marks .now)) (count (f .marks .now)) (omega arith) (passed-room 512 Open (f .marks .now) (f .tolerance) (f .curves .now) (f .firsts .now) (f .params .now) (omega arith) (through (c .before .before .before)))
 
 enum-known-out : tie.Need-enum-known-out
 enum-known-out c = search needs

@@ -1,38 +1,68 @@
 -- `fit::fit_cut`: the gate, then the run, then zeros if it is refused. Assumes nothing.
 use borrow.Author.Needs.{needs}
 use native.Mathlib.Omega.{arith}
-use mathlib.Core.Path.{sym, _∙_}
+use Prim.Native.Nat.{ℕ, _+_}
+use mathlib.Core.Path.{_≡_, sym, ap, _∙_}
+use mathlib.Core.List.{List}
+use lib.Ieee.{Float}
 use lib.ListN.{length, length-take}
 use Rattle.marks.specs.Marks.{count}
 use Rattle.marks.specs.Block.{blockSize}
+use Rattle.ring.specs.Ring.{again}
+use Rattle.ring.specs.declared.Outline.{Outline}
+use Rattle.ring.proofs.Whole.{again-small, whole-count}
+use Rattle.tangents.specs.Ways.{outlineOf, marksOf}
 use Rattle.gate.specs.Gate.{gateOf}
-use Rattle.gate.proofs.Tests.{Passed, passed}
+use Rattle.gate.proofs.Tests.{Passed, passed, passed-even}
 use Rattle.blocks.specs.Blocks.{blocksOf}
 use Rattle.fit.specs.Fit.{fittedAnswer, fitOf}
-use Rattle.fit.proofs.Entries.{size-within, of-size, passed-room, Fit, end-gate, Ran, as-long, end-refused, end-done}
+use Rattle.fit.proofs.Entries.{size-within, of-size, of-outline, of-count, passed-room, Fit, end-gate, Ran, as-long, end-refused, end-done}
 use Rattle.fit.proofs.fit_cut.Statement.{statement}
 use Rattle.fit.proofs.fit_cut.Tie as tie
 
 -- ---- what is known at each place
 
 abbrev first : tie.After-gate → tie.Start
-first c = c .before .before .before .before .before
+first c = c .before .before .before .before .before .before
 
-abbrev entry : tie.After-gate → Fit
-entry c = record { n = count (first c .args .marks .now); R = blocksOf (first c .args .cutting) (first c .args .marks .now) (blockSize (count (first c .args .marks .now))) (first c .args .tolerance); C = first c .args .curves .now; F = first c .args .firsts .now; P = first c .args .params .now; g = gateOf 4096 (first c .args .marks .now) (first c .args .tolerance) (length (first c .args .curves .now)) (length (first c .args .firsts .now)) (length (first c .args .params .now)); q = c .gate .result; tested = c .gate .ensures }
+abbrev outline : tie.After-gate → Outline
+outline c = outlineOf (first c .args .cutting)
 
-abbrev through : (c : tie.Else1) → Passed 4096 (first (c .before) .args .marks .now) (first (c .before) .args .tolerance) (length (entry (c .before) .C)) (length (entry (c .before) .F)) (length (entry (c .before) .P))
-through c = passed 4096 (first (c .before) .args .marks .now) (first (c .before) .args .tolerance) (length (entry (c .before) .C)) (length (entry (c .before) .F)) (length (entry (c .before) .P)) (sym (c .before .gate .ensures) ∙ c .if1 .left)
+abbrev marks : tie.After-gate → List Float
+marks c = marksOf (first c .args .cutting) (first c .args .marks .now)
+
+abbrev tested : (c : tie.After-gate) → c .gate .result ≡ gateOf 4096 (outline c) (first c .args .marks .now) (first c .args .tolerance) (length (first c .args .curves .now)) (length (first c .args .firsts .now)) (length (first c .args .params .now))
+tested c = of-outline 4096 _ (outline c) (first c .args .marks .now) (first c .args .tolerance) _ _ _ _ (c .before .outline-of .ensures) (c .gate .ensures)
+
+-- with n parameters
+abbrev entry : ℕ → tie.After-gate → Fit
+entry n c = record { n = n; R = blocksOf (first c .args .cutting) (marks c) (blockSize (count (marks c))) (first c .args .tolerance); C = first c .args .curves .now; F = first c .args .firsts .now; P = first c .args .params .now; g = gateOf 4096 (outline c) (first c .args .marks .now) (first c .args .tolerance) (length (first c .args .curves .now)) (length (first c .args .firsts .now)) (length (first c .args .params .now)); q = c .gate .result; tested = tested c }
+
+abbrev through : (c : tie.Else1) → Passed 4096 (outline (c .before)) (first (c .before) .args .marks .now) (first (c .before) .args .tolerance) (length (first (c .before) .args .curves .now)) (length (first (c .before) .args .firsts .now)) (length (first (c .before) .args .params .now))
+through c = passed 4096 (outline (c .before)) (first (c .before) .args .marks .now) (first (c .before) .args .tolerance) _ _ _ (sym (tested (c .before)) ∙ c .if1 .left)
+
+-- the marks that count again, and all that are cut
+abbrev more : (c : tie.After-again) → c .again .result ≡ again (outline (c .before .before))
+more c = c .again .ensures ∙ ap again (c .before .before .before .outline-of .ensures)
+
+abbrev many : tie.After-again → ℕ
+many c = c .again .result + count (first (c .before .before) .args .marks .now)
+
+abbrev all : (c : tie.After-again) → many c ≡ count (marks (c .before .before))
+all c = rw (more c) (sym (whole-count (outline (c .before .before)) (first (c .before .before) .args .marks .now) (passed-even (through (c .before)))))
 
 -- the run's answer, when the part that it was lent is back
 abbrev answer : tie.After-slice-known6 → tie.After-fit-blocks
 answer c = c .before .before .before .before .before .before
 
-abbrev begun : tie.After-slice-known6 → tie.Else1
+abbrev begun : tie.After-slice-known6 → tie.After-again
 begun c = answer c .before .before .before .before .before
 
-abbrev ran : (c : tie.After-slice-known6) → Ran (entry (begun c .before))
-ran c = record { passed = begun c .if1 .left; room = through (begun c) .params; out = answer c .fit-blocks .result; C₁ = answer c .fit-blocks .last .1 .1 .1 .1 .0; F₁ = answer c .fit-blocks .last .1 .1 .1 .1 .1 .0; p = answer c .fit-blocks .last .1 .1 .1 .1 .1 .1 .0; left = of-size (first (begun c .before) .args .cutting) (first (begun c .before) .args .marks .now) (first (begun c .before) .args .tolerance) (answer c .before .before .before .before .max-points-to-fit .result) (blockSize (count (first (begun c .before) .args .marks .now))) (answer c .fit-blocks .result) (entry (begun c .before) .C) (answer c .fit-blocks .last .1 .1 .1 .1 .0) (entry (begun c .before) .F) (answer c .fit-blocks .last .1 .1 .1 .1 .1 .0) (answer c .fit-blocks .last .1 .1 .1 .1 .1 .1 .0) (answer c .before .before .before .before .max-points-to-fit .ensures) (answer c .fit-blocks .ensures); lc = answer c .fit-blocks .kept .1 .1 .1 .1 .0; lf = answer c .fit-blocks .kept .1 .1 .1 .1 .1 .0; lp = answer c .fit-blocks .kept .1 .1 .1 .1 .1 .1 .0 }
+abbrev called : tie.After-slice-known6 → Fit
+called c = entry (many (begun c)) (begun c .before .before)
+
+abbrev ran : (c : tie.After-slice-known6) → Ran (called c)
+ran c = record { passed = begun c .before .if1 .left; room = let q = through (begun c .before) .params in omega (arith, more (begun c)); out = answer c .fit-blocks .result; C₁ = answer c .fit-blocks .last .1 .1 .1 .1 .0; F₁ = answer c .fit-blocks .last .1 .1 .1 .1 .1 .0; p = answer c .fit-blocks .last .1 .1 .1 .1 .1 .1 .0; left = of-size (first (begun c .before .before) .args .cutting) (marks (begun c .before .before)) (first (begun c .before .before) .args .tolerance) (answer c .before .before .before .before .max-points-to-fit .result) (blockSize (count (marks (begun c .before .before)))) (answer c .fit-blocks .result) (called c .C) (answer c .fit-blocks .last .1 .1 .1 .1 .0) (called c .F) (answer c .fit-blocks .last .1 .1 .1 .1 .1 .0) (answer c .fit-blocks .last .1 .1 .1 .1 .1 .1 .0) (answer c .before .before .before .before .max-points-to-fit .ensures ∙ ap blockSize (all (begun c))) (answer c .fit-blocks .ensures); lc = answer c .fit-blocks .kept .1 .1 .1 .1 .0; lf = answer c .fit-blocks .kept .1 .1 .1 .1 .1 .0; lp = answer c .fit-blocks .kept .1 .1 .1 .1 .1 .1 .0 }
 
 -- what was zeroed
 abbrev back : tie.After-slice-known9 → tie.After-slice-known6
@@ -43,24 +73,36 @@ zeros c = c .before .before .before .before .before .before
 
 -- ---- the needs
 
+outline-of-requires : tie.Need-outline-of-requires
+outline-of-requires c κs = search needs
+
 gate-requires : tie.Need-gate-requires
 gate-requires c κs = search needs
 
 returns : tie.Need-returns
 unfolding fittedAnswer fitOf
-returns c = end-gate (entry (c .before)) (c .if1 .taken)
+returns c = end-gate (entry 0 (c .before)) (c .if1 .taken)
+
+again-requires : tie.Need-again-requires
+again-requires c κs = search needs
+
+add-n : tie.Need-add-n
+add-n c = let s = again-small (outline (c .before .before)) in omega (arith, more c)
 
 max-points-to-fit-requires : tie.Need-max-points-to-fit-requires
 max-points-to-fit-requires c κs = search needs
 
 slice-relend-prefix-fit-blocks : tie.Need-slice-relend-prefix-fit-blocks
-slice-relend-prefix-fit-blocks c = through (c .before .before .before) .params
+slice-relend-prefix-fit-blocks c = let q = through (c .before .before .before .before) .params in omega (arith, more (c .before .before .before))
 
 slice-aggregate-fit-blocks : tie.Need-slice-aggregate-fit-blocks
-slice-aggregate-fit-blocks c = let q = through (c .before .before .before .before) .params in simp length-take (omega arith)
+slice-aggregate-fit-blocks c = let q = through (c .before .before .before .before .before) .params in simp length-take (omega (arith, more (c .before .before .before .before)))
 
 fit-blocks-requires : tie.Need-fit-blocks-requires
-fit-blocks-requires c κs = (passed-room 4096 (first (c .before .before .before .before .before) .args .marks .now) (first (c .before .before .before .before .before) .args .tolerance) _ _ _ (omega arith) (through (c .before .before .before .before)), size-within _ (c .before .before .before .max-points-to-fit .result) (c .before .before .before .max-points-to-fit .ensures))
+fit-blocks-requires c κs =
+    let a = c .before .before .before .before in
+    let f = first (a .before .before) .args in
+    (of-count (marks (a .before .before)) (f .curves .now) (f .firsts .now) (f .params .now) (again (outline (a .before .before)) + count (f .marks .now)) (many a) (omega (arith, more a)) (passed-room 4096 (outline (a .before .before)) (f .marks .now) (f .tolerance) (f .curves .now) (f .firsts .now) (f .params .now) (omega arith) (through (a .before))), size-within _ (c .before .before .before .max-points-to-fit .result) (c .before .before .before .max-points-to-fit .ensures))
 
 enum-known-out : tie.Need-enum-known-out
 enum-known-out c = search needs
@@ -78,14 +120,14 @@ same-length-2 : tie.Need-same-length-2
 same-length-2 c = zeros c .zero-all .kept .1 .0 ∙ ran (back c) .lf
 
 same-length-3 : tie.Need-same-length-3
-same-length-3 c = zeros c .zero-all .kept .1 .1 .0 ∙ as-long (entry (begun (back c) .before)) (ran (back c))
+same-length-3 c = zeros c .zero-all .kept .1 .1 .0 ∙ as-long (called (back c)) (ran (back c))
 
 returns-2 : tie.Need-returns-2
 unfolding fitOf
 returns-2 c =
     let t = c .before .before .before .before .before .before .before .before .before .before in
     let z = zeros c .zero-all .ensures in
-    end-refused (entry (begun (back c) .before)) (ran (back c)) (t .enum-told .given .0 .0) _ _ _ (t .enum-told .given .1) (z .0) (z .1) (z .2)
+    end-refused (called (back c)) (ran (back c)) (t .enum-told .given .0 .0) _ _ _ (t .enum-told .given .1) (z .0) (z .1) (z .2)
 
 same-length-4 : tie.Need-same-length-4
 same-length-4 c = ran (c .before .before .before) .lc
@@ -94,18 +136,21 @@ same-length-5 : tie.Need-same-length-5
 same-length-5 c = ran (c .before .before .before) .lf
 
 same-length-6 : tie.Need-same-length-6
-same-length-6 c = as-long (entry (begun (c .before .before .before) .before)) (ran (c .before .before .before))
+same-length-6 c = as-long (called (c .before .before .before)) (ran (c .before .before .before))
 
 returns-3 : tie.Need-returns-3
 unfolding fittedAnswer fitOf
-returns-3 c = end-done (entry (begun (c .before .before .before) .before)) (ran (c .before .before .before)) (c .before .out .given .0 .0) (c .before .out .given .1)
+returns-3 c = end-done (called (c .before .before .before)) (ran (c .before .before .before)) (c .before .out .given .0 .0) (c .before .out .given .1)
 
 pub fit-cut-spec : {M : Type 1} → statement M
 fit-cut-spec =
     tie.close
     (tie.spec
+    outline-of-requires
     gate-requires
     returns
+    again-requires
+    add-n
     max-points-to-fit-requires
     slice-relend-prefix-fit-blocks
     slice-aggregate-fit-blocks
