@@ -1,7 +1,7 @@
 #!/usr/bin/env python3
 """generate.py [SEED]: prints cases for replay and for the Rust, one a line; the same seed gives the same lines.
 
-Single curves, nearest points, outlines (smooth, noisy, long, damaged), lists for the checker, and both sides of every limit.
+Single curves, nearest points, outlines (smooth, noisy, long, damaged), distances, numbers of blocks, lists for the checker, and both sides of every limit.
 """
 import math
 import os
@@ -287,6 +287,15 @@ def damaged(ring, count):
     yield check(1e-9, marks, list(range(n - 1)), [curves_[0]] * (n - 1), at)
 
 
+def measures():
+    """Distances of points from curves at some parameter, near and far; and how many blocks there are."""
+    for _ in range(200):
+        r = hand.choice([1e-200, 1.0, 500.0, BIG, 1e170])
+        yield line('distance', [hand.uniform(-r, r) for _ in range(10)], hand.choice([0.0, 1.0, hand.random(), hand.uniform(-3, 3), NAN]))
+    for n in [*range(5), *range(190, 410), *range(4090, 4100), *(hand.randrange(1 << 40) for _ in range(50))]:
+        yield line('blocks', n)
+
+
 def lists():
     for ring in (False, True):
         for count in (1, 2, 3, 8, 20):
@@ -313,6 +322,9 @@ def nonsense():
     yield 'ring'
     yield 'check_ring'
     yield 'check_ringx 3FF0000000000000 0 0 0000000000000000'
+    yield 'blocks'
+    yield 'blocks 0200'
+    yield 'distance ' + ' '.join(['0000000000000000'] * 10)
     for kind in ('check', 'check_ring'):  # as many parameters as the other one has
         yield checked(kind == 'check_ring', 0.5, [0.0] * 6, [0], [[0.0] * 8], [0.0] * 3 + [1.0] * (kind == 'check'))
 
@@ -321,7 +333,7 @@ def main(words):
     if len(words) > 1 or not all(text.isdecimal() for text in words):
         raise Stop('usage: compare/generate.py [SEED], SEED a whole number')
     hand.seed(int(words[0]) if words else 1)
-    for part in (single, near, outlines, joints, rings, limits, lists, nonsense):
+    for part in (single, near, outlines, joints, rings, limits, measures, lists, nonsense):
         for case in part():
             print(case)
     return 0

@@ -1,5 +1,5 @@
 #!/usr/bin/env python3
-"""tools_test.py: tests plot, compare and the tools, above all where something is wrong with their words or files.
+"""tools_test.py: tests compare and the tools, above all where something is wrong with their words or files.
 
 They run on what `rt check` has built (target/bin/listing and target/bin/replay), in a copy of the repository whose path has a blank in it, with a
 stand-in for cargo whose Rust side is the port itself: so neither Rust nor a network is wanted. The last line is `N passed, M failed`.
@@ -9,23 +9,19 @@ import importlib.machinery
 import importlib.util
 import math
 import os
-import re
 import shutil
-import stat
-import struct
 import subprocess
 import sys
-import tempfile
-import unittest
 
 sys.dont_write_bytecode = True
-ROOT = os.path.dirname(os.path.dirname(os.path.realpath(__file__)))
-sys.path.insert(0, os.path.join(ROOT, 'tools'))
+
+import support
+from support import ROOT, SIDES, TRIANGLE, in_copy, read, write
 
 from shared import house
 from shared.checker import FAULT_A, FAULT_B, FAULT_C, FAULT_D, PASSED, REFUSED, check
 from shared.table import fit_refusal
-from shared.words import INFINITY, NAN, bits, numbers, pattern_of, patterns_of, word_of, words
+from shared.words import NAN, numbers, pattern_of, patterns_of, word_of, words
 
 CARGO = '''#!/bin/sh
 # stands in for cargo: its Rust side answers as $RUST_SIDE says
@@ -45,72 +41,24 @@ case "${RUST_SIDE:-alike}" in
 esac
 '''
 LINES = [f'sqrt {word_of(4.0)}', f'sqrt {word_of(-1.0)}']
-copy = None  # the folder of the copy
 
 
 def setUpModule():
-    global copy
-    for name in ('listing', 'replay'):
-        if not os.path.isfile(os.path.join(ROOT, 'target', 'bin', name)):
-            raise AssertionError(f'there is no target/bin/{name}; build it with: rt check {name}')
-    copy = os.path.join(tempfile.mkdtemp(), 'a copy')
-    os.mkdir(copy)
-    for name in ('compare', 'crates', 'docs', 'examples', 'tools'):
-        shutil.copytree(os.path.join(ROOT, name), os.path.join(copy, name), ignore=shutil.ignore_patterns('proofs', 'src' if name == 'crates' else '', 'must-fail'))
-    for name in ('plot', 'crates.txt'):
-        shutil.copy2(os.path.join(ROOT, name), copy)
-    os.mkdir(os.path.join(copy, 'target'))
-    os.symlink(os.path.join(ROOT, 'target', 'bin'), os.path.join(copy, 'target', 'bin'))
+    support.make_copy(['listing', 'replay'])
     write('bin/cargo', CARGO, runs=True)
-    write('bin/cargo.side', SIDE % copy, runs=True)
+    write('bin/cargo.side', SIDE % support.where, runs=True)
     write('flo curves/Cargo.toml', '[package]\nname = "flo_curves" # as it is called\nversion = "0.8.0"\n')
     write('cases.txt', ''.join(line + '\n' for line in LINES))
 
 
-def tearDownModule():
-    shutil.rmtree(os.path.dirname(copy))
+tearDownModule = support.remove_copy
 
 
-def write(name, data, runs=False):
-    """A file of the copy; its path."""
-    path = os.path.join(copy, name)
-    os.makedirs(os.path.dirname(path), exist_ok=True)
-    with open(path, 'wb') as file:
-        file.write(data.encode('utf-8') if isinstance(data, str) else data)
-    if runs:
-        os.chmod(path, os.stat(path).st_mode | stat.S_IXUSR)
-    return path
-
-
-def read(name):
-    with open(os.path.join(copy, name), 'rb') as file:
-        return file.read()
-
-
-class Case(unittest.TestCase):
+class Case(support.Case):
     def call(self, *command, side='alike', path=None):
-        """Runs a command of the copy, from another folder: status, standard output, standard error."""
-        found = path if path is not None else os.path.join(copy, 'bin') + os.pathsep + os.environ['PATH']
-        done = subprocess.run(
-            [os.path.join(copy, command[0]), *command[1:]], cwd=os.path.dirname(copy), capture_output=True, env={**os.environ, 'PATH': found, 'RUST_SIDE': side})
-        said = done.stderr.decode('utf-8')
-        self.assertNotIn('Traceback', said)
-        return done.returncode, done.stdout.decode('utf-8'), said
-
-    def says(self, status, piece, *command, **more):
-        """The command ends with this status and says one line with this piece in it on standard error, and nothing else."""
-        got, out, said = self.call(*command, **more)
-        self.assertEqual((got, out, said.count('\n')), (status, '', 1), said)
-        self.assertIn(piece, said)
-
-    def in_copy(self, name):
-        return os.path.join(copy, name)
-
-    def answers(self, lines):
-        """What the port says to lines of replay."""
-        text = ''.join(line + '\n' for line in lines).encode('ascii')
-        done = subprocess.run([self.in_copy('tools/run_program'), 'replay'], input=text, capture_output=True, check=True)
-        return done.stdout.decode('ascii').split('\n')[:-1]
+        """The stand-in for cargo comes first on the path."""
+        found = path if path is not None else in_copy('bin') + os.pathsep + os.environ['PATH']
+        return super().call(*command, PATH=found, RUST_SIDE=side)
 
 
 class Compare(Case):
@@ -118,49 +66,49 @@ class Compare(Case):
         self.says(status, piece, 'compare/run', *rest, **more)
 
     def counts(self, status, last, *rest, **more):
-        got, out, _ = self.call('compare/run', self.in_copy('flo curves'), *rest, **more)
+        got, out, _ = self.call('compare/run', in_copy('flo curves'), *rest, **more)
         self.assertEqual((got, out.split('\n')[-2]), (status, last), out)
 
     def test_usage(self):
-        flo, cases = self.in_copy('flo curves'), self.in_copy('cases.txt')
+        flo, cases = in_copy('flo curves'), in_copy('cases.txt')
         for rest in (
                 [], ['--help'], [flo, '--answers'], [flo, cases, '--answers'], [flo, '--answers', cases], [flo, '--what', cases],
                 [flo, cases, cases, '--answers', cases]):
             self.compare(2, 'usage: compare/run', *rest)
 
     def test_checkout(self):
-        self.compare(2, 'has no Cargo.toml', self.in_copy('nowhere'))
-        self.compare(2, 'has no Cargo.toml', self.in_copy('docs'))
+        self.compare(2, 'has no Cargo.toml', in_copy('nowhere'))
+        self.compare(2, 'has no Cargo.toml', in_copy('docs'))
         write('space/Cargo.toml', '[workspace]\nmembers = ["flo"]\n[workspace.package]\nname = "none"\n')
-        self.compare(2, 'a workspace', self.in_copy('space'))
+        self.compare(2, 'a workspace', in_copy('space'))
         write('empty/Cargo.toml', '')
-        self.compare(2, 'names no package', self.in_copy('empty'))
+        self.compare(2, 'names no package', in_copy('empty'))
 
     def test_workspace_that_is_a_package(self):
         write('both/Cargo.toml', '[workspace]\nmembers = ["demo"]\n\n[dependencies]\nname = "0.1"\n[ package ]\n[package]\n  name = \'flo_curves\'\n')
-        got, out, _ = self.call('compare/run', self.in_copy('both'), self.in_copy('cases.txt'))
+        got, out, _ = self.call('compare/run', in_copy('both'), in_copy('cases.txt'))
         self.assertEqual(got, 0, out)
         self.assertIn('package = "flo_curves"', read('target/compare/Cargo.toml').decode())
 
     def test_cargo(self):
-        flo, cases = self.in_copy('flo curves'), self.in_copy('cases.txt')
+        flo, cases = in_copy('flo curves'), in_copy('cases.txt')
         bare = write('bare/python3', f'#!/bin/sh\nexec "{sys.executable}" "$@"\n', runs=True)
         self.compare(2, 'cargo is not on the path', flo, cases, path=os.path.dirname(bare))
         self.compare(2, 'was not built', flo, cases, side='unbuilt')
         self.compare(2, 'the Rust ended with status 0 after 1 of 2 answers', flo, cases, side='early')
 
     def test_port_not_built(self):
-        os.rename(self.in_copy('target/bin'), self.in_copy('target/away'))
+        os.rename(in_copy('target/bin'), in_copy('target/away'))
         try:
-            self.compare(2, 'rt check replay', self.in_copy('flo curves'))
+            self.compare(2, 'rt check replay', in_copy('flo curves'))
         finally:
-            os.rename(self.in_copy('target/away'), self.in_copy('target/bin'))
+            os.rename(in_copy('target/away'), in_copy('target/bin'))
 
     def test_cases(self):
-        flo = self.in_copy('flo curves')
+        flo = in_copy('flo curves')
         self.compare(2, 'is empty', flo, write('none.txt', ''))
-        self.compare(2, 'No such file', flo, self.in_copy('nowhere.txt'))
-        self.compare(2, 'Is a directory', flo, self.in_copy('docs'))
+        self.compare(2, 'No such file', flo, in_copy('nowhere.txt'))
+        self.compare(2, 'Is a directory', flo, in_copy('docs'))
         self.compare(2, 'line 2 is not plain text', flo, write('accent.txt', LINES[0] + '\nsqrt é\n'))
         self.compare(2, 'line 1 is not plain text', flo, write('bytes.txt', bytes(range(128, 256))))
         mark = words(patterns_of(1.0, 2.0))
@@ -174,21 +122,21 @@ class Compare(Case):
         self.counts(0, '2 cases, 0 different', write('open.txt', '\n'.join(LINES)))
         self.counts(0, '1 cases, 0 different', write('open.txt', LINES[0]))
         self.counts(0, '2 cases, 0 different', write('open.txt', '\r\n'.join(LINES) + '\r\n'))
-        self.counts(0, '4 cases, 0 different', self.in_copy('cases.txt'), self.in_copy('cases.txt'))
+        self.counts(0, '4 cases, 0 different', in_copy('cases.txt'), in_copy('cases.txt'))
 
     def test_nan_equals_nan(self):
-        self.counts(0, '2 cases, 0 different', self.in_copy('cases.txt'), side='nan-signs')
+        self.counts(0, '2 cases, 0 different', in_copy('cases.txt'), side='nan-signs')
 
     def test_different(self):
-        self.counts(1, '2 cases, 1 different', self.in_copy('cases.txt'), side='other')
+        self.counts(1, '2 cases, 1 different', in_copy('cases.txt'), side='other')
 
     def test_answers(self):
-        flo, cases = self.in_copy('flo curves'), self.in_copy('cases.txt')
+        flo, cases = in_copy('flo curves'), in_copy('cases.txt')
         good = [f'0 {word_of(2.0)}', f'0 {word_of(float("nan"))}']
         self.counts(0, '2 cases, 0 different', '--answers', write('answers.txt', '\n'.join(good)), cases)
         self.compare(2, '1 answers for 2 cases', flo, '--answers', write('answers.txt', good[0] + '\n'), cases)
         self.compare(2, 'is empty', flo, '--answers', write('answers.txt', ''), cases)
-        self.compare(2, 'No such file', flo, '--answers', self.in_copy('nowhere.txt'), cases)
+        self.compare(2, 'No such file', flo, '--answers', in_copy('nowhere.txt'), cases)
 
     def test_junk_answers_are_different(self):
         near = 'nearest ' + words(patterns_of(0, 0, 0, 1, 1, 1, 1, 0, 0.5, 2))
@@ -198,7 +146,7 @@ class Compare(Case):
         self.counts(1, '5 cases, 5 different', '--answers', write('junk.txt', '\n'.join(junk) + '\n'), cases)
 
     def test_generator(self):
-        made = [subprocess.run([sys.executable, self.in_copy('compare/generate.py'), *seed], capture_output=True) for seed in ([], ['1'], ['x'], ['1', '2'])]
+        made = [subprocess.run([sys.executable, in_copy('compare/generate.py'), *seed], capture_output=True) for seed in ([], ['1'], ['x'], ['1', '2'])]
         self.assertEqual([done.returncode for done in made], [0, 0, 2, 2])
         self.assertEqual(made[0].stdout, made[1].stdout)
         lines = [line.split(' ') for line in made[0].stdout.decode('ascii').split('\n')[:-1]]
@@ -222,7 +170,7 @@ class Compare(Case):
             self.counts(1, '4 cases, 1 different', '--answers', write('said.txt', '\n'.join(said)), cases)
 
     def test_lists_of_rings_are_judged_as_rings(self):
-        loader = importlib.machinery.SourceFileLoader('compare_run', self.in_copy('compare/run'))
+        loader = importlib.machinery.SourceFileLoader('compare_run', in_copy('compare/run'))
         compare = importlib.util.module_from_spec(importlib.util.spec_from_loader('compare_run', loader))
         loader.exec_module(compare)
         marks, times = words(patterns_of(*TRIANGLE)), words(patterns_of(0, 0, 0, 1))
@@ -232,199 +180,10 @@ class Compare(Case):
         self.assertEqual(made, [f'{kind} {word_of(0.5)} 3 {marks} 1 {curve} {times}' for kind in ('check_ring', 'check')])
 
 
-TRIANGLE = [-0.0, 0.0, 4.0, 0.0, 4.0, 3.0]  # three marks; the first has a minus zero
-
-
-def straight(start, end):
-    return [*start, *(a + (b - a) * part for part in (0.33, 0.66) for a, b in zip(start, end)), *end]
-
-
-SIDES = [straight(TRIANGLE[a:a + 2], TRIANGLE[b:b + 2]) for a, b in ((0, 2), (2, 4), (4, 0))]
-
-
 def ring_list():
     """The triangle's three sides as the words of a sound list."""
     sides = ' '.join(f'{k} {words(patterns_of(*side))}' for k, side in enumerate(SIDES))
     return f'{word_of(0.0)} 3 {words(patterns_of(*TRIANGLE))} 3 {sides} {words(patterns_of(0, 0, 0, 1))}'
-
-
-def marks_file(count, tolerance=0.5, **change):
-    """A house file of so many marks on a shallow curve; change names patterns by their place, as p3=NAN."""
-    marks = patterns_of(*(value for i in range(count) for value in (float(i), (i % 7) * 0.01)))
-    for place, pattern in change.items():
-        marks[int(place[1:])] = pattern
-    return house.build(bits(tolerance), marks)
-
-
-class Plot(Case):
-    def listing(self, name):
-        with open(self.in_copy(f'examples/{name}.house'), 'rb') as file:
-            return subprocess.run([self.in_copy('tools/run_program'), 'listing'], stdin=file, capture_output=True, check=True).stdout.decode('ascii')
-
-    def refuses(self, piece, listing, name='cover'):
-        """A listing that is held against an outline: status 2 and one line."""
-        self.says(2, piece, 'plot', self.in_copy(f'examples/{name}.house'), '--listing', write('kept.txt', listing))
-
-    def test_usage(self):
-        for rest in (
-                [], ['--listing'], ['a', 'b'], ['a', '--listing'], ['a', '--list', 'b'], ['a', '--listing', 'b', 'c'],
-                ['--ring'], ['a', '--ring'], ['--ring', 'a', 'b'], ['--ring', '--ring', 'a'], ['--ring', 'a', '--listing', 'b'], ['a', '--listing', 'b', '--ring']):
-            self.says(2, 'usage: ./plot', 'plot', *rest)
-
-    def test_files(self):
-        self.says(2, 'No such file', 'plot', self.in_copy('nowhere.house'))
-        self.says(2, 'Is a directory', 'plot', self.in_copy('docs'))
-        self.says(2, 'No such file', 'plot', self.in_copy('examples/cover.house'), '--listing', self.in_copy('nowhere'))
-
-    def test_drawing(self):
-        for name in ('cover', 'luff', 'window', 'hood'):
-            got, drawn, said = self.call('plot', self.in_copy(f'examples/{name}.house'))
-            self.assertEqual((got, said, drawn[:5], drawn[-7:]), (0, '', '<svg ', '</svg>\n'))
-            kept = write('kept.txt', self.listing(name))
-            self.assertEqual(self.call('plot', self.in_copy(f'examples/{name}.house'), '--listing', kept), (0, drawn, ''))
-
-    def ring(self, marks, tolerance):
-        """The drawing of a closed outline of these coordinates."""
-        got, drawn, said = self.call('plot', '--ring', write('ring.house', house.build(bits(tolerance), patterns_of(*marks))))
-        self.assertEqual((got, said), (0, ''))
-        return drawn
-
-    def test_closed_drawing(self):
-        """With --ring the last curve comes back to where the first one starts, and the seam is shown; without it the outline stays open."""
-        for words_, closed in ((['--ring'], True), ([], False)):
-            got, drawn, said = self.call('plot', *words_, self.in_copy('examples/tender.house'))
-            self.assertEqual((got, said, drawn[:5], drawn[-7:]), (0, '', '<svg ', '</svg>\n'))
-            curves = re.findall(r'<path d="M(\S+ \S+) C(\S+ \S+) (\S+ \S+) (\S+ \S+)"', drawn)
-            self.assertEqual(len(curves), 19 if closed else 18)
-            self.assertEqual([before[3] == after[0] for before, after in zip(curves, curves[1:] + curves[:1])], [True] * (len(curves) - 1) + [closed])
-            self.assertEqual(drawn.count('z" fill="none" stroke="#2e7d32"'), 2 if closed else 0)  # the diamond at the seam, and its sign in the band
-            self.assertEqual(drawn.count('fill="#ffffff" stroke="#222222"'), 19 + 1)  # a dot for each joint and end, and their sign: a ring's end is its first joint
-            for piece in ('>seam 0°<', 'The seam is mark 0 (diamond), x 0, y 720:', 'turns there by 0°', 'a closed outline: 260 marks'):
-                self.assertEqual(piece in drawn, closed, piece)
-
-    def test_angle_at_the_seam(self):
-        """At tolerance 0 the curves beside the seam are straight lines, of two marks each: the angle is that of the marks. Marks that fold back under one curve
-        leave it without a direction."""
-        for marks, piece in (
-                ([0, 0, 4, 0, 4, 4, 0, 4], 'by 90°;'), ([2, 0, 4, 0, 4, 4, 0, 4, 0, 0], 'by 0°;'), ([0, 0, 4, 0, 9, 3, -5, 5], 'by 45°;'),
-                ([0, 0, 4, 0, 9, 3, 7, 0], 'by 180°;')):
-            self.assertIn(piece, self.ring(marks, 0.0))
-        folded = self.ring([0, 0, 4, 0, 4, 4, 2, 6, 4, 0], 9.0)
-        self.assertIn('No angle there: a curve has no direction', folded)
-        self.assertIn('>seam no direction<', folded)
-
-    def test_closed_refusals(self):
-        self.says(1, 'refused with 5', 'plot', '--ring', self.in_copy('examples/lost.house'))
-        self.says(1, 'refused with 6', 'plot', '--ring', self.in_copy('examples/rested.house'))
-        for count in (0, 1, 2):
-            self.says(1, 'refused with 1: fewer than 3 marks', 'plot', '--ring', write('few.house', marks_file(count)))
-        for count in (4097, 5000):
-            self.says(1, 'refused with 2: too many marks (a closed outline takes 4,096)', 'plot', '--ring', write('many.house', marks_file(count)))
-        for junk in (b'no house file', b'', bytes(70000), read('examples/tender.house')[:-1]):
-            self.says(1, 'refused with 9: the house file is badly formed', 'plot', '--ring', write('junk.house', junk))
-        for count in (3, 513):
-            self.assertEqual(self.call('plot', '--ring', write('taken.house', marks_file(count)))[0], 0)
-
-    def test_no_curves_of_a_ring(self):
-        """A program that says something else than curves of the marks."""
-        kept = read('tools/run_program')
-        tender, triangle = self.in_copy('examples/tender.house'), write('triangle.house', house.build(bits(0.0), patterns_of(*TRIANGLE)))
-        good = '0 3 ' + ring_list().split(' 3 ', 2)[2]
-        try:
-            for path, line, piece in (
-                    (tender, 'BAD', "it says 'BAD'"), (tender, '', "it says ''"), (tender, good, 'replay gives no curves of a closed outline'),
-                    (triangle, good[:-17], 'replay gives no curves of a closed outline'), (triangle, good.replace(word_of(3.0), word_of(5.0)), 'does not run from mark 1')):
-                write('tools/run_program', f'#!/bin/sh\ncat >/dev/null\necho "{line}"\n', runs=True)
-                self.says(2, piece, 'plot', '--ring', path)
-            write('tools/run_program', f'#!/bin/sh\ncat >/dev/null\necho "{good}"\n', runs=True)
-            self.assertEqual(self.call('plot', '--ring', triangle)[0], 0)
-        finally:
-            write('tools/run_program', kept, runs=True)
-
-    def test_two_equal_marks(self):
-        path = write('spot.house', house.build(bits(0.5), patterns_of(3, 5, 3, 5)))
-        self.assertEqual(self.call('plot', path)[0], 0)
-
-    def test_refusals(self):
-        self.says(1, 'refused with 5', 'plot', self.in_copy('examples/lost.house'))
-        self.says(1, 'refused with 6', 'plot', self.in_copy('examples/rested.house'))
-        self.says(1, 'refused with 1', 'plot', write('one.house', marks_file(1)))
-        self.says(1, 'refused with 2', 'plot', write('many.house', marks_file(513)))
-        self.says(1, 'refused with 9: the house file is badly formed', 'plot', write('junk.house', b'no house file'))
-        self.says(1, 'refused with 9: the house file is badly formed', 'plot', write('none.house', b''))
-        self.says(1, 'refused with 9: the house file is badly formed', 'plot', write('zeros.house', bytes(70000)))
-
-    def test_a_long_file_is_not_badly_formed(self):
-        self.says(1, 'refused with 2', 'plot', write('long.house', marks_file(4094)))
-        for count in (4095, 4096, 5000):
-            self.says(1, 'refused with 9: the file is well formed, but its', 'plot', write('long.house', marks_file(count)))
-
-    def test_curves_may_make_a_file_too_long(self):
-        curves = [(i, patterns_of(*[0.0] * 8)) for i in range(682)]
-        for count, number in ((683, 2), (684, 9)):
-            data = house.build(bits(0.5), patterns_of(*range(2 * count)), curves, patterns_of(*[0.0] * count))
-            self.says(1, f'refused with {number}', 'plot', write('full.house', data))
-
-    def test_junk_for_a_listing(self):
-        for junk, piece in (
-                ('', 'is empty'), ('\n', 'no listing'), ('no listing\n', 'no listing'), ('OUTLINE\n', 'no listing'), ('OUTLINE 142 x\n', 'no listing'),
-                ('OUTLINE -142 24\n', 'no listing'), ('REFUSED\n', 'no listing'), ('REFUSED x\n', 'no listing'), ('REFUSED 10\n', 'no listing'), ('REFUSED 0\n', 'no listing'),
-                ('REFUSED 5\nREFUSED 5\n', 'no listing'), (bytes(range(256)), 'not plain text'), ('OUTLINE 142 0\n', 'has no curves'),
-                ('OUTLINE 142 2\nPIECE 0\n', 'which says 2 curves'), ('OUTLINE 142 1\nPIECE 0\n', 'line 2 of the listing is no curve')):
-            self.refuses(piece, junk)
-        with open(self.in_copy('docs/cover.png'), 'rb') as file:
-            self.refuses('not plain text', file.read())
-
-    def test_kept_refusal(self):
-        self.says(1, 'refused with 6', 'plot', self.in_copy('examples/rested.house'), '--listing', write('kept.txt', 'REFUSED 6\n'))
-
-    def test_listing_of_another_outline(self):
-        self.refuses('it is of 53 marks, and the file has 142', self.listing('luff'))
-
-    def test_listing_with_a_thing_changed(self):
-        lines = self.listing('cover').split('\n')[:-1]
-
-        def changed(place, word, text):
-            """The listing with one word of a line in place of another."""
-            copied = list(lines)
-            pieces = copied[place].split(' ')
-            pieces[word] = text
-            copied[place] = ' '.join(pieces)
-            return '\n'.join(copied) + '\n'
-        self.refuses('the file has 142', changed(0, 1, '141'))
-        self.refuses('which says 23 curves', changed(0, 2, '23'))
-        self.refuses('which says 24 curves', '\n'.join(lines[:-1]) + '\n')
-        self.refuses('which says 24 curves', '\n'.join(lines + lines[-1:]) + '\n')
-        self.refuses('out of turn', changed(1, 1, '1'))
-        self.refuses('out of turn', changed(3, 1, '1'))
-        self.refuses('out of turn', changed(24, 1, '141'))
-        self.refuses('does not run from mark', changed(4, 1, '10'))
-        self.refuses('does not run from mark', changed(5, 2, word_of(1773.5)))
-        self.refuses('does not run from mark', changed(5, 9, word_of(0.0)))
-        self.refuses('a control point of curve 4', changed(5, 4, '%016X' % NAN))
-        self.refuses('a control point of curve 4', changed(5, 5, '%016X' % INFINITY))
-        self.refuses('no curve', changed(5, 4, 'zzzz'))
-        self.refuses('no curve', changed(5, 4, word_of(1.5).lower()))
-        self.refuses('mm from curve 4', changed(5, 4, word_of(2000.0)))
-        self.assertEqual(self.call('plot', self.in_copy('examples/cover.house'), '--listing', write('kept.txt', changed(0, 0, 'OUTLINE')))[0], 0)
-
-    def test_house_file_beside_a_listing(self):
-        kept = write('kept.txt', self.listing('cover'))
-        data = read('examples/cover.house')
-        for other, piece in (
-                (b'', 'no house file'), (b'junk', 'no house file'), (data[:-1], 'no house file'), (data + b'\0', 'no house file'),
-                (data[:6] + struct.pack('<d', -1.0) + data[14:], 'the tolerance'), (data[:6] + struct.pack('<d', float('nan')) + data[14:], 'the tolerance'),
-                (data[:500] + struct.pack('<d', float('nan')) + data[508:], 'mark 30 of'), (data[:500] + struct.pack('<d', 2e6) + data[508:], 'mark 30 of'),
-                (data[:500] + struct.pack('<d', 1500.0) + data[508:], 'mark 30 is'), (data[:6] + struct.pack('<d', 1e-9) + data[14:], 'at its tolerance of')):
-            self.says(2, piece, 'plot', write('other.house', other), '--listing', kept)
-
-    def test_not_built(self):
-        os.rename(self.in_copy('target/bin'), self.in_copy('target/away'))
-        try:
-            self.says(2, 'rt check listing', 'plot', self.in_copy('examples/cover.house'))
-            self.says(2, 'rt check replay', 'plot', '--ring', self.in_copy('examples/tender.house'))
-        finally:
-            os.rename(self.in_copy('target/away'), self.in_copy('target/bin'))
 
 
 class Vectors(Case):
@@ -436,10 +195,10 @@ class Vectors(Case):
 
     def restore(self, name):
         for part in ('stdin', 'stdout'):
-            shutil.copy2(os.path.join(ROOT, 'crates', name, part), self.in_copy(f'crates/{name}/{part}'))
+            shutil.copy2(os.path.join(ROOT, 'crates', name, part), in_copy(f'crates/{name}/{part}'))
 
     def test_usage(self):
-        flo = self.in_copy('flo curves')
+        flo = in_copy('flo curves')
         for rest in ([flo, flo], ['--wrote'], [flo, '-w'], [flo, 'fit_case', 'eval_cases']):
             self.make(2, 'usage: tools/make_vectors.py', *rest)
         for rest in ([], ['fit_cases'], ['--write']):
@@ -453,10 +212,10 @@ class Vectors(Case):
     def test_mistyped_folder(self):
         before = self.kept('fit_cases')
         for folder in ('nowhere', 'docs'):
-            self.make(2, 'has no Cargo.toml', self.in_copy(folder), 'fit_cases', '--write')
-        self.make(2, 'was not built', self.in_copy('flo curves'), 'fit_cases', '--write', side='unbuilt')
-        self.make(2, 'the Rust says PANIC', self.in_copy('flo curves'), 'fit_cases', '--write', side='panic')
-        self.make(2, 'the Rust ended', self.in_copy('flo curves'), 'fit_cases', '--write', side='early')
+            self.make(2, 'has no Cargo.toml', in_copy(folder), 'fit_cases', '--write')
+        self.make(2, 'was not built', in_copy('flo curves'), 'fit_cases', '--write', side='unbuilt')
+        self.make(2, 'the Rust says PANIC', in_copy('flo curves'), 'fit_cases', '--write', side='panic')
+        self.make(2, 'the Rust ended', in_copy('flo curves'), 'fit_cases', '--write', side='early')
         self.assertEqual(self.kept('fit_cases'), before)
 
     def test_as_kept(self):
@@ -472,7 +231,7 @@ class Vectors(Case):
         self.assertEqual(got, 0)
         self.assertIn('written, stdout changed', out)
         for part in ('stdin', 'stdout'):
-            self.assertTrue(filecmp.cmp(os.path.join(ROOT, 'crates/sqrt_cases', part), self.in_copy(f'crates/sqrt_cases/{part}'), shallow=False))
+            self.assertTrue(filecmp.cmp(os.path.join(ROOT, 'crates/sqrt_cases', part), in_copy(f'crates/sqrt_cases/{part}'), shallow=False))
 
     def test_never_fewer(self):
         more = read('crates/sqrt_cases/stdin') + bytes(8)
@@ -484,7 +243,7 @@ class Vectors(Case):
             self.restore('sqrt_cases')
 
     def test_broken_inputs(self):
-        flo = self.in_copy('flo curves')
+        flo = in_copy('flo curves')
         for name in ('sqrt_cases', 'eval_cases', 'fit_cases', 'check_cases', 'nearest_cases', 'house_cases', 'replay'):
             try:
                 for data in (b'', read(f'crates/{name}/stdin')[:100]):
@@ -493,7 +252,7 @@ class Vectors(Case):
                     self.assertEqual(read(f'crates/{name}/stdin'), data)
             finally:
                 self.restore(name)
-        os.remove(self.in_copy('crates/sqrt_cases/stdin'))
+        os.remove(in_copy('crates/sqrt_cases/stdin'))
         self.make(2, 'crates/sqrt_cases/stdin: No such file', 'sqrt_cases', '--write')
         self.restore('sqrt_cases')
 
@@ -517,10 +276,10 @@ class Vectors(Case):
         self.assertEqual(again, made)
 
     def test_nothing_happens_on_import(self):
-        names = [name[:-3] for name in os.listdir(self.in_copy('tools')) if name.endswith('.py')]
+        names = [name[:-3] for name in os.listdir(in_copy('tools')) if name.endswith('.py')]
         self.assertGreater(len(names), 2)
         line = 'import sys; sys.dont_write_bytecode = True; import ' + ', '.join(names)
-        done = subprocess.run([sys.executable, '-c', line], cwd=self.in_copy('tools'), capture_output=True)
+        done = subprocess.run([sys.executable, '-c', line], cwd=in_copy('tools'), capture_output=True)
         self.assertEqual((done.returncode, done.stdout, done.stderr), (0, b'', b''))
 
 
@@ -593,15 +352,14 @@ class Other(Case):
         self.says(2, 'usage: tools/make_examples.py', 'tools/make_examples.py', 'x')
         got, out, _ = self.call('tools/make_examples.py')
         self.assertEqual((got, out.count('as kept')), (0, 7), out)
-        os.remove(self.in_copy('examples/luff.house'))
+        os.remove(in_copy('examples/luff.house'))
         self.assertEqual(self.call('tools/make_examples.py')[0], 1)
         self.assertEqual(self.call('tools/make_examples.py', '--write')[0], 0)
-        self.assertTrue(filecmp.cmp(os.path.join(ROOT, 'examples/luff.house'), self.in_copy('examples/luff.house'), shallow=False))
+        self.assertTrue(filecmp.cmp(os.path.join(ROOT, 'examples/luff.house'), in_copy('examples/luff.house'), shallow=False))
 
     def test_no_kink_where_blocks_meet(self):
         """The hood's three blocks meet at marks 200 and 400. There the way in and the way out are one."""
-        done = subprocess.run([os.path.join(copy, 'tools', 'run_program'), 'listing'], input=read('examples/hood.house'), capture_output=True, check=True)
-        pieces = [line.split() for line in done.stdout.decode('ascii').split('\n')[1:-1]]
+        pieces = [line.split() for line in self.program('listing', read('examples/hood.house')).decode('ascii').split('\n')[1:-1]]
         curves = [(piece[1], numbers([pattern_of(text) for text in piece[2:]])) for piece in pieces]
         met = [kink(before, after) for (_, before), (first, after) in zip(curves, curves[1:]) if first in ('200', '400')]
         self.assertEqual(len(met), 2)
@@ -613,7 +371,7 @@ class Other(Case):
 
     def test_table_of_the_gate(self):
         self.says(2, 'usage: tools/gate_table.py', 'tools/gate_table.py')
-        self.says(2, 'no line of a crate', 'tools/gate_table.py', self.in_copy('crates.txt'))
+        self.says(2, 'no line of a crate', 'tools/gate_table.py', in_copy('crates.txt'))
         log = write('gate.log', 'rt: loft proved (4 s)\nrt: must-fail loft/gap: refused, as it must be (first at proofs/a.antt:1:2; 3 s)\nrt: sail proved (2 s)\n')
         got, out, _ = self.call('tools/gate_table.py', log)
         self.assertEqual((got, out.splitlines()[2:]), (0, ['| loft | 4 | 1 | 3 |', '| sail | 2 | 0 | 0 |', '| all | 6 | 1 | 3 |']))
@@ -644,14 +402,5 @@ class Other(Case):
             write('docs/MAP.md', page)
 
 
-def main():
-    suite = unittest.defaultTestLoader.loadTestsFromModule(sys.modules['__main__'])
-    result = unittest.TextTestRunner(verbosity=1).run(suite)
-    failed = len(result.failures) + len(result.errors) + len(result.unexpectedSuccesses)
-    sys.stderr.flush()
-    print(f'{max(result.testsRun - failed, 0)} passed, {failed} failed')
-    return 1 if failed else 0
-
-
 if __name__ == '__main__':
-    sys.exit(main())
+    sys.exit(support.main())

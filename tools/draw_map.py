@@ -12,42 +12,11 @@ sys.dont_write_bytecode = True
 sys.path.insert(0, os.path.dirname(os.path.realpath(__file__)))
 
 from shared.command import Stop, run
+from shared.crates import reach, read_crates
 from shared.kept import ROOT, replace
 
-CRATES = os.path.join(ROOT, 'crates.txt')
 PAGE = os.path.join(ROOT, 'docs', 'MAP.md')
 OPEN, CLOSE = '```mermaid\n', '```\n'
-
-
-def read_crates():
-    """The storeys, each a heading and its crates, and for each crate those that it stands on. The comment above crates is their heading."""
-    storeys, under = [], {}
-    with open(CRATES, encoding='utf-8') as file:
-        lines = file.read().split('\n')
-    for place, line in enumerate(lines, 1):
-        if not line.strip():
-            continue
-        if line.startswith('#'):
-            storeys.append((line[1:].strip(), []))
-        elif ':' not in line or not storeys:
-            raise Stop(f'crates.txt: line {place} is no crate below a heading: {line[:60]!r}')
-        else:
-            name, _, rest = line.partition(':')
-            storeys[-1][1].append(name.strip())
-            under[name.strip()] = rest.split()
-    storeys = [(heading, names) for heading, names in storeys if names]
-    if not storeys:
-        raise Stop('crates.txt has no crates')
-    return storeys, {name: [other for other in others if other in under] for name, others in under.items()}
-
-
-def reach(name, under, known):
-    """All crates that one stands on, directly or not."""
-    if name not in known:
-        known[name] = set()  # a circle ends here
-        for other in under[name]:
-            known[name] |= {other} | reach(other, under, known)
-    return known[name]
 
 
 def nearest(name, under, known):

@@ -212,7 +212,7 @@ fn answer(line: &str) -> Option<String> {
     let marks = |v: &[f64]| -> Vec<Mark> { points(v).into_iter().map(|c| Mark(c, None)).collect() };
     let show = |v: &[Mark]| -> String { let f: Vec<f64> = v.iter().flat_map(|m| [m.0.0, m.0.1]).collect(); format!("0{}", hex(&f)) };
     let wanted = match kind {
-        "sqrt" => 1, "basis" | "de_casteljau4" | "subdivide4" | "coefficients" => 9, "de_casteljau3" => 7, "de_casteljau2" => 5, "refine" => 12, "nearest" => 10,
+        "sqrt" => 1, "basis" | "de_casteljau4" | "subdivide4" | "coefficients" => 9, "de_casteljau3" => 7, "de_casteljau2" => 5, "refine" => 12, "nearest" => 10, "distance" => 11, "blocks" => 1,
         "direct" => w.len().max(5), "source" | "loop" | "joined" | "ring" | "check" | "check_ring" => w.len().max(1), _ => return None,
     };
     if w.len() != wanted { return None; }
@@ -250,6 +250,18 @@ fn answer(line: &str) -> Option<String> {
             let t = nearest_point_on_curve(&curve, &p[4]);
             let off = curve.point_at_pos(t) - p[4];
             format!("0{}\tdepth {}", hex(&[t, off.dot(&off)]), depth)
+        }
+        "distance" => {
+            let v = numbers(w)?;
+            let p = points(&v[..10]);
+            let off = p[4] - Plain::from_points(p[0], (p[1], p[2]), p[3]).point_at_pos(v[10]);
+            format!("0{}", hex(&[off.dot(&off).sqrt()]))
+        }
+        "blocks" => {
+            // as many as there are numbers k with k * size < n - 1
+            let last = whole(w[0])?.saturating_sub(1);
+            let size = block_size(last + 1);
+            format!("0 {}", last / size + usize::from(last % size > 0))
         }
         "check" | "check_ring" => check_line(kind == "check_ring", w)?,
         _ => {

@@ -1,1 +1,1 @@
-"""What plot, compare and the tools share."""
+"""What wesalondo, compare and the tools share."""

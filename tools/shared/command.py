@@ -16,6 +16,11 @@ def say(name, words):
     print(f'{name}: {line}', file=sys.stderr)
 
 
+def trouble(error):
+    """What an OSError says, and of which file."""
+    return f'{error.filename}: {error.strerror}' if error.filename else str(error)
+
+
 def run(name, main):
     """Calls main with the command's words, and ends the process with the status that it returns."""
     try:
@@ -25,14 +30,23 @@ def run(name, main):
         say(name, stop)
         status = stop.status
     except BrokenPipeError:  # whoever read our output has gone
-        os.dup2(os.open(os.devnull, os.O_WRONLY), sys.stdout.fileno())
         status = 2
-    except OSError as trouble:
-        say(name, f'{trouble.filename}: {trouble.strerror}' if trouble.filename else trouble)
+    except OSError as error:
+        say(name, trouble(error))
         status = 2
     except KeyboardInterrupt:
         status = 2
+    let_go()
     sys.exit(status)
+
+
+def let_go():
+    """Drops output that can't be written, or Python would try again when it ends, and say so."""
+    try:
+        if sys.stdout is not None:
+            sys.stdout.flush()
+    except OSError:
+        os.dup2(os.open(os.devnull, os.O_WRONLY), sys.stdout.fileno())
 
 
 def read_lines(path):

@@ -73,7 +73,7 @@ class Made:
 
     def __init__(self, name, stdin, stdout, count, before, note=''):
         self.name, self.count, self.before, self.note = name, count, before, note
-        self.parts = {'stdin': stdin, 'stdout': stdout.encode('ascii')}
+        self.parts = {'stdin': stdin, 'stdout': stdout if isinstance(stdout, bytes) else stdout.encode('ascii')}
 
     def different(self):
         """The parts that are not as they are kept."""

@@ -1,15 +1,18 @@
-"""house_cases and listing: house files that are listed, read and written again, and damaged.
+"""house_cases, listing, save and judge: house files that are listed, read and written again, damaged, fitted and judged.
 
 A record is seven words (what to do, how many bytes the file has, the room in each lent slice) and the file. Files are taken apart record by record
 (shared/house.py), and refusals are by the document's order; the curves of a listing are those of the Rust's joined fit. Two outlines
-are read from the kept input. `listing` is the document's worked example, in its own words."""
+are read from the kept input. `listing` is the document's worked example, in its own words. `save` is given an example, and has to write the file of the Rust's
+curves; `judge` is given that file."""
 import math
+import os
 import struct
 
 from shared import house, kept
+from shared.checker import PASSED, check
 from shared.command import Stop
 from shared.table import LARGEST, MOST_DIRECT, MOST_MARKS
-from shared.words import INFINITY, MINUS, NAN, bits, number, patterns_of, words
+from shared.words import INFINITY, MINUS, NAN, bits, number, numbers, patterns_of, words
 from vectors import outlines
 
 NAME = 'house_cases'
@@ -251,3 +254,32 @@ def make_listing(rust):
     if listing(data, rust) != EXAMPLE_LISTING:
         raise Stop('the Rust lists the document\'s example otherwise', 1)
     return kept.Made('listing', data, EXAMPLE_LISTING, 1, 1)
+
+
+# ---- an example, with the Rust's curves in it
+
+SAVED = os.path.join(kept.ROOT, 'examples', 'hood.house')  # three blocks
+
+
+def saved(rust):
+    """The example, and the file of the Rust's joined fit of it."""
+    with open(SAVED, 'rb') as file:
+        data = file.read()
+    held = house.parse(data)
+    said = outlines.Lists(rust.answer_all([joined_line(data)])[0])
+    return data, house.File(held.tolerance, held.marks, said.curves, said.params)
+
+
+def make_save(rust):
+    data, fitted = saved(rust)
+    return kept.Made('save', data, fitted.bytes(), 1, 1)
+
+
+def make_judge(rust):
+    """The list checker by the document's text says what the line is."""
+    fitted = saved(rust)[1]
+    curves = numbers([pattern for _, eight in fitted.curves for pattern in eight])
+    verdict = check(numbers(fitted.marks), number(fitted.tolerance), len(fitted.curves), curves, [first for first, _ in fitted.curves], numbers(fitted.params))
+    if verdict[0] != PASSED:
+        raise Stop("the Rust's list does not pass", 1)
+    return kept.Made('judge', fitted.bytes(), f'PASSED {fitted.count} {len(fitted.curves)}\n', 1, 1)

@@ -1,7 +1,7 @@
 """replay: lines of cases, and lines that are none.
 
 Square roots, nearest points and border cases are those of the other programs; single curves, outlines and lists that are read from the kept
-input are asked of the Rust again; lists with one thing changed are judged by the document's rules (shared/checker.py). A line that is no case is
+input are asked of the Rust again, and so are distances; how many blocks there are is counted here; lists with one thing changed are judged by the document's rules (shared/checker.py). A line that is no case is
 BAD; the Rust side, which reads lines too, has to say so as well, but for what is only too long for the program. The last line has no newline."""
 import math
 
@@ -68,6 +68,30 @@ def long_lines():
         (' '.join(['ring', tolerance] + [mark] * 4096), '6'),
         (' '.join(['source', tolerance] + [mark] * MOST_MARKS + [values(1)]), 'BAD'),
         (' '.join(['joined', tolerance] + [mark] * (MOST_MARKS + 1)), 'BAD')]
+
+
+# ---- what the bench's command asks for
+
+def distance_lines():
+    """Points on a curve and off it, parameters of 0..1 and others, and numbers that lead to infinity or NaN."""
+    straight = patterns_of(0, 0, 1.32, 0, 2.64, 0, 4, 0)
+    for eight in (single.ARCH, straight, patterns_of(*[1e6] * 4, *[-1e6] * 4), patterns_of(*[1e200] * 8)):
+        for x, y in ((0.0, 0.0), (0.5, 0.75), (-3.0, 1e6), (math.inf, 1.0), (1.0, math.nan)):
+            for t in (0.0, 0.25, 1 / 3, 1.0, -0.0, -2.0, 1e100, math.nan):
+                yield f'distance {words(eight)} {values(x, y, t)}'
+
+
+def blocks_of(count):
+    """Block k starts at mark k * size, while k * size < n - 1; the size is counted down, as the document has it."""
+    size = 200
+    while count >= 200 and size > 50 and count % size < 50:
+        size -= 1
+    return len(range(0, max(count - 1, 0), size))
+
+
+def block_lines():
+    for count in [*range(6), *range(195, 260), 399, 400, 401, 512, 1000, 4095, 4096, 4097, 30049, 100000, (1 << 63) - 1]:
+        yield f'blocks {count}', f'0 {blocks_of(count)}'
 
 
 # ---- lists
@@ -146,7 +170,7 @@ GOOD = [
     f'de_casteljau3 {HALF} {values(0, 0, 1, 0, 2, 0)}', f'de_casteljau2 {HALF} {TWO}', f'refine {ARCH} {QUERY} {HALF} 3', f'nearest {ARCH} {QUERY}',
     f'direct {HALF} {values(1, 0, -1, 0)} {TWO}', f'source {HALF} {TWO}', f'loop {HALF} {TWO}', f'joined {HALF} {TWO}',
     f'check {HALF} 2 {TWO} 1 0 {values(0, 0, 1.32, 0, 2.64, 0, 4, 0)} {values(0, 1)}', f'ring {HALF} {THREE}',
-    f'check_ring {HALF} 3 {THREE} 1 0 {values(0, 0, 8, 0, 4, 8, 0, 0)} {values(0, 0.25, 0.75, 1)}']
+    f'check_ring {HALF} 3 {THREE} 1 0 {values(0, 0, 8, 0, 4, 8, 0, 0)} {values(0, 0.25, 0.75, 1)}', f'distance {ARCH} {QUERY} {HALF}', 'blocks 7']
 
 
 def misspelt(line):
@@ -176,7 +200,7 @@ def counted(kind, count=None, curves='1', first='0', params=None):
 def miscounted():
     """Whole numbers that are none, and counts that are others than the line has."""
     for text in ('', '-1', '+1', '01', '00', '1.0', '1e0', '0x1', 'A', '18446744073709551616', '99999999999999999999', '100000000000000000000', '1' * 40):
-        yield from [f'coefficients {text} {ARCH}', f'refine {ARCH} {QUERY} {HALF} {text}']
+        yield from [f'coefficients {text} {ARCH}', f'refine {ARCH} {QUERY} {HALF} {text}', f'blocks {text}']
         for kind in CHECKS:
             yield from [counted(kind, count=text), counted(kind, curves=text), counted(kind, first=text)]
     for kind in CHECKS:
@@ -196,7 +220,7 @@ def miscounted():
 
 def bad():
     yield from ['', ' ', '  ', 'BAD', 'x', '0', HALF]
-    yield from ['sqrt', 'basis', 'coefficients', 'refine', 'nearest', *FITS, *CHECKS]
+    yield from ['sqrt', 'basis', 'coefficients', 'refine', 'nearest', 'distance', 'blocks', *FITS, *CHECKS]
     for line in GOOD:
         yield from misspelt(line)
     yield from [f'direct {HALF} {values(1, 0, -1)}', f'direct {HALF}']
@@ -246,7 +270,7 @@ def made_rows():
     """The cases that are made here or by the other programs' modules, in their parts."""
     return {
         'roots': root_lines(), 'curve borders': to_ask(curve_borders()), 'nearest': nearest_lines() + [(line, '5') for line in nearest_borders()],
-        'outline borders': to_ask(outline_borders()), 'whole': to_ask(whole()), 'nans': list(nans())}
+        'outline borders': to_ask(outline_borders()), 'whole': to_ask(whole()), 'nans': list(nans()), 'distances': to_ask(distance_lines()), 'blocks': list(block_lines())}
 
 
 def collected_lists(lines):
@@ -276,7 +300,7 @@ def cases(before):
     fits = kept.at_least(by_kind['outlines'], KEPT_OUTLINES, NAME)
     claims = kept.at_least(collected_lists(by_kind['lists']), KEPT_LISTS, NAME)
     rows = made['roots'] + to_ask(curves) + made['curve borders'] + made['nearest']
-    rows += to_ask(fits) + made['outline borders'] + made['whole'] + made['nans']
+    rows += to_ask(fits) + made['outline borders'] + made['whole'] + made['nans'] + made['distances'] + made['blocks']
     return rows + list(list_rows(claims))
 
 

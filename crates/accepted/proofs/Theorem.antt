@@ -193,10 +193,22 @@ unfolding tolerable
 not-below tol h = and-right (finite tol) (le f0 tol) h
 
 module _ (ms : List Float) (tol : Float) (k : ℕ) (C C′ : List Float) (F F′ : List ℕ) (P P′ : List Float) where
-  -- by blocks that meet
-  pub blocks-passing : (cutting : Cutting) → over cutting ≡ 1 → ending (ok k) C′ F′ P′ ≡ fitOf cutting ms tol C F P → Passing (outlineOf cutting) ms tol k C′ F′ P′
+  -- the list of a fit by blocks that meet: the run's, laid over the marks, and at the front of the lent slices
+  pub record Given (cutting : Cutting) : Type 0 where
+    pub cs : List Float
+    pub fs : List ℕ
+    pub ps : List Float
+    pub gate : Passed 4096 (outlineOf cutting) ms tol (length C) (length F) (length P)
+    pub is-done : blocksOf cutting (marksOf cutting ms) (blockSize (count (marksOf cutting ms))) tol ≡ done cs fs ps
+    pub laid : Laid (marksOf cutting ms) tol 0 (count (marksOf cutting ms) - 1) cs fs ps
+    pub many : k ≡ length fs
+    pub curves : C′ ≡ written cs C
+    pub firsts : F′ ≡ written fs F
+    pub params : P′ ≡ written ps P
+
+  pub blocks-given : (cutting : Cutting) → over cutting ≡ 1 → ending (ok k) C′ F′ P′ ≡ fitOf cutting ms tol C F P → Given cutting
   unfolding fitOf blocksOf
-  blocks-passing cutting meet h =
+  blocks-given cutting meet h =
       let o = outlineOf cutting in
       let ws = marksOf cutting ms in
       let d = accepted-done ms tol k C C′ F F′ P P′ (gateOf 4096 o ms tol (length C) (length F) (length P)) (blocksOf cutting ws (blockSize (count ws)) tol) h in
@@ -207,9 +219,24 @@ module _ (ms : List Float) (tol : Float) (k : ℕ) (C C′ : List Float) (F F′
       let l = whole-length o ms e in
       let even : length ws ≡ 2 * count ws = omega arith in
       let size = size-within (count ws) (blockSize (count ws)) refl in
-      same-lists o ms tol k _ C′ _ F′ _ P′ (d .curves) (d .firsts) (d .params)
-      (laid-passing o ms tol k 4096 (d .cs) C (d .fs) F (d .ps) P (omega arith) g (d .many)
-      (blocks-laid tol (not-below tol (g .usable)) ws (count ws) (blockSize (count ws)) even (marked-whole o ms e (marked ms (g .near))) cutting meet (d .cs) (d .fs) (d .ps) (omega arith) (omega arith) (d .is-done)))
+      record {
+        cs = d .cs;
+        fs = d .fs;
+        ps = d .ps;
+        gate = g;
+        is-done = d .is-done;
+        laid = blocks-laid tol (not-below tol (g .usable)) ws (count ws) (blockSize (count ws)) even (marked-whole o ms e (marked ms (g .near))) cutting meet (d .cs) (d .fs) (d .ps) (omega arith) (omega arith) (d .is-done);
+        many = d .many;
+        curves = d .curves;
+        firsts = d .firsts;
+        params = d .params;
+      }
+
+  pub blocks-passing : (cutting : Cutting) → over cutting ≡ 1 → ending (ok k) C′ F′ P′ ≡ fitOf cutting ms tol C F P → Passing (outlineOf cutting) ms tol k C′ F′ P′
+  blocks-passing cutting meet h =
+      let o = outlineOf cutting in
+      let d = blocks-given cutting meet h in
+      same-lists o ms tol k _ C′ _ F′ _ P′ (d .curves) (d .firsts) (d .params) (laid-passing o ms tol k 4096 (d .cs) C (d .fs) F (d .ps) P (omega arith) (d .gate) (d .many) (d .laid))
 
   pub direct-passing : (s e : Point) → ending (ok k) C′ F′ P′ ≡ cubicOf ms s e tol C F P → Passing Open ms tol k C′ F′ P′
   unfolding cubicOf

@@ -3,7 +3,7 @@ ghost use mathlib.Core.Path.{_≡_};
 ghost use Prim.Native.Nat.{_+_, _-_, _*_, _≤_, _<_};
 ghost use lib.ListN.{length, take, drop};
 ghost use Rattle.marks.specs.Marks.{markAt};
-ghost use Rattle.faults.specs.Tests.{firstAt, curveAt, lastAt, stopAt, rises, same, curveFinite, runs, timed, near};
+ghost use Rattle.faults.specs.Tests.{firstAt, curveAt, lastAt, stopAt, rises, same, curveFinite, runs, timed, distanceAt, near};
 use plane::Curve;
 use plane::Point;
 
@@ -124,11 +124,19 @@ pub fn is_timed(n: usize, first: usize, i: usize, t: f64) -> bool
     (0.0 <= t) & (t <= 1.0)
 }
 
+// How far mark i of a part is from the curve's point at t, as max_error_for_curve works it out.
+pub fn distance_at(under: &[f64], c: Curve, i: usize, t: f64) -> f64
+    requires { ⌜ 2 * i + 1 < length (now under) ⌝ }
+    ensures { λ r. ⌜ r ≡ distanceAt (markAt (now (under .entry)) i) c t ⌝ }
+{
+    root::sqrt(stages::error_at(under, c, i, t))
+}
+
 // Whether mark i of a part is within the tolerance. A distance that is NaN or an infinity is not.
 pub fn is_near(under: &[f64], c: Curve, i: usize, t: f64, tolerance: f64) -> bool
     requires { ⌜ 2 * i + 1 < length (now under) ⌝ }
     ensures { λ r. ⌜ r ≡ near tolerance (markAt (now (under .entry)) i) c t ⌝ }
 {
-    let d = root::sqrt(stages::error_at(under, c, i, t));
+    let d = distance_at(under, c, i, t);
     float::finite(d) & (d <= tolerance)
 }

@@ -14,7 +14,8 @@ use Rattle.house.specs.Bytes.{num, words}
 use Rattle.house.specs.Held.{fileAt}
 use Rattle.house.proofs.Rows.{length-words, words-suc}
 use Rattle.house.proofs.Turns.{front-suc}
-use Rattle.file_fit.specs.FileFit.{zeros, floats, fileFit, Left}
+use Rattle.desk.specs.Desk.{zeros, floats}
+use Rattle.file_fit.specs.FileFit.{fileFit, Left}
 
 pub length-floats : (n : ℕ) (b : List ℕ) → length (floats (words n b)) ≡ n
 length-floats n b = length-map (words n b) (ofBits binary64) ∙ length-words n b

@@ -1,4 +1,4 @@
-// The joined fit of a house file that is known to be well formed.
+// The joined fit of a house file that is known to be well formed; and the number of a fit's refusal.
 ghost use mathlib.Core.Path.{_≡_};
 ghost use Prim.Native.Nat.{_+_, _*_, _≤_};
 ghost use lib.ListN.{length, drop};
@@ -7,7 +7,8 @@ ghost use Rattle.fit.specs.Fit.{fittedAnswer};
 ghost use Rattle.house.specs.Limits.{numberField, markBytes, marksAt};
 ghost use Rattle.house.specs.Bytes.{words};
 ghost use Rattle.house.specs.Held.{fileAt};
-ghost use Rattle.file_fit.specs.FileFit.{zeros, floats, fileFit, Left};
+ghost use Rattle.desk.specs.Desk.{zeros, floats};
+ghost use Rattle.file_fit.specs.FileFit.{fileFit, Left, refusalIn};
 use cut::Fitted;
 use float::of_bits;
 use house::bytes::eight;
@@ -50,4 +51,14 @@ pub fn fit_file(file: &[u8], n: usize, curves: &mut [f64], firsts: &mut [u32]) -
     copy_numbers(file, sizes::MARKS_AT, m, &mut marks);
     let tolerance = of_bits(eight(file, sizes::HEAD_BYTES));
     fit::fit_joined(&marks[..m], tolerance, curves, firsts, &mut params)
+}
+
+// The number of a fit's refusal, and 0 where there is none.
+pub fn refusal_of(fitted: Fitted) -> u32
+    ensures { λ r. ⌜ r ≡ refusalIn fitted ⌝ }
+{
+    match fitted {
+        Fitted::Curves(_) => 0,
+        Fitted::Refused(q) => q,
+    }
 }

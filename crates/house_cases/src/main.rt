@@ -4,7 +4,7 @@
 // 0 lists the file, and writes the text, or 4 where there is no room for it. 1 reads the file and writes it again: 0, the marks, the curves, and
 // the writer's 0 and bytes, or a refusal in place of either; a line `DIFFERS` follows where the bytes are not the file's. 2 reads every
 // prefix, and 3 every change of one byte: how many were answered with 0, 2, 4 and 9.
-ghost use Prim.Native.Nat.{_≤_, _<_};
+ghost use Prim.Native.Nat.{_<_};
 ghost use lib.ListN.{length};
 use cases::parts::front_bytes;
 use cases::parts::front_words;
@@ -13,7 +13,7 @@ use cases::parts::lent_firsts;
 use cases::parts::lent_words;
 use libc::STDIN_FILENO;
 use libc::STDOUT_FILENO;
-use outline::Listed;
+use lines::Listed;
 use reader::Read;
 use writer::Wrote;
 

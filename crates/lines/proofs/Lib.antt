@@ -1,1 +1,3 @@
 mod Turns
+pub mod Handed
+pub mod Agree

@@ -1,4 +1,4 @@
--- The listing's lines, in ASCII. Definitions only.
+-- The lines of the listing and of the judge, in ASCII. Definitions only.
 use Prim.Native.Nat.{ℕ}
 use mathlib.Core.List.{List, [], _∷_, _++_}
 use lib.ListN.{length, take, drop}
@@ -21,6 +21,13 @@ blank = 32 ∷ []
 abbrev pub newline : List ℕ
 newline = 10 ∷ []
 
+-- a word and one number, and a word and two numbers
+unfoldable pub oneLine : List ℕ → ℕ → List ℕ
+oneLine w a = (w ++ decimal a) ++ newline
+
+unfoldable pub twoLine : List ℕ → ℕ → ℕ → List ℕ
+twoLine w a b = (((w ++ decimal a) ++ blank) ++ decimal b) ++ newline
+
 -- numbers by their bits, a blank before each
 unfoldable pub numbers : List Float → List ℕ
 numbers [] = []
@@ -35,13 +42,9 @@ unfoldable pub pieceLines : List ℕ → List Float → List ℕ
 pieceLines [] C = []
 pieceLines (p ∷ P) C = pieceLine p (take 8 C) ++ pieceLines P (drop 8 C)
 
--- the first line: how many marks, and how many curves
-unfoldable pub firstLine : ℕ → ℕ → List ℕ
-firstLine n k = (((outlineWord ++ decimal n) ++ blank) ++ decimal k) ++ newline
-
--- an outline of n marks, with its curves' first marks and numbers
+-- an outline: a line of how many marks and curves it has, and its curves
 unfoldable pub outlineLines : ℕ → List ℕ → List Float → List ℕ
-outlineLines n P C = firstLine n (length P) ++ pieceLines P C
+outlineLines n P C = twoLine outlineWord n (length P) ++ pieceLines P C
 
 unfoldable pub refusalLine : ℕ → List ℕ
-refusalLine q = (refusedWord ++ decimal q) ++ newline
+refusalLine q = oneLine refusedWord q

@@ -1,9 +1,13 @@
-// The lines of a listing, put into lent bytes that have room for them. Each call answers where its text ends.
+// The lines that the programs over house files print, put into lent bytes that have room for them: each call answers where its text ends. And how a whole text
+// is handed to a caller.
+ghost use mathlib.Core.Path.{_≡_};
 ghost use Prim.Native.Nat.{_+_, _*_, _≤_};
 ghost use mathlib.Core.List.{_∷_, []};
 ghost use lib.ListN.{length, take};
 ghost use Rattle.text.specs.Put.{Put};
-ghost use Rattle.lines.specs.Lines.{numbers, pieceLine, pieceLines, firstLine, outlineLines, refusalLine};
+ghost use Rattle.lines.specs.Lines.{oneLine, twoLine, numbers, pieceLine, pieceLines, outlineLines, refusalLine};
+ghost use Rattle.lines.specs.Handed.{handed, listedAnswer, handOver};
+use float::refusal::NO_ROOM;
 use float::to_bits;
 use text::put_bytes;
 use text::put_decimal;
@@ -11,6 +15,28 @@ use text::put_hex;
 
 // A curve's numbers: x and y of its four points.
 const NUMBERS: usize = 8;
+
+// A word and a number, on a line.
+pub fn put_one(out: &mut [u8], word: &[u8], a: u64) -> usize
+    requires { ⌜ length (now word) + 21 ≤ length (now out) ⌝ }
+    ensures { λ r. ⌜ (r ≤ length (now (word .entry)) + 21) × Put (now (out .entry)) 0 (oneLine (now (word .entry)) a) (now (out .exit)) r ⌝ }
+{
+    let number = put_bytes(out, 0, word);
+    let end = put_decimal(out, number, a);
+    put_bytes(out, end, b"\n")
+}
+
+// A word and two numbers, on a line.
+pub fn put_two(out: &mut [u8], word: &[u8], a: u64, b: u64) -> usize
+    requires { ⌜ length (now word) + 42 ≤ length (now out) ⌝ }
+    ensures { λ r. ⌜ (r ≤ length (now (word .entry)) + 42) × Put (now (out .entry)) 0 (twoLine (now (word .entry)) a b) (now (out .exit)) r ⌝ }
+{
+    let first = put_bytes(out, 0, word);
+    let between = put_decimal(out, first, a);
+    let second = put_bytes(out, between, b" ");
+    let end = put_decimal(out, second, b);
+    put_bytes(out, end, b"\n")
+}
 
 // One number, after a blank.
 fn put_number(out: &mut [u8], at: usize, x: f64) -> usize
@@ -61,33 +87,37 @@ fn put_pieces(out: &mut [u8], at: usize, firsts: &[u32], curves: &[f64], k: usiz
     end
 }
 
-// The first line.
-fn put_first(out: &mut [u8], n: u64, k: u64) -> usize
-    requires { ⌜ 50 ≤ length (now out) ⌝ }
-    ensures { λ r. ⌜ (r ≤ 50) × Put (now (out .entry)) 0 (firstLine n k) (now (out .exit)) r ⌝ }
-{
-    let marks = put_bytes(out, 0, b"OUTLINE ");
-    let blank = put_decimal(out, marks, n);
-    let curves = put_bytes(out, blank, b" ");
-    let end = put_decimal(out, curves, k);
-    put_bytes(out, end, b"\n")
-}
-
 // An outline of n marks with its first k curves.
 pub fn put_outline(out: &mut [u8], n: usize, firsts: &[u32], curves: &[f64], k: usize) -> usize
     requires { ⌜ (50 + 153 * k ≤ length (now out)) × ((k ≤ length (now firsts)) × (8 * k ≤ length (now curves))) ⌝ }
     ensures { λ r. ⌜ (r ≤ 50 + 153 * k) × Put (now (out .entry)) 0 (outlineLines n (take k (now (firsts .entry))) (now (curves .entry))) (now (out .exit)) r ⌝ }
 {
-    let pieces = put_first(out, n as u64, k as u64);
+    let pieces = put_two(out, b"OUTLINE ", n as u64, k as u64);
     put_pieces(out, pieces, firsts, curves, k)
 }
 
 // The line of a refusal.
 pub fn put_refusal(out: &mut [u8], q: u32) -> usize
-    requires { ⌜ 19 ≤ length (now out) ⌝ }
-    ensures { λ r. ⌜ (r ≤ 19) × Put (now (out .entry)) 0 (refusalLine q) (now (out .exit)) r ⌝ }
+    requires { ⌜ 29 ≤ length (now out) ⌝ }
+    ensures { λ r. ⌜ (r ≤ 29) × Put (now (out .entry)) 0 (refusalLine q) (now (out .exit)) r ⌝ }
 {
-    let number = put_bytes(out, 0, b"REFUSED ");
-    let end = put_decimal(out, number, q as u64);
-    put_bytes(out, end, b"\n")
+    put_one(out, b"REFUSED ", q as u64)
+}
+
+// ---- a whole text
+
+// How many bytes of text were written; or why none were.
+pub enum Listed {
+    Bytes(usize),
+    Refused(u32),
+}
+
+// A text into the first bytes of `out`. Where `out` is too short for it the call is refused, and `out` stays as it is.
+pub fn hand_over(text: &[u8], out: &mut [u8]) -> Listed
+    ensures { λ r. ⌜ handed (listedAnswer r) (now (out .exit)) ≡ handOver (now (text .entry)) (now (out .entry)) ⌝ }
+{
+    if out.len() < text.len() {
+        return Listed::Refused(NO_ROOM);
+    }
+    Listed::Bytes(put_bytes(out, 0, text))
 }

@@ -18,7 +18,8 @@ use Rattle.blocks.specs.Blocks.{blocksOf}
 use Rattle.cut.specs.Run.{Run, refused, done}
 use Rattle.fit.specs.Fit.{ended, ending, fitOf}
 use Rattle.grammar.proofs.Answers.{not-refused}
-use Rattle.file_fit.specs.FileFit.{floats, fileFit}
+use Rattle.desk.specs.Desk.{floats}
+use Rattle.file_fit.specs.FileFit.{fileFit}
 use Rattle.house.specs.File.{File}
 
 ran : (b : Bool) (g : ℕ) (R : Run) (C : List Float) (F : List ℕ) (P : List Float) (k : ℕ)

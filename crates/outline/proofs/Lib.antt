@@ -1,3 +1,2 @@
 mod Counts
 mod Ways
-pub mod Agree

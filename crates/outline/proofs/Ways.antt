@@ -1,32 +1,27 @@
 -- What each way through the listing shows. Assumes nothing.
-use mathlib.Core.Path.{_≡_, refl, sym, ap, ap₂, _∙_}
-use mathlib.Core.List.{List, _∷_, []}
+use mathlib.Core.Path.{_≡_, sym, ap, _∙_}
+use mathlib.Core.List.{List}
 use Prim.Native.Nat.{ℕ, _+_, _*_, _/_, _<_, _≤_}
 use native.Mathlib.Omega.{arith}
 use borrow.Author.Tests.{le-leb, lt-leb}
 use lib.Dec.{leb}
-use types.Run.{OneOf}
-use denote.Enum.Declared.{tagOf}
-use lib.ListN.{length, take, drop}
-use lib.Seq.{sets, take-at}
+use lib.ListN.{length, take}
 use Rattle.float.specs.Answer.{ok, refused, unless}
-use Rattle.float.specs.Slices.{written}
 use lib.Ieee.{Float}
 use Rattle.cut.specs.declared.Fitted.{Fitted}
 use Rattle.cut.specs.declared.Fitted.the-variants.{Curves, Refused}
-use Rattle.cut.proofs.Fitted.{the-type}
 use Rattle.fit.specs.Fit.{Ending, fittedAnswer}
 use Rattle.lines.specs.Lines.{outlineLines, refusalLine}
+use Rattle.lines.specs.Handed.{shown}
 use Rattle.house.specs.Held.{fileAt, fileOf}
 use Rattle.house.proofs.Rows.{length-words}
-use Rattle.text.specs.Put.{Put}
-use Rattle.text.proofs.Stores.{written-sets}
 use Rattle.grammar.proofs.Laid.{Laid, plain, full, laid-candidate}
 use Rattle.heads.specs.Layout.{layoutOf}
 use Rattle.heads.specs.declared.Layout.the-variants as layout
 use Rattle.heads.proofs.Ways.{Told, untold}
-use Rattle.file_fit.specs.FileFit.{zeros, fileFit, Left}
-use Rattle.outline.specs.Outline.{noMarks, fitLines, refusalIn, roomyFit, linesOf, shown, listingOf, listing, listOf}
+use Rattle.desk.specs.Desk.{zeros, noMarks}
+use Rattle.file_fit.specs.FileFit.{fileFit, Left}
+use Rattle.outline.specs.Outline.{fitLines, roomyFit, linesOf, listingOf}
 use Rattle.outline.proofs.Counts.{fit-count}
 
 -- ---- refusals before the fit
@@ -65,11 +60,6 @@ pub fit-refused : (n : ℕ) (E : Ending) (q : ℕ) → E .answer ≡ refused q �
 unfolding fitLines
 fit-refused n E q e = rw e
 
--- the arm of a fit that gave no curves
-pub other-is : (r : Fitted) → OneOf (1 ∷ []) (tagOf the-type r) → r ≡ Refused (refusalIn r)
-other-is (Curves k) o = absurd (omega arith)
-other-is (Refused q) o = refl
-
 module _ (b : List ℕ) (n : ℕ) (C : List Float) (P : List ℕ) where
   same-fit : C ≡ zeros 4088 → P ≡ noMarks 511 → fileFit (fileAt b n 0) C P (zeros 512) ≡ roomyFit (fileAt b n 0)
   unfolding roomyFit
@@ -100,21 +90,3 @@ module _ (b : List ℕ) (n : ℕ) (C : List Float) (P : List ℕ) where
 pub marks-in : {b : List ℕ} {n k : ℕ} → Laid b n k → 20 + 16 * n ≤ length b
 marks-in (plain s z x) = omega arith
 marks-in (full s d) = omega (arith, d .size)
-
--- from the text in bytes of the call's own to the answer
-module _ (b O : List ℕ) {T T′ : List ℕ} {s : ℕ} (p : Put T 0 (listingOf b) T′ s) where
-  pub list-short : length O < s → listing (refused 4) O ≡ listOf b O
-  unfolding listOf
-  list-short h = rw (lt-leb (length (listingOf b)) (length O) (omega (arith, p .end)))
-
-  pub text-front : s ≤ length T → take s T′ ≡ listingOf b
-  text-front h =
-      let z : length (listingOf b) ≡ s = omega (arith, p .end) in
-      rw (p .out, written-sets (listingOf b) T (rw z h)) (take-at (listingOf b) (drop (length (listingOf b)) T) s z)
-
-  pub list-done : (O′ : List ℕ) → s ≤ length T → s ≤ length O → O′ ≡ sets O 0 (take s T′) → listing (ok s) O′ ≡ listOf b O
-  unfolding listOf
-  list-done O′ h g e =
-      let z : length (listingOf b) ≡ s = omega (arith, p .end) in
-      let w : O′ ≡ written (listingOf b) O = e ∙ rw (text-front h) (written-sets (listingOf b) O (rw z g)) in
-      rw (le-leb (length (listingOf b)) (length O) (rw z g)) (ap₂ listing (ap ok (sym z)) w)

@@ -5,31 +5,27 @@ ghost use lib.ListN.{length};
 ghost use Rattle.text.specs.Put.{Put};
 ghost use Rattle.house.specs.Limits.{markBytes, marksAt};
 ghost use Rattle.house.specs.Held.{fileAt};
-ghost use Rattle.file_fit.specs.FileFit.{zeros};
-ghost use Rattle.outline.specs.Outline.{noMarks, fitLines, refusalIn, roomyFit, shown, listingOf, listing, listedAnswer, listOf};
+ghost use Rattle.desk.specs.Desk.{zeros, noMarks};
+ghost use Rattle.lines.specs.Handed.{shown, handed, listedAnswer, handOver};
+ghost use Rattle.outline.specs.Outline.{fitLines, roomyFit, listingOf};
 use cut::Fitted;
 use file_fit::fit_file;
+use file_fit::refusal_of;
 use float::refusal::BADLY_FORMED;
-use float::refusal::NO_ROOM;
 use float::refusal::TOO_FEW;
 use float::refusal::TOO_MANY;
 use heads::Layout;
 use heads::find_layout;
+use lines::Listed;
+use lines::hand_over;
 use lines::put_outline;
 use lines::put_refusal;
-use text::put_bytes;
 
 // The most bytes that a listed file has.
 pub const MOST_BYTES: usize = 65536;
 
 // The most marks that are listed.
 const MOST_LISTED: usize = 512;
-
-// How many bytes of text were written; or why none were.
-pub enum Listed {
-    Bytes(usize),
-    Refused(u32),
-}
 
 // Zeros for 511 curves. A function hides from its callers' proofs how the array is made.
 fn curve_room() -> [f64; 4088]
@@ -50,16 +46,6 @@ fn text_room() -> [u8; 78233]
     ensures { λ r. ⌜ 78233 ≡ length r ⌝ }
 {
     [0; 78233]
-}
-
-// The number of a fit's refusal.
-fn refusal_of(fitted: Fitted) -> u32
-    ensures { λ r. ⌜ r ≡ refusalIn fitted ⌝ }
-{
-    match fitted {
-        Fitted::Curves(_) => 0,
-        Fitted::Refused(q) => q,
-    }
 }
 
 // The text for a file of n marks that is well formed.
@@ -104,13 +90,9 @@ fn put_listing(file: &[u8], text: &mut [u8]) -> usize
 // Lists the outline of a house file in the first bytes of `out`: a line for the counts and one for each curve, or one line that names a
 // refusal. Where `out` is too short for the text the call itself is refused, and `out` stays as it is.
 pub fn list_outline(file: &[u8], out: &mut [u8]) -> Listed
-    ensures { λ r. ⌜ listing (listedAnswer r) (now (out .exit)) ≡ listOf (now (file .entry)) (now (out .entry)) ⌝ }
+    ensures { λ r. ⌜ handed (listedAnswer r) (now (out .exit)) ≡ handOver (listingOf (now (file .entry))) (now (out .entry)) ⌝ }
 {
     let mut text = text_room();
     let size = put_listing(file, &mut text);
-    if out.len() < size {
-        return Listed::Refused(NO_ROOM);
-    }
-    put_bytes(out, 0, &text[..size]);
-    Listed::Bytes(size)
+    hand_over(&text[..size], out)
 }

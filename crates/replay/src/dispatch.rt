@@ -29,6 +29,8 @@ fn answered(line: &[u8]) -> bool {
         13 => listing::check_case(Outline::Open, line, end),
         14 => outline::blocks_case(Fit::Ring, line, end),
         15 => listing::check_case(Outline::Closed, line, end),
+        16 => single::distance_case(line, end),
+        17 => single::blocks_case(line, end),
         _ => false,
     }
 }

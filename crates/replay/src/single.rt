@@ -186,3 +186,27 @@ pub fn nearest_case(line: &[u8], at: usize) -> bool {
     }
     say_nearest(nearest::nearest_point_on_curve(e.c, p.p))
 }
+
+// distance C8 PX PY T
+pub fn distance_case(line: &[u8], at: usize) -> bool {
+    let e = take_curve(line, at);
+    let p = take_point(line, e.then);
+    let t = take_float(line, p.then);
+    if t.then != line.len() {
+        return false;
+    }
+    let q = p.p;
+    let mark = [q.x, q.y];
+    say_number(faults::distance_at(&mark, e.c, 0, t.x))
+}
+
+// blocks N
+pub fn blocks_case(line: &[u8], at: usize) -> bool {
+    let n = take_count(line, at, MOST);
+    if n.then != line.len() {
+        return false;
+    }
+    print_accepted();
+    cases::print_next_count(tally::joined_blocks(n.x as usize) as u64);
+    true
+}

@@ -6,7 +6,7 @@ use native.Mathlib.Omega.{arith}
 use borrow.Author.Needs.{needs}
 use lib.ListN.{length, drop, length-set}
 use Rattle.house.specs.Bytes.{words}
-use Rattle.file_fit.specs.FileFit.{floats}
+use Rattle.desk.specs.Desk.{floats}
 use Rattle.file_fit.proofs.Turns.{length-floats, floats-turn}
 use Rattle.file_fit.proofs.copy_numbers.Statement.{statement}
 use Rattle.file_fit.proofs.copy_numbers.Tie as tie

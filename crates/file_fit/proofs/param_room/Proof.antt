@@ -1,6 +1,6 @@
 -- `file_fit::param_room` meets its contract. Assumes nothing.
 use mathlib.Core.Path.{refl}
-use Rattle.file_fit.specs.FileFit.{zeros}
+use Rattle.desk.specs.Desk.{zeros}
 use Rattle.file_fit.proofs.param_room.Statement.{statement}
 use Rattle.file_fit.proofs.param_room.Tie as tie
 

@@ -7,8 +7,11 @@ use Rattle.lines.specs.Lines.{outlineLines}
 use Rattle.lines.proofs.put_outline.Statement.{statement}
 use Rattle.lines.proofs.put_outline.Tie as tie
 
-put-first-requires : tie.Need-put-first-requires
-put-first-requires c κs = search needs
+slice-aggregate-put-two : tie.Need-slice-aggregate-put-two
+slice-aggregate-put-two c = search needs
+
+put-two-requires : tie.Need-put-two-requires
+put-two-requires c κs = search needs
 
 put-pieces-requires : tie.Need-put-pieces-requires
 put-pieces-requires c κs = search needs
@@ -19,14 +22,15 @@ same-length c = search needs
 returns : tie.Need-returns
 unfolding outlineLines
 returns c =
-    let a = c .before .before .before .before .before .before .before .before .before .before .before .args in
-    (omega arith, rw (length-take-le (a .k) (a .firsts .now) (omega arith)) (next (c .before .before .before .before .before .before .put-first .ensures .1) (c .before .before .put-pieces .ensures .1)))
+    let a = c .before .before .before .before .before .before .before .before .before .before .before .before .args in
+    (omega arith, rw (length-take-le (a .k) (a .firsts .now) (omega arith)) (next (c .before .before .before .before .before .before .put-two .ensures .1) (c .before .before .put-pieces .ensures .1)))
 
 pub put-outline-spec : {M : Type 1} → statement M
 put-outline-spec =
     tie.close
     (tie.spec
-    put-first-requires
+    slice-aggregate-put-two
+    put-two-requires
     put-pieces-requires
     same-length
     returns)

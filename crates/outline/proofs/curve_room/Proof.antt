@@ -1,6 +1,6 @@
 -- `outline::curve_room` meets its contract. Assumes nothing.
 use mathlib.Core.Path.{refl}
-use Rattle.file_fit.specs.FileFit.{zeros}
+use Rattle.desk.specs.Desk.{zeros}
 use Rattle.outline.proofs.curve_room.Statement.{statement}
 use Rattle.outline.proofs.curve_room.Tie as tie
 

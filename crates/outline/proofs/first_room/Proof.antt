@@ -1,6 +1,6 @@
 -- `outline::first_room` meets its contract. Assumes nothing.
 use mathlib.Core.Path.{refl}
-use Rattle.outline.specs.Outline.{noMarks}
+use Rattle.desk.specs.Desk.{noMarks}
 use Rattle.outline.proofs.first_room.Statement.{statement}
 use Rattle.outline.proofs.first_room.Tie as tie
 

@@ -1,7 +1,8 @@
 -- `outline::put_fit` meets its contract. Assumes nothing.
 use native.Mathlib.Omega.{arith}
 use borrow.Author.Needs.{needs}
-use Rattle.outline.proofs.Ways.{done-count, done-lines, refused-lines, other-is}
+use Rattle.file_fit.proofs.Refused.{other-is}
+use Rattle.outline.proofs.Ways.{done-count, done-lines, refused-lines}
 use Rattle.outline.proofs.put_fit.Statement.{statement}
 use Rattle.outline.proofs.put_fit.Tie as tie
 

@@ -1,0 +1,3 @@
+mod Turns
+pub mod Numbers
+pub mod Opened

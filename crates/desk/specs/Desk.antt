@@ -1,0 +1,54 @@
+-- A house file with all that it may hold, numbers and their bit patterns, and slices of zeros. Definitions only.
+use Prim.Native.Nat.{ℕ}
+use mathlib.Core.Path.{_≡_}
+use mathlib.Core.List.{List, map}
+use lib.Dec.{leb}
+use lib.ListN.{length, replicate}
+use lib.Ieee.{Float, binary64, ofBits, toBits}
+use Rattle.float.specs.Number.{f0}
+use Rattle.float.specs.Answer.{Answer, unless}
+use Rattle.house.specs.Limits.{badlyFormed}
+use Rattle.house.specs.File.{File}
+use Rattle.reader.specs.Reader.{judged}
+use Rattle.reader.specs.declared.Read.{Read}
+use Rattle.reader.specs.declared.Read.the-variants as read
+
+-- ---- numbers
+
+-- numbers from their bits
+abbrev pub floats : List ℕ → List Float
+floats xs = map (ofBits binary64) xs
+
+-- the bits of numbers
+abbrev pub patterns : List Float → List ℕ
+patterns xs = map (toBits binary64) xs
+
+-- so many zeros
+unfoldable pub zeros : ℕ → List Float
+zeros n = replicate n f0
+
+-- so many zeros, for first marks
+unfoldable pub noMarks : ℕ → List ℕ
+noMarks n = replicate n 0
+
+-- ---- the file
+
+-- the longest file: 4,096 marks, 4,095 curves and the parameters
+abbrev pub mostBytes : ℕ
+mostBytes = 393170
+
+-- slices with room for that
+pub record Roomy (M P C Q : List ℕ) : Type 0 where
+  pub marks : length M ≡ 8192
+  pub firsts : length P ≡ 4095
+  pub curves : length C ≡ 32760
+  pub params : length Q ≡ 4096
+
+-- 9 or 2, or the file, as the reader has it of slices with that room. (proofs/Opened: it is never 4.)
+unfoldable pub fileIn : List ℕ → Answer File
+fileIn b = unless badlyFormed (leb (length b) mostBytes) (judged b 8192 4095 32760 4096)
+
+-- the number of a reader's refusal, and 0 where there is none
+abbrev pub refusalIn : Read → ℕ
+refusalIn (read.File t n k) = 0
+refusalIn (read.Refused q) = q

@@ -1,0 +1,89 @@
+-- `verdict::put_fault` meets its contract. Assumes nothing.
+use borrow.Author.Needs.{needs}
+use Rattle.verdict.proofs.put_fault.Statement.{statement}
+use Rattle.verdict.proofs.put_fault.Tie as tie
+
+enum-known-fault : tie.Need-enum-known-fault
+enum-known-fault c = search needs
+
+slice-aggregate-put-place : tie.Need-slice-aggregate-put-place
+slice-aggregate-put-place c = search needs
+
+put-place-requires : tie.Need-put-place-requires
+put-place-requires c κs = search needs
+
+enum-known-fault-2 : tie.Need-enum-known-fault-2
+enum-known-fault-2 c = search needs
+
+slice-aggregate-put-place-2 : tie.Need-slice-aggregate-put-place-2
+slice-aggregate-put-place-2 c = search needs
+
+put-place-requires-2 : tie.Need-put-place-requires-2
+put-place-requires-2 c κs = search needs
+
+enum-known-fault-3 : tie.Need-enum-known-fault-3
+enum-known-fault-3 c = search needs
+
+slice-aggregate-put-place-3 : tie.Need-slice-aggregate-put-place-3
+slice-aggregate-put-place-3 c = search needs
+
+put-place-requires-3 : tie.Need-put-place-requires-3
+put-place-requires-3 c κs = search needs
+
+enum-known-fault-4 : tie.Need-enum-known-fault-4
+enum-known-fault-4 c = search needs
+
+slice-aggregate-put-place-4 : tie.Need-slice-aggregate-put-place-4
+slice-aggregate-put-place-4 c = search needs
+
+put-place-requires-4 : tie.Need-put-place-requires-4
+put-place-requires-4 c κs = search needs
+
+same-length : tie.Need-same-length
+same-length c = search needs
+
+returns : tie.Need-returns
+returns c = rw (c .before .before .before .before .before .before .fault .given .1) (c .before .before .put-place .ensures)
+
+same-length-2 : tie.Need-same-length-2
+same-length-2 c = search needs
+
+returns-2 : tie.Need-returns-2
+returns-2 c = rw (c .before .before .before .before .before .before .fault2 .given .1) (c .before .before .put-place2 .ensures)
+
+same-length-3 : tie.Need-same-length-3
+same-length-3 c = search needs
+
+returns-3 : tie.Need-returns-3
+returns-3 c = rw (c .before .before .before .before .before .before .fault3 .given .1) (c .before .before .put-place3 .ensures)
+
+same-length-4 : tie.Need-same-length-4
+same-length-4 c = search needs
+
+returns-4 : tie.Need-returns-4
+returns-4 c = rw (c .before .before .before .before .before .before .fault4 .given .1) (c .before .before .put-place4 .ensures)
+
+pub put-fault-spec : {M : Type 1} → statement M
+put-fault-spec =
+    tie.close
+    (tie.spec
+    enum-known-fault
+    slice-aggregate-put-place
+    put-place-requires
+    enum-known-fault-2
+    slice-aggregate-put-place-2
+    put-place-requires-2
+    enum-known-fault-3
+    slice-aggregate-put-place-3
+    put-place-requires-3
+    enum-known-fault-4
+    slice-aggregate-put-place-4
+    put-place-requires-4
+    same-length
+    returns
+    same-length-2
+    returns-2
+    same-length-3
+    returns-3
+    same-length-4
+    returns-4)

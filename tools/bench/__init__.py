@@ -1,0 +1,1 @@
+"""What ./wesalondo is made of. Every number that it shows comes from the proved programs."""

@@ -1,0 +1,55 @@
+"""The files that ./wesalondo reads and writes, with one line about each trouble."""
+import os
+import stat
+import sys
+
+from shared.command import Stop
+from shared.kept import replace
+
+LONGEST = 393170  # bytes of a house file, of 4,096 marks and 4,095 curves
+
+
+def shown(path):
+    """A file's name for a line of text or a drawing: what can't be printed is a question mark."""
+    return 'standard input' if path == '-' else ''.join(letter if letter.isprintable() else '?' for letter in path)
+
+
+def stop(path, error):
+    return Stop(f'{shown(path)}: {error.strerror or error}')
+
+
+def read(path):
+    """The bytes of a file, or of standard input for `-`; of a longer file than any house file one byte more than the longest has, which the programs refuse."""
+    if path == '-' and sys.stdin is None:
+        raise Stop('standard input is closed')
+    try:
+        if path == '-':
+            return sys.stdin.buffer.read(LONGEST + 1)
+        with open(path, 'rb') as file:
+            return read_whole(file, path)
+    except OSError as error:
+        raise stop(path, error)
+
+
+def read_whole(file, path):
+    """A regular file has the length that it is said to have, before and after it is read; otherwise someone is writing to it."""
+    before = os.fstat(file.fileno())
+    data = file.read(LONGEST + 1)
+    after = os.fstat(file.fileno())
+    if stat.S_ISREG(before.st_mode) and any(min(found.st_size, LONGEST + 1) != len(data) for found in (before, after)):
+        raise Stop(f'{shown(path)}: it changed while it was read; try again when it is written')
+    return data
+
+
+def write(path, data):
+    """Puts a file in place as a whole, or leaves what was there; what is no regular file, as a pipe, is written to."""
+    if path == '-':
+        raise Stop('- can be read and not written: give the file a name')
+    try:
+        if os.path.exists(path) and not os.path.isfile(path):
+            with open(path, 'wb') as file:
+                file.write(data)
+        else:
+            replace(os.path.realpath(path), data)
+    except OSError as error:
+        raise stop(path, error)

@@ -1,0 +1,191 @@
+"""An outline with its curves: a fit, or the list that a file holds. The programs fit, judge and measure; here their answers are taken apart."""
+import math
+import re
+
+from bench import programs
+from shared import house
+from shared.checker import closed, first_marks_fault
+from shared.command import Stop
+from shared.words import number, numbers, pattern_of, word, words
+
+WORD = '[0-9A-F]{16}'
+PIECE = f'([0-9]{{1,4}})((?: {WORD}){{8}})'  # a curve's first mark and eight numbers
+VERDICT = '(PASSED) ([0-9]+) ([0-9]+)|(FAULT) ([A-D]) ([0-9]+) ([0-9]+)|(NO CURVES) ([0-9]+)|(REFUSED) ([1-9])'
+
+
+class Refused(Exception):
+    """An outline that a program refused, by its number."""
+
+    def __init__(self, refusal):
+        super().__init__(refusal)
+        self.refusal = int(refusal)
+
+
+class Verdict:
+    """What the checker said of a list that came in a file."""
+
+    def __init__(self, passed, words):
+        self.passed, self.words = passed, words
+
+
+class Listed:
+    """Marks, and a list of curves for them. `held` has all of it as patterns; a ring has a parameter more than it has marks."""
+
+    def __init__(self, name, held, ring=False):
+        self.name, self.held, self.ring = name, held, ring
+        self.tolerance = number(held.tolerance)
+        self.marks = points(held.marks)
+        self.firsts = [first for first, _ in held.curves]
+        self.curves = [points(eight) for _, eight in held.curves]
+        self.params = numbers(held.params)
+        self.blocks = None   # of a fit alone
+        self.far = None      # the largest distance, its mark and its curve, where every distance is a number
+        self.verdict = None  # of a list that came in a file
+
+
+def points(patterns):
+    values = numbers(patterns)
+    return list(zip(values[0::2], values[1::2]))
+
+
+# ---- asking the programs
+
+def ask(lines):
+    """What replay answers to each of these lines."""
+    answers = programs.run('replay', ''.join(line + '\n' for line in lines).encode('ascii')).decode('latin-1').split('\n')[:-1]
+    if len(answers) != len(lines):
+        raise Stop(f'replay gives {len(answers)} answers to {len(lines)} lines')
+    return answers
+
+
+def value(answer, form, what):
+    """What stands behind the 0 of an answer of replay."""
+    found = re.fullmatch(f'0 ({form})', answer)
+    if not found:
+        raise Stop(f'replay gives no {what}: it says {answer[:60]!r}')
+    return found[1]
+
+
+def judged(data):
+    """The words of judge's line: PASSED marks curves, FAULT letter curve mark, or NO CURVES marks."""
+    said = programs.run('judge', data).decode('latin-1')
+    found = re.fullmatch(f'(?:{VERDICT})\n', said)
+    if not found:
+        raise Stop(f'judge gives no verdict: it says {said[:60]!r}')
+    kind, *rest = [text for text in found.groups() if text is not None]
+    if kind == 'REFUSED':
+        raise Refused(rest[0])
+    return [kind, *(text if text.isalpha() else int(text) for text in rest)]
+
+
+def taken_apart(data, program):
+    """What a house file holds that a program wrote or took."""
+    held = house.parse(data)
+    if held is None:
+        raise Stop(f'{program} and tools/shared/house.py disagree on what a house file is')
+    return held
+
+
+# ---- measuring
+
+def placed(listed):
+    """(mark, curve) of every mark once, a joint under its later curve, as the checker goes through them; a ring's first mark comes again as its last."""
+    ends = listed.firsts[1:] + [len(listed.marks) + listed.ring]
+    return [(mark, curve) for curve, (first, end) in enumerate(zip(listed.firsts, ends)) for mark in range(first, end)]
+
+
+def distance_line(listed, mark, curve):
+    """The line that asks replay how far a mark is from its curve."""
+    at = 2 * (mark % len(listed.marks))
+    return f'distance {words(listed.held.curves[curve][1])} {words(listed.held.marks[at:at + 2])} {word(listed.held.params[mark])}'
+
+
+def distance(answer):
+    return number(pattern_of(value(answer, WORD, 'distance')))
+
+
+def farthest(listed, answers):
+    """The largest of replay's answers to the distance lines, with its mark and its curve; the first of equals. None if one is no number."""
+    found = [(distance(answer), mark % len(listed.marks), curve) for answer, (mark, curve) in zip(answers, placed(listed))]
+    return max(found, key=lambda one: one[0]) if all(math.isfinite(far) for far, _, _ in found) else None
+
+
+def measure(listed):
+    """Asks for the distance of every mark, and keeps the largest."""
+    listed.far = farthest(listed, ask([distance_line(listed, *place) for place in placed(listed)]))
+
+
+def measure_fit(listed):
+    """The same of a fit, and into how many blocks it cut its marks: a ring's first mark counts again as its last."""
+    blocks, *rest = ask([f'blocks {len(listed.marks) + listed.ring}'] + [distance_line(listed, *place) for place in placed(listed)])
+    listed.blocks = int(value(blocks, '[0-9]{1,4}', 'number of blocks'))
+    listed.far = farthest(listed, rest)
+    if listed.far is None:
+        raise Stop('replay gives a distance of a fit that is no number')
+
+
+# ---- the three ways to an outline
+
+def hold(listed, program):
+    """The curves of a fit run from mark to mark. A program that says something else is not the one that was proved."""
+    marks = closed(listed.held.marks) if listed.ring else listed.held.marks
+    count = len(marks) // 2
+    if first_marks_fault(count, len(listed.firsts), listed.firsts):
+        raise Stop(f'{program} gives no list of curves for {count} marks')
+    for k, (first, end) in enumerate(zip(listed.firsts, listed.firsts[1:] + [count - 1])):
+        eight = listed.held.curves[k][1]
+        if eight[:2] + eight[6:] != marks[2 * first:2 * first + 2] + marks[2 * end:2 * end + 2]:
+            raise Stop(f'curve {k} of {program} does not run from mark {first} to mark {end}')
+
+
+def saved(data):
+    """The house file of a file's joined fit."""
+    made = programs.run('save', data)
+    refused = re.fullmatch(b'REFUSED ([1-9])\n', made)
+    if refused:
+        raise Refused(refused[1])
+    return made
+
+
+def joined(name, made):
+    """The joined fit that save wrote."""
+    listed = Listed(name, taken_apart(made, 'save'))
+    hold(listed, 'save')
+    measure_fit(listed)
+    return listed
+
+
+def ring(name, data):
+    """The ring fit of a file's marks. Whether the file can be read, and has too many, is judge's answer; the rest is the fit's own."""
+    try:
+        judged(data)
+    except Refused as refused:
+        if refused.refusal in (2, 9):
+            raise
+    held = taken_apart(data, 'judge')
+    (answer,) = ask([f'ring {words([held.tolerance] + held.marks)}'])
+    if re.fullmatch('[1-9]', answer):
+        raise Refused(answer)
+    head = re.match('0 ([0-9]{1,4})(?= )', answer)
+    if not head or not re.fullmatch(f'(?: {PIECE}){{{head[1]}}}(?: {WORD}){{{held.count + 1}}}', answer[head.end():]):
+        raise Stop(f'replay gives no curves of a closed outline: it says {answer[:60]!r}')
+    curves = [(int(piece[1]), patterns(piece[2])) for piece in re.finditer(f' {PIECE}', answer)]
+    listed = Listed(name, house.File(held.tolerance, held.marks, curves, patterns(answer)[-held.count - 1:]), ring=True)
+    hold(listed, 'replay')
+    measure_fit(listed)
+    return listed
+
+
+def patterns(text):
+    """The patterns of a text's words of 16 digits."""
+    return [pattern_of(found) for found in re.findall(f'(?<= ){WORD}(?= |$)', text)]
+
+
+def own(name, data):
+    """The list that a file holds, for one that judge took."""
+    return Listed(name, taken_apart(data, 'judge'))
+
+
+def listing(listed):
+    """The lines that the program `listing` prints of a fit."""
+    return [f'OUTLINE {len(listed.marks)} {len(listed.curves)}'] + [f'PIECE {first} {words(eight)}' for first, eight in listed.held.curves]

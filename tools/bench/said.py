@@ -1,0 +1,120 @@
+"""Plain words: numbers, refusals and faults. The words of the refusals and of the letters stand in docs/BENCH.md and are read from there."""
+import math
+import os
+import re
+
+from shared.checker import same_bits
+from shared.command import Stop
+from shared.kept import ROOT
+
+PAGE = os.path.join(ROOT, 'docs', 'BENCH.md')
+POINTS = ('start', 'first control', 'second control', 'end')
+
+
+# ---- numbers
+
+def counted(count, noun):
+    return f'{count} {noun}{"s" * (count != 1)}'
+
+
+def plain(value):
+    """A number with all its digits and no needless ones."""
+    if not math.isfinite(value):
+        return 'NaN' if math.isnan(value) else 'infinity' if value > 0 else '-infinity'
+    text = repr(value)
+    return text[:-2] if text.endswith('.0') else text
+
+
+def order(a, b):
+    return (a > b) - (a < b)
+
+
+def millimetres(far, tolerance):
+    """A distance to three places, or to as many as keep it on its side of the tolerance."""
+    for places in range(3, 8):
+        text = f'{far:.{places}f}'
+        if far < 1e9 and order(float(text), tolerance) == order(far, tolerance):
+            return text
+    return plain(far)
+
+
+# ---- docs/BENCH.md
+
+def rows():
+    """The tables of refusals and of faults: for each number or letter what it is in short, what it means and what to do."""
+    with open(PAGE, encoding='utf-8') as file:
+        found = re.findall(r'^\| ([1-9A-D]) \| (.+?) \| (.+?) \| (.+?) \|$', file.read(), re.M)
+    return {name: rest for name, *rest in found}
+
+
+def row(name):
+    known = rows()
+    if name not in known:
+        raise Stop(f'there is no {name!r}: the refusals are 1 to 9, and the faults A to D' if known else f'{PAGE} has no table of refusals')
+    return known[name]
+
+
+def refusal(number):
+    """A refusal in one line."""
+    short, meaning, _ = row(str(number))
+    return f'refused {number}, {short}: {meaning}'
+
+
+def explained(name):
+    """What a refusal or a fault means, and what to do."""
+    short, meaning, remedy = row(name)
+    return f'{name}, {short}\n  {meaning}\n  What to do: {remedy}'
+
+
+# ---- faults
+
+def fault(listed, letter, curve, mark, measured):
+    """What the checker found at the place that it names; `measured` gives the distance of a mark from its curve."""
+    words = {'A': first_mark_words, 'B': curve_words, 'C': parameter_words}.get(letter)
+    return words(listed, curve, mark) if words else distance_words(listed, curve, mark, measured(mark, curve))
+
+
+def first_mark_words(listed, curve, _):
+    first, last = listed.firsts[curve], len(listed.marks) - 1
+    if curve == 0 and first != 0:
+        return f'curve 0 begins at mark {first}, not at mark 0'
+    if curve > 0 and first <= listed.firsts[curve - 1]:
+        return f'curve {curve} begins at mark {first}, and curve {curve - 1} before it at mark {listed.firsts[curve - 1]}: first marks must rise'
+    return f'curve {curve} begins at mark {first}, and the last mark is {last}'
+
+
+def curve_words(listed, curve, first):
+    for name, point in zip(POINTS, listed.curves[curve]):
+        for axis, value in zip('xy', point):
+            if not math.isfinite(value):
+                return f"the {axis} of curve {curve}'s {name} is no number (NaN or infinity)"
+    start, end = listed.curves[curve][0], listed.curves[curve][3]
+    if not same_bits(start, listed.marks[first]):
+        before = f', where curve {curve - 1} ended' if curve else ''
+        return f'curve {curve} does not begin on mark {first}{before}: {unlike(start, listed.marks[first])}'
+    if curve + 1 < len(listed.firsts):
+        last = listed.firsts[curve + 1]
+        return f'curve {curve} does not end on mark {last}, where curve {curve + 1} begins: {unlike(end, listed.marks[last])}'
+    return f'curve {curve} does not end on mark {len(listed.marks) - 1}, the last: {unlike(end, listed.marks[-1])}'
+
+
+def unlike(point, mark):
+    """The coordinates in which a curve's end and its mark part; by all digits, since one bit is a fault."""
+    parts = [one for one in zip('xy', point, mark) if not same_bits((one[1], 0), (one[2], 0))]
+    return ', '.join(f"its {axis} is {plain(ours)}, the mark's {plain(theirs)}" for axis, ours, theirs in parts)
+
+
+def parameter_words(listed, curve, mark):
+    given = plain(listed.params[mark])
+    if mark == listed.firsts[curve]:
+        return f'mark {mark} is the first of curve {curve}, and its parameter is {given}, not 0'
+    if mark == len(listed.marks) - 1:
+        return f'mark {mark} is the last, and its parameter is {given}, not 1'
+    return f'the parameter of mark {mark} under curve {curve} is {given}, which is not between 0 and 1'
+
+
+def distance_words(listed, curve, mark, far):
+    limit = f'the tolerance is {plain(listed.tolerance)} mm'
+    if not math.isfinite(far):
+        return f'the distance of mark {mark} from curve {curve} is no number (its sums ran over), and {limit}'
+    return f'mark {mark} is {millimetres(far, listed.tolerance)} mm from curve {curve}, and {limit}'
