@@ -1,7 +1,7 @@
 #!/usr/bin/env python3
 """generate.py [SEED]: prints cases for replay and for the Rust, one a line; the same seed gives the same lines.
 
-Single curves, nearest points, outlines (smooth, noisy, long, damaged), distances, numbers of blocks, lists for the checker, and both sides of every limit.
+Single curves, nearest points, outlines (smooth, noisy, long, damaged), distances, numbers of blocks and their sizes, lists for the checker, and both sides of every limit.
 """
 import math
 import os
@@ -296,6 +296,12 @@ def measures():
         yield line('blocks', n)
 
 
+def sizes():
+    """Of how many marks a block is: for all outlines that a fit takes, and beyond. 30,049 is the first number for which a division by 200 would not give it."""
+    for n in [*range(4201), *range(30030, 30060), *range(99990, 100001), *(power + k for power in (1 << 32, 1 << 63) for k in (-1, 0, 1)), (1 << 64) - 1]:
+        yield line('size', n)
+
+
 def lists():
     for ring in (False, True):
         for count in (1, 2, 3, 8, 20):
@@ -324,6 +330,8 @@ def nonsense():
     yield 'check_ringx 3FF0000000000000 0 0 0000000000000000'
     yield 'blocks'
     yield 'blocks 0200'
+    yield 'size'
+    yield 'size 0200'
     yield 'distance ' + ' '.join(['0000000000000000'] * 10)
     for kind in ('check', 'check_ring'):  # as many parameters as the other one has
         yield checked(kind == 'check_ring', 0.5, [0.0] * 6, [0], [[0.0] * 8], [0.0] * 3 + [1.0] * (kind == 'check'))
@@ -333,7 +341,7 @@ def main(words):
     if len(words) > 1 or not all(text.isdecimal() for text in words):
         raise Stop('usage: compare/generate.py [SEED], SEED a whole number')
     hand.seed(int(words[0]) if words else 1)
-    for part in (single, near, outlines, joints, rings, limits, measures, lists, nonsense):
+    for part in (single, near, outlines, joints, rings, limits, measures, lists, sizes, nonsense):
         for case in part():
             print(case)
     return 0

@@ -7,8 +7,10 @@ stand-in for cargo whose Rust side is the port itself: so neither Rust nor a net
 import filecmp
 import importlib.machinery
 import importlib.util
+import itertools
 import math
 import os
+import re
 import shutil
 import subprocess
 import sys
@@ -19,6 +21,7 @@ import support
 from support import ROOT, SIDES, TRIANGLE, in_copy, read, write
 
 from shared import house
+from shared.blocks import size_of
 from shared.checker import FAULT_A, FAULT_B, FAULT_C, FAULT_D, PASSED, REFUSED, check
 from shared.table import fit_refusal
 from shared.words import NAN, numbers, pattern_of, patterns_of, word_of, words
@@ -219,8 +222,8 @@ class Vectors(Case):
         self.assertEqual(self.kept('fit_cases'), before)
 
     def test_as_kept(self):
-        got, out, _ = self.call('tools/make_vectors.py', 'sqrt_cases')
-        self.assertEqual((got, out), (0, 'sqrt_cases: 599 cases (56 published): as kept\n'))
+        got, out, _ = self.call('tools/make_vectors.py', 'sqrt_cases', 'size_cases')
+        self.assertEqual((got, out), (0, 'sqrt_cases: 599 cases (56 published): as kept\nsize_cases: 11 cases: as kept\n'))
 
     def test_difference_and_write(self):
         write('crates/sqrt_cases/stdout', read('crates/sqrt_cases/stdout').replace(b'3ff0', b'3ff1'))
@@ -347,11 +350,40 @@ def kink(before, after):
     return math.degrees(abs(math.atan2(a * d - b * c, a * c + b * d)))
 
 
+def by_sheet(count):
+    """The size of a block by the sheet of docs/BENCH.md, for 200 marks and more."""
+    q, r = divmod(count, 200)
+    return 200 if r >= 50 else 200 + (r - 50) // q
+
+
+class Sheet(Case):
+    def test_rule(self):
+        """The sheet's division gives what the document counts down, and 30,049 is where the two part."""
+        unlike = next(count for count in itertools.count(200) if by_sheet(count) != size_of(count))
+        self.assertEqual((unlike, by_sheet(unlike), size_of(unlike)), (30049, 199, 198))
+
+    def test_worked_examples(self):
+        """Every number of the page's table is the document's, and the port's."""
+        page = read('docs/BENCH.md').decode('utf-8')
+        rows = re.findall(r'^\| (\d+) \| q = (\d+), r = (\d+) \| (\w+) \| (?:.* )?(\d+) \| (\d+) \| (.+) \|$', page, re.M)
+        self.assertEqual(len(rows), 3)
+        for count, q, r, missing, taken, size, begin in [[*row[:6], row[6].split(', ')] for row in rows]:
+            lack, wanted = max(50 - int(r), 0), size_of(int(count))
+            self.assertEqual(divmod(int(count), 200), (int(q), int(r)))
+            self.assertEqual((missing, taken, size), (str(lack or 'none'), str(200 - wanted), str(wanted)))
+            self.assertEqual(begin, [str(mark) for mark in range(0, int(count) - 1, wanted)])
+            self.assertEqual(self.answers([f'size {count}', f'blocks {count}']), [f'0 {size}', f'0 {len(begin)}'])
+        left = re.search(r'Of (\d+) marks three blocks of (\d+) leave (\d+); three of (\d+) would leave (\d+)', page)
+        count, size, rest, larger, less = map(int, left.groups())
+        self.assertEqual((size_of(count), size + 1, count - 3 * size, count - 3 * larger), (size, larger, rest, less))
+        self.assertTrue(less < 50 <= rest)
+
+
 class Other(Case):
     def test_examples(self):
         self.says(2, 'usage: tools/make_examples.py', 'tools/make_examples.py', 'x')
         got, out, _ = self.call('tools/make_examples.py')
-        self.assertEqual((got, out.count('as kept')), (0, 7), out)
+        self.assertEqual((got, out.count('as kept')), (0, 8), out)
         os.remove(in_copy('examples/luff.house'))
         self.assertEqual(self.call('tools/make_examples.py')[0], 1)
         self.assertEqual(self.call('tools/make_examples.py', '--write')[0], 0)

@@ -162,6 +162,15 @@ def tender():
     return house(0.8, grid(shake(even(shape, 261), 0.15, hand)[:-1]))
 
 
+def genoa():
+    """A genoa's leech at the table's full rate, 180 mm hollow, with bulges between its battens: 630 marks, so blocks of 193."""
+    hand = random.Random(6)
+
+    def shape(u):
+        return 9600 * u, -180 * math.sin(math.pi * u ** 0.8) + 9 * math.sin(5 * math.pi * u) ** 2
+    return house(0.6, grid(shake(even(shape, 630), 0.08, hand)))
+
+
 def lost():
     """A foot tape whose puck lost the table at mark 11."""
     marks = grid([(80.0 * k, 40 * math.sin(0.28 * k)) for k in range(24)])
@@ -196,7 +205,7 @@ def settle(make, write):
 def main(words):
     if words not in ([], ['--write']):
         raise Stop('usage: tools/make_examples.py [--write]')
-    well = [settle(make, bool(words)) for make in (cover, luff, window, hood, tender, lost, rested)]
+    well = [settle(make, bool(words)) for make in (cover, luff, window, hood, genoa, tender, lost, rested)]
     return 0 if all(well) else 1
 
 

@@ -3,7 +3,8 @@
 
     tools/make_vectors.py ../flo_curves                 all of them
     tools/make_vectors.py ../flo_curves fit_cases       one
-    tools/make_vectors.py sqrt_cases creators           these ask no Rust
+    tools/make_vectors.py sqrt_cases size_cases creators
+                                                        these ask no Rust
 
 FLO_CURVES is a checkout of the crate, as for compare/run. Nothing is written but with --write, and then never fewer cases than there are.
     tools/make_vectors.py --published GO PYTHON         holds the published square roots against their tables (docs/VECTORS.md)
@@ -18,12 +19,13 @@ sys.path.insert(0, os.path.dirname(os.path.realpath(__file__)))
 from shared import kept
 from shared.command import Stop, run
 from shared.rust import Rust
-from vectors import creators, files, lines, lists, near, outlines, roots, single
+from vectors import creators, files, lines, lists, near, outlines, roots, single, sizes
 
 MAKERS = {
     'sqrt_cases': roots.make, 'eval_cases': single.make, 'fit_cases': outlines.make, 'check_cases': lists.make, 'nearest_cases': near.make,
-    'house_cases': files.make, 'listing': files.make_listing, 'save': files.make_save, 'judge': files.make_judge, 'replay': lines.make, 'creators': creators.make}
-ASK_NOTHING = ('sqrt_cases', 'creators')
+    'house_cases': files.make, 'listing': files.make_listing, 'save': files.make_save, 'judge': files.make_judge, 'replay': lines.make, 'creators': creators.make,
+    'size_cases': sizes.make}
+ASK_NOTHING = ('sqrt_cases', 'size_cases', 'creators')
 USAGE = 'usage: tools/make_vectors.py [FLO_CURVES] [PROGRAM..] [--write], PROGRAM one of ' + ' '.join(MAKERS)
 
 

@@ -71,9 +71,18 @@ fn whole(w: &str) -> Option<usize> {
 }
 fn numbers(w: &[&str]) -> Option<Vec<f64>> { w.iter().map(|w| number(w)).collect() }
 
-/// The size of a block: `max_points_to_fit`, which the crate keeps to itself. Only the joined and the ring fit, which the crate has not, want it here.
+/// The size of a block: `max_points_to_fit`, which the crate keeps to itself, by the same count-down. The joined and the ring fit, which the crate has not, want it here, and `size`.
 fn block_size(n: usize) -> usize {
     if n < 200 { 200 } else { (51..=200).rev().find(|size| n % size >= 50).unwrap_or(50) }
+}
+/// The most marks for which the crate is asked how it cuts them.
+const MOST_SHOWN: usize = 100_000;
+/// The same as the crate's own cutting shows it: `fit_curve` fits each block by itself, so that on a straight line, within any distance, the first curve ends on the first block's
+/// last mark. Of fewer than 200 marks all are one block, and nothing shows.
+fn first_block(n: usize) -> usize {
+    let line: Vec<Coord2> = (0..n).map(|i| Coord2(i as f64, 0.0)).collect();
+    let curves: Vec<Plain> = fit_curve(&line, f64::MAX).expect("two marks");
+    curves[0].end_point().0 as usize + 1
 }
 /// The tangent at a mark from its two neighbours: `tangent_between`, which the crate keeps to itself.
 fn tangent_between<P: Coordinate>(before: P, at: P, after: P) -> P { (((before - at) + (at - after)) * 0.5).to_unit_vector() }
@@ -212,7 +221,7 @@ fn answer(line: &str) -> Option<String> {
     let marks = |v: &[f64]| -> Vec<Mark> { points(v).into_iter().map(|c| Mark(c, None)).collect() };
     let show = |v: &[Mark]| -> String { let f: Vec<f64> = v.iter().flat_map(|m| [m.0.0, m.0.1]).collect(); format!("0{}", hex(&f)) };
     let wanted = match kind {
-        "sqrt" => 1, "basis" | "de_casteljau4" | "subdivide4" | "coefficients" => 9, "de_casteljau3" => 7, "de_casteljau2" => 5, "refine" => 12, "nearest" => 10, "distance" => 11, "blocks" => 1,
+        "sqrt" => 1, "basis" | "de_casteljau4" | "subdivide4" | "coefficients" => 9, "de_casteljau3" => 7, "de_casteljau2" => 5, "refine" => 12, "nearest" => 10, "distance" => 11, "blocks" | "size" => 1,
         "direct" => w.len().max(5), "source" | "loop" | "joined" | "ring" | "check" | "check_ring" => w.len().max(1), _ => return None,
     };
     if w.len() != wanted { return None; }
@@ -262,6 +271,12 @@ fn answer(line: &str) -> Option<String> {
             let last = whole(w[0])?.saturating_sub(1);
             let size = block_size(last + 1);
             format!("0 {}", last / size + usize::from(last % size > 0))
+        }
+        "size" => {
+            let n = whole(w[0])?;
+            let size = block_size(n);
+            if (200..=MOST_SHOWN).contains(&n) && first_block(n) != size { return Some("UNLIKE".into()); }
+            format!("0 {}", size)
         }
         "check" | "check_ring" => check_line(kind == "check_ring", w)?,
         _ => {

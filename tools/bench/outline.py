@@ -38,7 +38,7 @@ class Listed:
         self.firsts = [first for first, _ in held.curves]
         self.curves = [points(eight) for _, eight in held.curves]
         self.params = numbers(held.params)
-        self.blocks = None   # of a fit alone
+        self.blocks = self.block_size = None  # of a fit alone
         self.far = None      # the largest distance, its mark and its curve, where every distance is a number
         self.verdict = None  # of a list that came in a file
 
@@ -116,9 +116,11 @@ def measure(listed):
 
 
 def measure_fit(listed):
-    """The same of a fit, and into how many blocks it cut its marks: a ring's first mark counts again as its last."""
-    blocks, *rest = ask([f'blocks {len(listed.marks) + listed.ring}'] + [distance_line(listed, *place) for place in placed(listed)])
+    """The same of a fit, and into how many blocks it cut its marks, of what size: a ring's first mark counts again as its last."""
+    count = len(listed.marks) + listed.ring
+    blocks, size, *rest = ask([f'blocks {count}', f'size {count}'] + [distance_line(listed, *place) for place in placed(listed)])
     listed.blocks = int(value(blocks, '[0-9]{1,4}', 'number of blocks'))
+    listed.block_size = int(value(size, '[0-9]{1,4}', 'size of a block'))
     listed.far = farthest(listed, rest)
     if listed.far is None:
         raise Stop('replay gives a distance of a fit that is no number')

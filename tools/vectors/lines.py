@@ -1,11 +1,12 @@
 """replay: lines of cases, and lines that are none.
 
 Square roots, nearest points and border cases are those of the other programs; single curves, outlines and lists that are read from the kept
-input are asked of the Rust again, and so are distances; how many blocks there are is counted here; lists with one thing changed are judged by the document's rules (shared/checker.py). A line that is no case is
+input are asked of the Rust again, and so are distances; how many blocks there are, and their size, is counted by the document (shared/blocks.py); lists with one thing changed are judged by the document's rules (shared/checker.py). A line that is no case is
 BAD; the Rust side, which reads lines too, has to say so as well, but for what is only too long for the program. The last line has no newline."""
 import math
 
 from shared import kept
+from shared.blocks import blocks_of, size_of
 from shared.command import Stop
 from shared.table import FITS
 from shared.words import INFINITY, MINUS, NAN, bits, numbers, pattern_of, patterns_of, word, word_of, words
@@ -81,17 +82,18 @@ def distance_lines():
                 yield f'distance {words(eight)} {values(x, y, t)}'
 
 
-def blocks_of(count):
-    """Block k starts at mark k * size, while k * size < n - 1; the size is counted down, as the document has it."""
-    size = 200
-    while count >= 200 and size > 50 and count % size < 50:
-        size -= 1
-    return len(range(0, max(count - 1, 0), size))
+COUNTS = [*range(6), *range(195, 260), 399, 400, 401, 512, 1000, 4095, 4096, 4097, 30049, 100000, (1 << 63) - 1]  # of marks
 
 
 def block_lines():
-    for count in [*range(6), *range(195, 260), 399, 400, 401, 512, 1000, 4095, 4096, 4097, 30049, 100000, (1 << 63) - 1]:
+    for count in COUNTS:
         yield f'blocks {count}', f'0 {blocks_of(count)}'
+
+
+def size_lines():
+    """The size of a block, and beyond what a fit takes; 30,049 is the first number for which a division by 200 would not give it."""
+    for count in [*COUNTS, 4098, 4250, 30048, (1 << 64) - 1]:
+        yield f'size {count}', f'0 {size_of(count)}'
 
 
 # ---- lists
@@ -170,7 +172,7 @@ GOOD = [
     f'de_casteljau3 {HALF} {values(0, 0, 1, 0, 2, 0)}', f'de_casteljau2 {HALF} {TWO}', f'refine {ARCH} {QUERY} {HALF} 3', f'nearest {ARCH} {QUERY}',
     f'direct {HALF} {values(1, 0, -1, 0)} {TWO}', f'source {HALF} {TWO}', f'loop {HALF} {TWO}', f'joined {HALF} {TWO}',
     f'check {HALF} 2 {TWO} 1 0 {values(0, 0, 1.32, 0, 2.64, 0, 4, 0)} {values(0, 1)}', f'ring {HALF} {THREE}',
-    f'check_ring {HALF} 3 {THREE} 1 0 {values(0, 0, 8, 0, 4, 8, 0, 0)} {values(0, 0.25, 0.75, 1)}', f'distance {ARCH} {QUERY} {HALF}', 'blocks 7']
+    f'check_ring {HALF} 3 {THREE} 1 0 {values(0, 0, 8, 0, 4, 8, 0, 0)} {values(0, 0.25, 0.75, 1)}', f'distance {ARCH} {QUERY} {HALF}', 'blocks 7', 'size 7']
 
 
 def misspelt(line):
@@ -200,7 +202,7 @@ def counted(kind, count=None, curves='1', first='0', params=None):
 def miscounted():
     """Whole numbers that are none, and counts that are others than the line has."""
     for text in ('', '-1', '+1', '01', '00', '1.0', '1e0', '0x1', 'A', '18446744073709551616', '99999999999999999999', '100000000000000000000', '1' * 40):
-        yield from [f'coefficients {text} {ARCH}', f'refine {ARCH} {QUERY} {HALF} {text}', f'blocks {text}']
+        yield from [f'coefficients {text} {ARCH}', f'refine {ARCH} {QUERY} {HALF} {text}', f'blocks {text}', f'size {text}']
         for kind in CHECKS:
             yield from [counted(kind, count=text), counted(kind, curves=text), counted(kind, first=text)]
     for kind in CHECKS:
@@ -220,7 +222,7 @@ def miscounted():
 
 def bad():
     yield from ['', ' ', '  ', 'BAD', 'x', '0', HALF]
-    yield from ['sqrt', 'basis', 'coefficients', 'refine', 'nearest', 'distance', 'blocks', *FITS, *CHECKS]
+    yield from ['sqrt', 'basis', 'coefficients', 'refine', 'nearest', 'distance', 'blocks', 'size', *FITS, *CHECKS]
     for line in GOOD:
         yield from misspelt(line)
     yield from [f'direct {HALF} {values(1, 0, -1)}', f'direct {HALF}']
@@ -270,7 +272,7 @@ def made_rows():
     """The cases that are made here or by the other programs' modules, in their parts."""
     return {
         'roots': root_lines(), 'curve borders': to_ask(curve_borders()), 'nearest': nearest_lines() + [(line, '5') for line in nearest_borders()],
-        'outline borders': to_ask(outline_borders()), 'whole': to_ask(whole()), 'nans': list(nans()), 'distances': to_ask(distance_lines()), 'blocks': list(block_lines())}
+        'outline borders': to_ask(outline_borders()), 'whole': to_ask(whole()), 'nans': list(nans()), 'distances': to_ask(distance_lines()), 'blocks': list(block_lines()), 'sizes': list(size_lines())}
 
 
 def collected_lists(lines):
@@ -300,7 +302,7 @@ def cases(before):
     fits = kept.at_least(by_kind['outlines'], KEPT_OUTLINES, NAME)
     claims = kept.at_least(collected_lists(by_kind['lists']), KEPT_LISTS, NAME)
     rows = made['roots'] + to_ask(curves) + made['curve borders'] + made['nearest']
-    rows += to_ask(fits) + made['outline borders'] + made['whole'] + made['nans'] + made['distances'] + made['blocks']
+    rows += to_ask(fits) + made['outline borders'] + made['whole'] + made['nans'] + made['distances'] + made['blocks'] + made['sizes']
     return rows + list(list_rows(claims))
 
 

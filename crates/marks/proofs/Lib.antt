@@ -1,3 +1,4 @@
 pub mod Fine
 pub mod Parts
 mod Sizes
+mod Division

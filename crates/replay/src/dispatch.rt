@@ -31,6 +31,7 @@ fn answered(line: &[u8]) -> bool {
         15 => listing::check_case(Outline::Closed, line, end),
         16 => single::distance_case(line, end),
         17 => single::blocks_case(line, end),
+        18 => single::size_case(line, end),
         _ => false,
     }
 }

@@ -23,6 +23,12 @@ fn say_number(x: f64) -> bool {
     true
 }
 
+fn say_count(n: usize) -> bool {
+    print_accepted();
+    cases::print_next_count(n as u64);
+    true
+}
+
 fn say_refused(q: u32) -> bool {
     print_refused(q);
     true
@@ -206,7 +212,14 @@ pub fn blocks_case(line: &[u8], at: usize) -> bool {
     if n.then != line.len() {
         return false;
     }
-    print_accepted();
-    cases::print_next_count(tally::joined_blocks(n.x as usize) as u64);
-    true
+    say_count(tally::joined_blocks(n.x as usize))
+}
+
+// size N
+pub fn size_case(line: &[u8], at: usize) -> bool {
+    let n = take_count(line, at, MOST);
+    if n.then != line.len() {
+        return false;
+    }
+    say_count(marks::max_points_to_fit(n.x as usize))
 }

@@ -1,0 +1,20 @@
+"""size_cases: the size of a block for ranges of numbers of marks.
+
+The program reads nothing. A line for each range: its first and its last number, the size at the last, and a digest of all its sizes. They are counted down as the document
+says (shared/blocks.py), where the program divides as far as outlines go."""
+from shared import kept
+from shared.blocks import size_of
+from shared.words import digest_of
+
+NAME = 'size_cases'
+WORKED = (199, 200, 201, 249, 250, 400)  # the document's cases
+MOST = (1 << 64) - 1
+RANGES = [*((count, count) for count in WORKED), (2, 4097), (4098, 30048), (30049, 30049), (30049, 100000), (MOST, MOST)]
+
+
+def line(first, last):
+    return f'{first} {last} {size_of(last)} {digest_of(map(size_of, range(first, last + 1))):016x}\n'
+
+
+def make(rust):
+    return kept.Made(NAME, b'', ''.join(line(first, last) for first, last in RANGES), len(RANGES), len(RANGES))
