@@ -77,8 +77,8 @@ fn block_size(n: usize) -> usize {
 }
 /// The most marks for which the crate is asked how it cuts them.
 const MOST_SHOWN: usize = 100_000;
-/// The same as the crate's own cutting shows it: `fit_curve` fits each block by itself, so that on a straight line, within any distance, the first curve ends on the first block's
-/// last mark. Of fewer than 200 marks all are one block, and nothing shows.
+/// The same as the crate's own cutting shows it: `fit_curve` fits each block by itself, so that of a straight line, with a tolerance that takes every curve, the first curve
+/// ends on the first block's last mark. Fewer than 200 marks are one block, and nothing shows.
 fn first_block(n: usize) -> usize {
     let line: Vec<Coord2> = (0..n).map(|i| Coord2(i as f64, 0.0)).collect();
     let curves: Vec<Plain> = fit_curve(&line, f64::MAX).expect("two marks");

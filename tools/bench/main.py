@@ -210,7 +210,7 @@ def parser():
                           'Exit status: 0 all good; 1 something is refused or faulty; 2 something could not be run.')
     verbs = whole.add_subparsers(metavar='VERB', required=True, parser_class=Parser)
 
-    verb = add_verb(verbs, fit, 'Fits each file and prints a line about it: marks, curves, blocks, marks of a block, and the largest distance of a mark from its curve.',
+    verb = add_verb(verbs, fit, 'Fits each file and prints a line about it: marks, curves, blocks and their size, and the largest distance of a mark from its curve.',
                     'wesalondo fit cover.house --save fitted.house')
     verb.add_argument('files', metavar='FILE', nargs='+', help='a house file, or - for standard input; curves that it has are not looked at')
     verb.add_argument('--ring', action='store_true', help='a closed outline, which comes back to its first mark')

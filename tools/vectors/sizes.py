@@ -17,4 +17,5 @@ def line(first, last):
 
 
 def make(rust):
-    return kept.Made(NAME, b'', ''.join(line(first, last) for first, last in RANGES), len(RANGES), len(RANGES))
+    before = kept.read(NAME, 'stdout').count(b'\n')
+    return kept.Made(NAME, b'', ''.join(line(first, last) for first, last in RANGES), len(RANGES), before)
