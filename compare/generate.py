@@ -13,6 +13,7 @@ sys.path.insert(0, os.path.join(os.path.dirname(os.path.dirname(os.path.realpath
 
 from shared.basis import point_at
 from shared.command import Stop, run
+from shared.meetings import ABOUTS
 from shared.words import word_of
 
 BIG, NAN, INF, LEAST = 1e6, math.nan, math.inf, 5e-324
@@ -133,13 +134,6 @@ def limits():
         for marks in ([], [1.0], [1.0, 2.0], [1.0, 2.0, 3.0], [NAN], [NAN, 2.0], good[:-1], [1.0, 1.0] * 2, [1.0, 1.0] * 3, [1.0, 1.0] * 4, good[:4], good[:6], [1.0, NAN, 3.0]):
             yield line(kind, 0.5, ways, marks)
             yield line(kind, NAN, ways, marks)
-
-
-# Marks about a mark where blocks meet: a hard turn, a fold back, a rest, or so near that their difference is lost. Before, at and after it.
-ABOUTS = (
-    [3.0, 4.0, 5.0, 6.0, 3.0, 4.0], [3.0, 4.0] * 3, [3.0, 4.0, 3.0, 4.0, 5.0, 6.0], [3.0, 4.0, 5.0, 6.0, 5.0, 6.0],
-    [3.0, 0.0, -0.0, 0.0, 3.0, 0.0], [0.0, 0.0, 1e-320, 0.0, 2e-320, 0.0], [1e-170, 0.0, 0.0, 0.0, 0.0, 1e-170],
-    [BIG, BIG, -BIG, -BIG, BIG, -BIG], [-BIG, 0.0, BIG, 0.0, -BIG, LEAST])
 
 
 def joints():

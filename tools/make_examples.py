@@ -171,6 +171,29 @@ def genoa():
     return house(0.6, grid(shake(even(shape, 630), 0.08, hand)))
 
 
+def dart():
+    """A hood's flap with a curved dart, 28 mm wide at the hem: traced along the hem, down one side of the dart and up the other, 250 marks off by some 0.06 mm. The tip is mark 200,
+    where two blocks meet. There the dart is narrower than the puck can tell, and the mark after the tip lies on the mark before it."""
+    hand = random.Random(7)
+
+    def side(turn):
+        def shape(u):
+            a = 1.1 * u
+            off = 14 * turn * (1 - u) ** 1.5
+            return 1500 - 180 * (1 - math.cos(a)) + off * math.cos(a), -30 - 180 * math.sin(a) - off * math.sin(a)
+        return shape
+
+    def hem(start, end):
+        def shape(u):
+            x = start + (end - start) * u
+            return x, 45 * math.sin(math.pi * x / 1500) - 30
+        return shape
+    down, up = (shake(even(side(turn), 41), 0.06, hand) for turn in (-1, 1))
+    marks = shake(even(hem(0, 1486), 161), 0.06, hand)[:-1] + down + up[-2::-1] + even(hem(1514, 1604), 10)[1:]
+    marks[201] = marks[199]
+    return house(0.5, grid(marks))
+
+
 def lost():
     """A foot tape whose puck lost the table at mark 11."""
     marks = grid([(80.0 * k, 40 * math.sin(0.28 * k)) for k in range(24)])
@@ -205,7 +228,7 @@ def settle(make, write):
 def main(words):
     if words not in ([], ['--write']):
         raise Stop('usage: tools/make_examples.py [--write]')
-    well = [settle(make, bool(words)) for make in (cover, luff, window, hood, genoa, tender, lost, rested)]
+    well = [settle(make, bool(words)) for make in (cover, luff, window, hood, genoa, dart, tender, lost, rested)]
     return 0 if all(well) else 1
 
 

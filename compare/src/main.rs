@@ -84,18 +84,24 @@ fn first_block(n: usize) -> usize {
     let curves: Vec<Plain> = fit_curve(&line, f64::MAX).expect("two marks");
     curves[0].end_point().0 as usize + 1
 }
-/// The tangent at a mark from its two neighbours: `tangent_between`, which the crate keeps to itself.
-fn tangent_between<P: Coordinate>(before: P, at: P, after: P) -> P { (((before - at) + (at - after)) * 0.5).to_unit_vector() }
+/// The unit vector in a vector's direction, or that it has none: its magnitude is 0, and `to_unit_vector` gives zero.
+fn direction<P: Coordinate>(v: P) -> Option<P> { Some(v.to_unit_vector()).filter(|_| v.magnitude() != 0.0) }
+/// The vector of `tangent_between`, which the crate keeps to itself: at a mark, from its two neighbours.
+fn between<P: Coordinate>(before: P, at: P, after: P) -> P { ((before - at) + (at - after)) * 0.5 }
 /// The joined fit: block k from mark k·size to mark (k+1)·size, both included, each by the crate's `fit_curve_cubic`. At a mark where two blocks meet the left one
-/// ends with the tangent between that mark's neighbours and the right one starts with it times -1; at the outline's two ends it is that of the first and the last two marks.
+/// ends with the direction between that mark's neighbours and the right one starts with it times -1; where there is none, each takes that of the chord from the mark to its own
+/// neighbour, or zero. At the outline's two ends it is that of the first and the last two marks.
 /// A ring, whose last mark is its first once more, has no ends: there too the last block meets the first.
 fn joined<C: BezierCurveFactory>(ring: bool, p: &[C::Point], tolerance: f64) -> Vec<C> {
     let (size, last) = (block_size(p.len()), p.len() - 1);
-    let joint = |i: usize| tangent_between(p[if i == 0 { last - 1 } else { i - 1 }], p[i], p[if i == last { 1 } else { i + 1 }]);
+    let before = |i: usize| p[if i == 0 { last - 1 } else { i - 1 }];
+    let after = |i: usize| p[if i == last { 1 } else { i + 1 }];
+    let chord = |from: usize, to: C::Point| (to - p[from]).to_unit_vector();
+    let shared = |i: usize| direction(between(before(i), p[i], after(i)));
     (0..).map(|k| k * size).take_while(|from| *from < last).flat_map(|from| {
         let to = (from + size).min(last);
-        let start = if from == 0 && !ring { (p[1] - p[0]).to_unit_vector() } else { joint(from) * -1.0 };
-        let end = if to == last && !ring { (p[last - 1] - p[last]).to_unit_vector() } else { joint(to) };
+        let start = if from == 0 && !ring { chord(0, p[1]) } else { shared(from).map_or_else(|| chord(from, after(from)), |t| t * -1.0) };
+        let end = if to == last && !ring { chord(last, p[last - 1]) } else { shared(to).unwrap_or_else(|| chord(to, before(to))) };
         fit_curve_cubic(&p[from..=to], &start, &end, tolerance)
     }).collect()
 }

@@ -82,7 +82,7 @@ def seam_notes(outline):
     x, y = outline.listed.marks[0]
     turn = f'The outline turns there by {outline.seam()}; 0° is no kink.'
     if outline.angle is None:
-        turn = 'No angle there: a curve has no direction, as where marks fold back.'
+        turn = 'No angle there: a curve has no direction, as where marks lie on the seam itself.'
     return [f'The seam is mark 0 (diamond), x\xa0{rounded(x)}, y\xa0{rounded(y)}: there the last curve meets the first. {turn}']
 
 

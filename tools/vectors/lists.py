@@ -13,7 +13,7 @@ from shared.words import bits, digest_of, number, numbers, patterns_of, word, wo
 from vectors import outlines
 
 NAME = 'check_cases'
-KEPT = 283
+KEPT = 293
 HEAD = 8
 LARGEST_FIRST = (1 << 32) - 1
 

@@ -9,11 +9,12 @@ import itertools
 import math
 
 from shared import kept
+from shared.meetings import ABOUTS
 from shared.table import FITS, fit_refusal
 from shared.words import INFINITY, MINUS, NAN, bits, digest_of, number, numbers, pattern_of, patterns_of, words
 
 NAME = 'fit_cases'
-KEPT = 551
+KEPT = 575
 HEAD = 11
 SHORT = 64  # marks of which lists are printed
 BEFORE, BEFORE_FIRST = bits(7.5), 7  # what the lent slices hold
@@ -172,6 +173,15 @@ def rings(arc):
     yield Outline('ring', NAN, [NAN] + saw(4097)[1:], [0, 0, 0])
 
 
+def meetings():
+    """Marks with a direction between them and without one, where two blocks meet: at mark 150 of 200 on a parabola through it, and at mark 0 of a ring that one curve is to follow."""
+    bowl = patterns_of(*(value for i in range(-150, 50) for value in (i, i * i / 64)))
+    for about in ABOUTS:
+        before, after = patterns_of(*about[:2]), patterns_of(*about[2:])
+        yield Outline('joined', bits(2.0), bowl[:298] + before + after + bowl[304:])
+        yield Outline('ring', bits(9.0), after + patterns_of(4, 1, 5, 4, 2, 6, -1, 3) + before)
+
+
 def borders(arc):
     for kind in FITS:
         yield from few_marks(kind)
@@ -189,6 +199,7 @@ def borders(arc):
         for count in (199, 200, 201, 249, 250, 400):
             yield taken(kind, THOUSANDTH, arc(count))
     yield from rings(arc)
+    yield from meetings()
 
 
 def kept_borders():

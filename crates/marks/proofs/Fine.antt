@@ -1,22 +1,26 @@
 -- The line and the tangents: a run was fine exactly where the numbers that the code tests are finite. Assumes nothing.
-use mathlib.Core.Path.{_≡_, sym, ap, _∙_}
+use mathlib.Core.Path.{_≡_, refl, sym, ap, _∙_}
 use mathlib.Core.Bool.{Bool, true, false, _&&_}
 use mathlib.Core.List.{List}
 use Prim.Native.Nat.{_-_}
 use lib.Ieee.{Float}
 use Rattle.float.specs.Number.{finite}
-use Rattle.float.specs.Answer.{ok, refused, unless, outcome}
+use Rattle.float.specs.Calc.{Calc, _>>=_}
+use Rattle.float.specs.Answer.{Answer, ok, refused, unless, outcome}
+use Rattle.float.specs.Answer.{_>>=_ as chain}
 use Rattle.float.proofs.Truth.{and-left, and-right, and-false, and-implied, both, same, is-so}
 use Rattle.float.proofs.Strict.{Fin}
 use Rattle.float.proofs.Answers.{Fine, outcome-ok, outcome-no}
-use Rattle.plane.specs.Plane.{plus, minus, times, magnitudeOf, unitBy, unitOf}
+use Rattle.plane.specs.Plane.{plus, minus, magnitudeOf, unitOf, directionBy, directionOf, orZero}
 use Rattle.plane.specs.Range.{pointFinite}
 use Rattle.plane.specs.declared.Point.{Point}
 use Rattle.plane.specs.declared.Curve.{Curve}
-use Rattle.plane.proofs.Fine.{Good, plus-fine, minus-fine, times-fine, good-point, point-good, unit-same, unit-good}
+use Rattle.plane.specs.declared.Direction.{Direction}
+use Rattle.plane.specs.declared.Direction.the-variants.{Toward, Nowhere}
+use Rattle.plane.proofs.Fine.{Good, plus-fine, minus-fine, times-fine, good-point, point-good, or-zero, direction-fine, direction-same, none-finite, unit-good, direction-good}
 use Rattle.marks.specs.Marks.{count, markAt}
 use Rattle.marks.specs.Line.{lineOf}
-use Rattle.marks.specs.Tangent.{half, startTangent, endTangent, tangentBetween}
+use Rattle.marks.specs.Tangent.{startTangent, endTangent, between, tangentBetween, directionBetween, along}
 
 -- ---- the line
 module _ (p1 p2 : Point) where
@@ -51,45 +55,79 @@ module _ (p1 p2 : Point) where
   pub line-lost : (c : Curve) → c ≡ lineOf p1 p2 .val → pointFinite (c .cp1) && pointFinite (c .cp2) ≡ false → refused 6 ≡ outcome (lineOf p1 p2)
   line-lost c e h = sym (outcome-no (lineOf p1 p2) (line-same ∙ rw e at h))
 
--- ---- unit vectors
+-- ---- directions
 module _ (v : Point) (m : Float) (is : m ≡ magnitudeOf v .val) where
-  pub toward-far : finite m ≡ false → refused 6 ≡ outcome (unitOf v)
-  toward-far h = sym (outcome-no (unitOf v) (unit-same v ∙ ap (λ (b : Bool). b && pointFinite (unitBy v (magnitudeOf v .val) .val)) (rw is at h)))
+  pub far-off : finite m ≡ false → refused 6 ≡ outcome (directionOf v)
+  far-off h = sym (outcome-no (directionOf v) (direction-same v ∙ ap (λ (b : Bool). b && pointFinite (orZero (directionBy v (magnitudeOf v .val) .val))) (rw is at h)))
 
-  module _ (near : Fin m) (u : Point) (by : u ≡ unitBy v m .val) where
-    whole : unitOf v .fine ≡ pointFinite u
-    whole = unit-same v ∙ ap (λ (b : Bool). b && pointFinite (unitBy v (magnitudeOf v .val) .val)) (rw is at near) ∙ ap pointFinite (ap (λ (x : Float). unitBy v x .val) (sym is) ∙ sym by)
+  module _ (near : Fin m) (d : Direction) (by : d ≡ directionBy v m .val) where
+    whole : directionOf v .fine ≡ pointFinite (orZero d)
+    whole =
+        direction-same v
+        ∙ ap (λ (b : Bool). b && pointFinite (orZero (directionBy v (magnitudeOf v .val) .val))) (rw is at near)
+        ∙ ap (λ (x : Direction). pointFinite (orZero x)) (ap (λ (x : Float). directionBy v x .val) (sym is) ∙ sym by)
 
-    pub toward-on : pointFinite u ≡ true → ok u ≡ outcome (unitOf v)
-    unfolding unitOf
-    toward-on h = ap ok (by ∙ ap (λ (x : Float). unitBy v x .val) is) ∙ sym (outcome-ok (unitOf v) (whole ∙ h))
+    found : pointFinite (orZero d) ≡ true → ok d ≡ outcome (directionOf v)
+    unfolding directionOf
+    found h = ap ok (by ∙ ap (λ (x : Float). directionBy v x .val) is) ∙ sym (outcome-ok (directionOf v) (whole ∙ h))
 
-    pub toward-off : pointFinite u ≡ false → refused 6 ≡ outcome (unitOf v)
-    toward-off h = sym (outcome-no (unitOf v) (whole ∙ h))
+    pub nowhere : d ≡ Nowhere → ok Nowhere ≡ outcome (directionOf v)
+    nowhere e = ap ok (sym e) ∙ found (ap (λ (x : Direction). pointFinite (orZero x)) e ∙ none-finite)
 
--- a unit vector that was worked out with no refusal tells that its vector was
-through : (a : Bool) (v : Point) → (Good v → a ≡ true) → unless 6 (a && unitOf v .fine) (ok (unitOf v .val)) ≡ outcome (unitOf v)
+    pub toward-on : (u : Point) → d ≡ Toward u → pointFinite u ≡ true → ok (Toward u) ≡ outcome (directionOf v)
+    unfolding orZero
+    toward-on u e h = ap ok (sym e) ∙ found (ap (λ (x : Direction). pointFinite (orZero x)) e ∙ h)
+
+    pub toward-off : (u : Point) → d ≡ Toward u → pointFinite u ≡ false → refused 6 ≡ outcome (directionOf v)
+    unfolding orZero
+    toward-off u e h = sym (outcome-no (directionOf v) (whole ∙ ap (λ (x : Direction). pointFinite (orZero x)) e ∙ h))
+
+-- ---- tangents: unit vectors, zero where there is no direction
+filled : (b : Bool) (d : Direction) → unless 6 b (ok (orZero d)) ≡ chain (unless 6 b (ok d)) (λ (x : Direction). ok (orZero x))
+filled true d = refl
+filled false d = refl
+
+unit-is : (v : Point) → chain (outcome (directionOf v)) (λ (d : Direction). ok (orZero d)) ≡ outcome (unitOf v)
 unfolding outcome
-through a v back = ap (λ (b : Bool). unless 6 b (ok (unitOf v .val))) (and-implied a (unitOf v .fine) (λ h. back (unit-good v h)))
+unit-is v =
+    sym (filled (directionOf v .fine) (directionOf v .val))
+    ∙ ap (λ (u : Point). unless 6 (directionOf v .fine) (ok u)) (or-zero v)
+    ∙ ap (λ (b : Bool). unless 6 b (ok (unitOf v .val))) (direction-fine v)
 
-pub start-is : (ms : List Float) → outcome (startTangent ms) ≡ outcome (unitOf (minus (markAt ms 1) (markAt ms 0) .val))
-start-is ms = unfold startTangent outcome in through (minus (markAt ms 1) (markAt ms 0) .fine) (minus (markAt ms 1) (markAt ms 0) .val) (λ g. minus-fine _ _ g .0)
+pub unit-by : (v : Point) {a : Answer Direction} {w : Answer Point} → w ≡ chain a (λ (d : Direction). ok (orZero d)) → a ≡ outcome (directionOf v) → w ≡ outcome (unitOf v)
+unit-by v h e = h ∙ ap (λ (x : Answer Direction). chain x (λ (d : Direction). ok (orZero d))) e ∙ unit-is v
 
-pub end-is : (ms : List Float) → outcome (endTangent ms) ≡ outcome (unitOf (minus (markAt ms (count ms - 2)) (markAt ms (count ms - 1)) .val))
-end-is ms = unfold endTangent outcome in through (minus (markAt ms (count ms - 2)) (markAt ms (count ms - 1)) .fine) (minus (markAt ms (count ms - 2)) (markAt ms (count ms - 1)) .val) (λ g. minus-fine _ _ g .0)
+-- what a vector's unit vector or direction comes to tells whether the vector was worked out with no refusal
+through : {A : Type 0} (m : Calc Point) (f : Point → Calc A) → (Good (m .val) → Fine m) → ((v : Point) → Fine (f v) → Good v) → outcome (_>>=_ m f) ≡ outcome (f (m .val))
+unfolding outcome
+through m f back good = ap (λ (b : Bool). unless 6 b (ok (f (m .val) .val))) (and-implied (m .fine) (f (m .val) .fine) (λ h. back (good (m .val) h)))
 
-pub between-is : (p1 p2 p3 : Point) → let w = times (plus (minus p1 p2 .val) (minus p2 p3 .val) .val) half .val in outcome (tangentBetween p1 p2 p3) ≡ outcome (unitOf w)
-unfolding tangentBetween outcome
-between-is p1 p2 p3 =
-    let a = minus p1 p2 in
-    let b = minus p2 p3 in
-    let s = plus (a .val) (b .val) in
-    let t = times (s .val) half in
-    let u = unitOf (t .val) in
-    let good : Fine u → Good (t .val) = unit-good (t .val) in
-    let sum : Fine u → Good (s .val) = λ h. times-fine (s .val) half (good h) .1 in
-    ap (λ (x : Bool). unless 6 x (ok (u .val)))
-    (ap (λ (x : Bool). a .fine && (b .fine && (s .fine && x))) (and-implied (t .fine) (u .fine) (λ h. times-fine (s .val) half (good h) .0))
-    ∙ ap (λ (x : Bool). a .fine && (b .fine && x)) (and-implied (s .fine) (u .fine) (λ h. plus-fine (a .val) (b .val) (sum h) .0))
-    ∙ ap (λ (x : Bool). a .fine && x) (and-implied (b .fine) (u .fine) (λ h. minus-fine p2 p3 (plus-fine (a .val) (b .val) (sum h) .2) .0))
-    ∙ and-implied (a .fine) (u .fine) (λ h. minus-fine p1 p2 (plus-fine (a .val) (b .val) (sum h) .1) .0))
+pub along-is : (p q : Point) → outcome (along p q) ≡ outcome (unitOf (minus q p .val))
+unfolding along
+along-is p q = through (minus q p) unitOf (λ g. minus-fine q p g .0) unit-good
+
+pub start-is : (ms : List Float) → along (markAt ms 0) (markAt ms 1) ≡ startTangent ms
+unfolding along startTangent
+start-is ms = refl
+
+pub end-is : (ms : List Float) → along (markAt ms (count ms - 1)) (markAt ms (count ms - 2)) ≡ endTangent ms
+unfolding along endTangent
+end-is ms = refl
+
+module _ (p1 p2 p3 : Point) where
+  between-fine : Good (between p1 p2 p3 .val) → Fine (between p1 p2 p3)
+  unfolding between
+  between-fine g =
+      let t = times-fine _ _ g in
+      let s = plus-fine _ _ (t .1) in
+      let a = minus-fine _ _ (s .1) in
+      let b = minus-fine _ _ (s .2) in
+      cc
+
+  pub direction-is : outcome (directionBetween p1 p2 p3) ≡ outcome (directionOf (between p1 p2 p3 .val))
+  unfolding directionBetween
+  direction-is = through (between p1 p2 p3) directionOf between-fine direction-good
+
+  pub tangent-is : outcome (tangentBetween p1 p2 p3) ≡ outcome (unitOf (between p1 p2 p3 .val))
+  unfolding tangentBetween
+  tangent-is = through (between p1 p2 p3) unitOf between-fine unit-good

@@ -3,7 +3,10 @@ mod block;
 mod tangent;
 
 pub use block::max_points_to_fit;
+pub use tangent::Bearing;
 pub use tangent::Way;
+pub use tangent::along;
+pub use tangent::direction_between;
 pub use tangent::end_tangent;
 pub use tangent::start_tangent;
 pub use tangent::tangent_between;

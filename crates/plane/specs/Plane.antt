@@ -5,6 +5,8 @@ use Rattle.float.specs.Number.{f0, f1}
 use Rattle.float.specs.Calc.{Calc, give, _>>=_, _+!_, _-!_, _*!_, _/!_}
 use Rattle.root.specs.Operation.{sqrt! }
 use Rattle.plane.specs.declared.Point.{Point}
+use Rattle.plane.specs.declared.Direction.{Direction}
+use Rattle.plane.specs.declared.Direction.the-variants.{Toward, Nowhere}
 
 abbrev pub at : Float → Float → Point
 at x y = record { x = x; y = y }
@@ -45,3 +47,19 @@ unfoldable pub unitOf : Point → Calc Point
 unitOf p = do
   magnitude ← magnitudeOf p
   unitBy p magnitude
+
+-- what is answered: the direction, or that a vector of magnitude 0 has none
+unfoldable pub directionBy : Point → Float → Calc Direction
+directionBy p magnitude = do
+  u ← unitBy p magnitude
+  give (cond (eq magnitude f0) Nowhere (Toward u))
+
+unfoldable pub directionOf : Point → Calc Direction
+directionOf p = do
+  magnitude ← magnitudeOf p
+  directionBy p magnitude
+
+-- the vector that each answer stands for in the Rust
+unfoldable pub orZero : Direction → Point
+orZero (Toward u) = u
+orZero Nowhere = at f0 f0

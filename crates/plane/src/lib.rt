@@ -1,6 +1,6 @@
 // Points and curves of the plane by value, with the arithmetic of coordinate.rs and coord2.rs in its order of operations.
 ghost use mathlib.Core.Path.{_≡_};
-ghost use Rattle.plane.specs.Plane.{plus, minus, times, dotOf, magnitudeOf, distanceOf, unitBy, unitOf};
+ghost use Rattle.plane.specs.Plane.{plus, minus, times, dotOf, magnitudeOf, distanceOf, directionBy, directionOf, orZero};
 ghost use Rattle.plane.specs.Range.{coordinate, pointInRange, curveInRange, pointFinite};
 
 // A point of the plane, or a vector.
@@ -15,6 +15,12 @@ pub struct Curve {
     pub cp1: Point,
     pub cp2: Point,
     pub end: Point,
+}
+
+// The unit vector in a vector's direction, or that a vector has none.
+pub enum Direction {
+    Toward(Point),
+    Nowhere,
 }
 
 // The sum of two vectors.
@@ -68,21 +74,31 @@ pub fn distance_to(p: Point, target: Point) -> f64
     magnitude(sub(target, p))
 }
 
-// The unit vector of p, whose magnitude is at hand: the product with 1 / magnitude, which is not the quotient, and zero where there is no direction.
-pub fn unit_by(p: Point, magnitude: f64) -> Point
-    ensures { λ r. ⌜ r ≡ unitBy p magnitude .val ⌝ }
+// The direction of p, whose magnitude is at hand: the product with 1 / magnitude, which is not the quotient, and none where the magnitude is 0.
+pub fn unit_by(p: Point, magnitude: f64) -> Direction
+    ensures { λ r. ⌜ r ≡ directionBy p magnitude .val ⌝ }
 {
     if magnitude == 0.0 {
-        return Point { x: 0.0, y: 0.0 };
+        return Direction::Nowhere;
     }
-    scale(p, 1.0 / magnitude)
+    Direction::Toward(scale(p, 1.0 / magnitude))
 }
 
-// The unit vector in p's direction.
-pub fn to_unit_vector(p: Point) -> Point
-    ensures { λ r. ⌜ r ≡ unitOf p .val ⌝ }
+// The direction of p, if it has one.
+pub fn to_unit_vector(p: Point) -> Direction
+    ensures { λ r. ⌜ r ≡ directionOf p .val ⌝ }
 {
     unit_by(p, magnitude(p))
+}
+
+// The unit vector as the Rust has it, which is zero where there is no direction.
+pub fn or_zero(direction: Direction) -> Point
+    ensures { λ r. ⌜ r ≡ orZero direction ⌝ }
+{
+    let Direction::Toward(u) = direction else {
+        return Point { x: 0.0, y: 0.0 };
+    };
+    u
 }
 
 // Whether both coordinates are finite.

@@ -8,12 +8,7 @@ use lib.ListN.{length, take, drop}
 use lib.Dec.{leb, ltb}
 use lib.Ieee.{Float}
 use borrow.Author.Tests.{leb-false, ltb-true}
-use Rattle.float.specs.Calc.{Calc}
-use Rattle.float.specs.Answer.{Answer, outcome}
-use Rattle.float.specs.Answer.{_>>=_ as chain}
 use Rattle.float.proofs.Truth.{and-right}
-use Rattle.float.proofs.Answers.{outcome-then}
-use Rattle.plane.specs.declared.Point.{Point}
 use Rattle.marks.specs.Marks.{count}
 use Rattle.marks.specs.Tangent.{startTangent, endTangent}
 use Rattle.tangents.specs.declared.Cutting.{Cutting}
@@ -22,7 +17,8 @@ use Rattle.ring.specs.Ring.{again, whole, Even}
 use Rattle.ring.specs.declared.Outline.{Outline}
 use Rattle.ring.specs.declared.Outline.the-variants.{Open, Closed}
 use Rattle.ring.proofs.Whole.{again-small, whole-length, halves, as-closed}
-use Rattle.tangents.specs.Ways.{Inner, tangentAt, opposite, oppositeOf, over, outlineOf, marksOf, startAt, endAt, meets, seamAt, startOf, endOf}
+use Rattle.tangents.specs.Joints.{jointAt, seamOf, leftEnd, rightStart}
+use Rattle.tangents.specs.Ways.{Inner, over, outlineOf, marksOf, startAt, endAt, meets, startOf, endOf}
 
 pub over-small : (k : Cutting) → over k ≤ 1
 unfolding over
@@ -89,22 +85,16 @@ module _ (k : Cutting) (ms : List Float) (n : ℕ) (l : length (marksOf k ms) �
       let s = again-small (outlineOf k) in
       (i .0, (a, omega (arith, i)))
 
--- a tangent turned about, by what the calls answer
-pub about-of : (m : Calc Point) {a b : Answer Point} → a ≡ outcome m → b ≡ chain a (λ t. outcome (opposite t)) → b ≡ outcome (oppositeOf m)
-unfolding oppositeOf
-about-of m e h = h ∙ ap (λ (x : Answer Point). chain x (λ t. outcome (opposite t))) e ∙ sym (outcome-then m opposite)
-
--- its tangent, whether the outline is closed or not
-pub tangent-as-closed : (o : Outline) (ms : List Float) (k : ℕ) → Inner o ms k → tangentAt (whole Closed ms) k ≡ tangentAt (whole o ms) k
-unfolding tangentAt
-tangent-as-closed o ms k i =
+-- its neighbours, whether the outline is closed or not
+pub joint-as-closed : (o : Outline) (ms : List Float) (k : ℕ) → Inner o ms k → jointAt (whole Closed ms) k ≡ jointAt (whole o ms) k
+joint-as-closed o ms k i =
     let l = whole-length o ms (i .0) in
     let s = again-small o in
     rw (as-closed o ms (k - 1) (omega (arith, i)), as-closed o ms k (omega (arith, i)), as-closed o ms (k + 1) (omega (arith, i)))
 
 -- the tangent at a block's end where it meets another, and where it meets none, at the end of an open outline or where a ring comes back
 module _ (k : Cutting) (ms : List Float) (n j : ℕ) where
-  pub start-met : meets k 0 j ≡ true → startOf k ms n j ≡ oppositeOf (tangentAt ms j)
+  pub start-met : meets k 0 j ≡ true → startOf k ms n j ≡ rightStart (jointAt ms j)
   unfolding startOf
   start-met h = rw h
 
@@ -112,11 +102,11 @@ module _ (k : Cutting) (ms : List Float) (n j : ℕ) where
   unfolding startOf
   start-alone h o = rw (h, o)
 
-  pub start-seam : meets k 0 j ≡ false → outlineOf k ≡ Closed → startOf k ms n j ≡ oppositeOf (seamAt ms n)
+  pub start-seam : meets k 0 j ≡ false → outlineOf k ≡ Closed → startOf k ms n j ≡ rightStart (seamOf ms n)
   unfolding startOf
   start-seam h o = rw (h, o)
 
-  pub end-met : meets k j n ≡ true → endOf k ms n j ≡ tangentAt ms (j - 1)
+  pub end-met : meets k j n ≡ true → endOf k ms n j ≡ leftEnd (jointAt ms (j - 1))
   unfolding endOf
   end-met h = rw h
 
@@ -124,12 +114,12 @@ module _ (k : Cutting) (ms : List Float) (n j : ℕ) where
   unfolding endOf
   end-alone h o = rw (h, o)
 
-  pub end-seam : meets k j n ≡ false → outlineOf k ≡ Closed → endOf k ms n j ≡ seamAt ms n
+  pub end-seam : meets k j n ≡ false → outlineOf k ≡ Closed → endOf k ms n j ≡ leftEnd (seamOf ms n)
   unfolding endOf
   end-seam h o = rw (h, o)
 
 -- where a ring comes back
-pub seam-of : (k : Cutting) (ms : List Float) (n : ℕ) → length (marksOf k ms) ≡ 2 * n → 2 ≤ n → outlineOf k ≡ Closed → seamAt (whole Closed ms) (1 + count ms) ≡ seamAt (marksOf k ms) n
+pub seam-of : (k : Cutting) (ms : List Float) (n : ℕ) → length (marksOf k ms) ≡ 2 * n → 2 ≤ n → outlineOf k ≡ Closed → seamOf (whole Closed ms) (1 + count ms) ≡ seamOf (marksOf k ms) n
 seam-of k ms n l h o =
     let e : 1 + count ms ≡ n = sym (ap (λ (o : Outline). again o + count ms) o) ∙ marks-of k ms n l h .1 in
     rw (o, e) refl

@@ -1,2 +1,3 @@
+pub mod Joints
 pub mod Ways
 pub mod NoKink

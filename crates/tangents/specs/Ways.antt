@@ -4,17 +4,16 @@ use mathlib.Core.Bool.{Bool, _&&_, cond}
 use mathlib.Core.List.{List}
 use lib.ListN.{take, drop}
 use lib.Dec.{leb, ltb}
-use lib.Ieee.{Float, neg}
-use Rattle.float.specs.Number.{f1}
+use lib.Ieee.{Float}
 use Rattle.float.specs.Calc.{Calc, give, _>>=_}
 use Rattle.float.specs.Answer.{Answer, ok, refused}
-use Rattle.plane.specs.Plane.{times}
 use Rattle.plane.specs.declared.Point.{Point}
 use Rattle.marks.specs.Marks.{count, markAt}
 use Rattle.marks.specs.Tangent.{startTangent, endTangent, tangentBetween}
 use Rattle.ring.specs.Ring.{again, whole, Even}
 use Rattle.ring.specs.declared.Outline.{Outline}
 use Rattle.ring.specs.declared.Outline.the-variants.{Open, Closed}
+use Rattle.tangents.specs.Joints.{opposite, jointAt, seamOf, leftEnd, rightStart}
 use Rattle.tangents.specs.declared.Ways.{Ways}
 use Rattle.tangents.specs.declared.Turn.{Turn}
 use Rattle.tangents.specs.declared.Turn.the-variants as turn
@@ -28,15 +27,6 @@ Inner o ms k = Even ms × ((0 < k) × (k + 1 < again o + count ms))
 -- the tangent at mark k: tangent_between of the mark before it, itself and the mark after it
 unfoldable pub tangentAt : List Float → ℕ → Calc Point
 tangentAt ms k = tangentBetween (markAt ms (k - 1)) (markAt ms k) (markAt ms (k + 1))
-
--- a tangent times -1, also of one that is worked out first
-abbrev pub opposite : Point → Calc Point
-opposite t = times t (neg f1)
-
-unfoldable pub oppositeOf : Calc Point → Calc Point
-oppositeOf m = do
-  t ← m
-  opposite t
 
 -- the shared tangent at a cut at mark k: tangent_between's at the left's end, and that times -1 at the right's start
 unfoldable pub waysAt : List Float → ℕ → Calc Ways
@@ -84,28 +74,23 @@ unfoldable pub meets : Cutting → ℕ → ℕ → Bool
 unfolding over
 meets k a b = ltb 0 (over k) && ltb a b
 
--- Where a ring comes back to its first mark, its last block meets its first: the tangent there is tangent_between's of the last, first and second mark.
--- Of n marks the last is the first again, and the one before it the last that was given.
-unfoldable pub seamAt : List Float → ℕ → Calc Point
-seamAt ms n = tangentBetween (markAt ms (n - 2)) (markAt ms 0) (markAt ms 1)
-
 -- the tangents at the outline's own start and end
 abbrev pub outerStart : Outline → Cutting → List Float → ℕ → ℕ → Calc Point
 outerStart Open k ms n from = startTangent (drop (2 * startAt k n from) ms)
-outerStart Closed k ms n from = oppositeOf (seamAt ms n)
+outerStart Closed k ms n from = rightStart (seamOf ms n)
 
 abbrev pub outerEnd : Outline → Cutting → List Float → ℕ → ℕ → Calc Point
 outerEnd Open k ms n to = endTangent (take (2 * endAt k n to) ms)
-outerEnd Closed k ms n to = seamAt ms n
+outerEnd Closed k ms n to = leftEnd (seamOf ms n)
 
--- Where two blocks meet they share that mark's tangent: the left one ends with it, and the right one starts with it times -1.
+-- the tangents at a block's two ends: of the joint where it meets another, and else the outline's own
 unfoldable pub startOf : Cutting → List Float → ℕ → ℕ → Calc Point
-unfolding meets tangentAt oppositeOf startAt seamAt
-startOf k ms n from = cond (meets k 0 from) (oppositeOf (tangentAt ms from)) (outerStart (outlineOf k) k ms n from)
+unfolding meets startAt
+startOf k ms n from = cond (meets k 0 from) (rightStart (jointAt ms from)) (outerStart (outlineOf k) k ms n from)
 
 unfoldable pub endOf : Cutting → List Float → ℕ → ℕ → Calc Point
-unfolding meets tangentAt endAt seamAt
-endOf k ms n to = cond (meets k to n) (tangentAt ms (to - 1)) (outerEnd (outlineOf k) k ms n to)
+unfolding meets endAt
+endOf k ms n to = cond (meets k to n) (leftEnd (jointAt ms (to - 1))) (outerEnd (outlineOf k) k ms n to)
 
 unfoldable pub waysOf : Cutting → List Float → ℕ → ℕ → ℕ → Calc Ways
 unfolding startOf endOf

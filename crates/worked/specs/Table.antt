@@ -1,5 +1,5 @@
--- The worked cases, as one statement: block sizes, a curve at a half and its left half, the joined fit of two marks, four square roots, a unit vector.
--- Definitions only.
+-- The worked cases, as one statement: block sizes, a curve at a half and its left half, the joined fit of two marks, four square roots, a unit vector, and
+-- what ends and starts where two blocks meet without a direction. Definitions only.
 use Prim.Native.Nat.{ℕ}
 use mathlib.Core.Bool.{true}
 use mathlib.Core.Path.{_≡_}
@@ -17,6 +17,8 @@ use Rattle.marks.specs.Tangent.{half}
 use Rattle.cubic.specs.Basis.{pointAt}
 use Rattle.cubic.specs.Subdivide.{subdivide4Of}
 use Rattle.cubic.specs.declared.split.Halves.{Halves}
+use Rattle.tangents.specs.Joints.{leftEnd, rightStart}
+use Rattle.tangents.specs.declared.Joint.{Joint}
 use Rattle.tangents.specs.declared.Cutting.the-variants.{Joined}
 use Rattle.fit.specs.Fit.{Ending, ending, fitOf}
 
@@ -45,6 +47,14 @@ halves = subdivide4Of half (arch .start) (arch .cp1) (arch .cp2) (arch .end)
 abbrev pub twoMarks : Ending
 twoMarks = fitOf Joined (f0 ∷ f0 ∷ four ∷ f0 ∷ []) half (replicate 8 f0) (replicate 1 0) (replicate 2 f0)
 
+-- a fold at (0,0): the marks before and after it are (1,0)
+abbrev pub fold : Joint
+fold = record { before = at f1 f0; at = at f0 f0; after = at f1 f0 }
+
+-- marks on (0,0) but for the one before, at (2^-537,0): half of that has no square, so that only the whole has a direction
+abbrev pub near : Joint
+near = record { before = at (n64 0x1e60_0000_0000_0000) f0; at = at f0 f0; after = at f0 f0 }
+
 pub record Table : Type 0 where
   pub block199 : blockSize 199 ≡ 200
   pub block200 : blockSize 200 ≡ 150
@@ -61,3 +71,7 @@ pub record Table : Type 0 where
   pub root4 : sqrt binary64 four ≡ f2
   pub rootLeast : sqrt binary64 (n64 1) ≡ n64 0x1e60_0000_0000_0000
   pub unit : unitOf (at f3 four) ≡ give (at (n64 0x3fe3_3333_3333_3334) (n64 0x3fe9_9999_9999_999a))
+  pub foldEnd : leftEnd fold ≡ give (at f1 f0)
+  pub foldStart : rightStart fold ≡ give (at f1 f0)
+  pub nearEnd : leftEnd near ≡ give (at f1 f0)
+  pub nearStart : rightStart near ≡ give (at f0 f0)

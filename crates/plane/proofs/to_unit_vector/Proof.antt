@@ -1,5 +1,5 @@
 -- `plane::to_unit_vector` meets its contract. Assumes nothing.
-use Rattle.plane.specs.Plane.{unitOf}
+use Rattle.plane.specs.Plane.{directionOf}
 use borrow.Author.Needs.{needs}
 use Rattle.plane.proofs.to_unit_vector.Statement.{statement}
 use Rattle.plane.proofs.to_unit_vector.Tie as tie
@@ -11,7 +11,7 @@ unit-by-requires : tie.Need-unit-by-requires
 unit-by-requires c κs = search needs
 
 returns : tie.Need-returns
-unfolding unitOf
+unfolding directionOf
 returns c = simp (c .unit-by .ensures, c .before .magnitude .ensures)
 
 pub to-unit-vector-spec : {M : Type 1} → statement M

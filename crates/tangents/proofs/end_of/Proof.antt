@@ -6,32 +6,38 @@ use Prim.Native.Nat.{_-_, _*_}
 use lib.ListN.{length, length-take}
 use Rattle.float.specs.Answer.{outcome}
 use Rattle.ring.specs.declared.Outline.the-variants.{Open}
+use Rattle.tangents.specs.declared.Joint.{Joint}
+use Rattle.tangents.specs.Joints.{leftEnd}
 use Rattle.tangents.specs.Ways.{outlineOf, marksOf}
-use Rattle.tangents.proofs.Blocks.{end-within, met, marks-of, open-marks, open-length, joint-inner, joint-closed, tangent-as-closed, end-met, end-alone, end-seam, seam-of}
+use Rattle.tangents.proofs.Blocks.{end-within, met, marks-of, open-marks, open-length, joint-inner, joint-closed, joint-as-closed, end-met, end-alone, end-seam, seam-of}
 use Rattle.tangents.proofs.end_of.Statement.{statement}
 use Rattle.tangents.proofs.end_of.Tie as tie
 
 meets-requires : tie.Need-meets-requires
 meets-requires c κs = search needs
 
-sub-tangent-at : tie.Need-sub-tangent-at
-sub-tangent-at c = search needs
+sub-joint-at : tie.Need-sub-joint-at
+sub-joint-at c = search needs
 
-tangent-at-requires : tie.Need-tangent-at-requires
-tangent-at-requires c κs =
+joint-at-requires : tie.Need-joint-at-requires
+joint-at-requires c κs =
     let a = c .before .before .before .args in
     let p = c .before .before .before .pre in
     let m = met _ _ _ (sym (c .before .meets .ensures) ∙ c .if1 .taken) in
     joint-closed (a .cutting) (a .marks .now) (a .n) (p .0) (a .to - 1) (omega (arith, p)) (omega (arith, p, m))
 
+left-end-requires : tie.Need-left-end-requires
+left-end-requires c κs = search needs
+
 returns : tie.Need-returns
 returns c =
-    let a = c .before .before .before .before .args in
-    let p = c .before .before .before .before .pre in
-    let t = sym (c .before .before .meets .ensures) ∙ c .before .if1 .taken in
+    let a = c .before .before .before .before .before .args in
+    let p = c .before .before .before .before .before .pre in
+    let t = sym (c .before .before .before .meets .ensures) ∙ c .before .before .if1 .taken in
     let m = met _ _ _ t in
-    c .tangent-at .ensures
-    ∙ ap outcome (tangent-as-closed (outlineOf (a .cutting)) (a .marks .now) (a .to - 1) (joint-inner (a .cutting) (a .marks .now) (a .n) (p .0) (a .to - 1) (omega (arith, p)) (omega (arith, p, m))) ∙ sym (end-met (a .cutting) (marksOf (a .cutting) (a .marks .now)) (a .n) (a .to) t))
+    c .left-end .ensures
+    ∙ ap (λ (j : Joint). outcome (leftEnd j)) (c .before .joint-at .ensures ∙ joint-as-closed (outlineOf (a .cutting)) (a .marks .now) (a .to - 1) (joint-inner (a .cutting) (a .marks .now) (a .n) (p .0) (a .to - 1) (omega (arith, p)) (omega (arith, p, m))))
+    ∙ ap outcome (sym (end-met (a .cutting) (marksOf (a .cutting) (a .marks .now)) (a .n) (a .to) t))
 
 outline-of-requires : tie.Need-outline-of-requires
 outline-of-requires c κs = search needs
@@ -39,11 +45,14 @@ outline-of-requires c κs = search needs
 enum-told : tie.Need-enum-told
 enum-told c = search needs
 
-seam-at-requires : tie.Need-seam-at-requires
-seam-at-requires c κs =
+seam-of-requires : tie.Need-seam-of-requires
+seam-of-requires c κs =
     let a = c .before .before .before .before .before .before .args in
     let p = c .before .before .before .before .before .before .pre in
     marks-of (a .cutting) (a .marks .now) (a .n) (p .0) (omega (arith, p)) .0
+
+left-end-requires-2 : tie.Need-left-end-requires-2
+left-end-requires-2 c κs = search needs
 
 enum-told-2 : tie.Need-enum-told-2
 enum-told-2 c = search needs
@@ -68,11 +77,12 @@ end-tangent-requires c κs = let p = c .before .before .before .before .before .
 
 returns-2 : tie.Need-returns-2
 returns-2 c =
-    let a = c .before .before .before .before .before .before .before .args in
-    let p = c .before .before .before .before .before .before .before .pre in
-    let o = sym (c .before .before .before .outline-of .ensures) ∙ c .before .enum-told .given .1 in
-    c .seam-at .ensures
-    ∙ ap outcome (seam-of (a .cutting) (a .marks .now) (a .n) (p .0) (omega (arith, p)) o ∙ sym (end-seam (a .cutting) (marksOf (a .cutting) (a .marks .now)) (a .n) (a .to) (sym (c .before .before .before .before .before .meets .ensures) ∙ c .before .before .before .before .if1 .left) o))
+    let a = c .before .before .before .before .before .before .before .before .args in
+    let p = c .before .before .before .before .before .before .before .before .pre in
+    let o = sym (c .before .before .before .before .outline-of .ensures) ∙ c .before .before .enum-told .given .1 in
+    c .left-end2 .ensures
+    ∙ ap (λ (j : Joint). outcome (leftEnd j)) (c .before .seam-of .ensures ∙ seam-of (a .cutting) (a .marks .now) (a .n) (p .0) (omega (arith, p)) o)
+    ∙ ap outcome (sym (end-seam (a .cutting) (marksOf (a .cutting) (a .marks .now)) (a .n) (a .to) (sym (c .before .before .before .before .before .before .meets .ensures) ∙ c .before .before .before .before .before .if1 .left) o))
 
 returns-3 : tie.Need-returns-3
 returns-3 c =
@@ -86,12 +96,14 @@ end-of-spec =
     tie.close
     (tie.spec
     meets-requires
-    sub-tangent-at
-    tangent-at-requires
+    sub-joint-at
+    joint-at-requires
+    left-end-requires
     returns
     outline-of-requires
     enum-told
-    seam-at-requires
+    seam-of-requires
+    left-end-requires-2
     enum-told-2
     end-at-requires
     mul-tail

@@ -7,30 +7,33 @@ use lib.ListN.{length, drop, length-take, length-drop}
 use lib.Seq.{take-all}
 use Rattle.float.specs.Answer.{outcome}
 use Rattle.ring.specs.declared.Outline.the-variants.{Open}
-use Rattle.tangents.specs.Ways.{outlineOf, marksOf, oppositeOf}
-use Rattle.tangents.proofs.Blocks.{start-within, met, marks-of, open-marks, open-length, joint-inner, joint-closed, about-of, tangent-as-closed, start-met, start-alone, start-seam, seam-of}
+use Rattle.tangents.specs.declared.Joint.{Joint}
+use Rattle.tangents.specs.Joints.{rightStart}
+use Rattle.tangents.specs.Ways.{outlineOf, marksOf}
+use Rattle.tangents.proofs.Blocks.{start-within, met, marks-of, open-marks, open-length, joint-inner, joint-closed, joint-as-closed, start-met, start-alone, start-seam, seam-of}
 use Rattle.tangents.proofs.start_of.Statement.{statement}
 use Rattle.tangents.proofs.start_of.Tie as tie
 
 meets-requires : tie.Need-meets-requires
 meets-requires c κs = search needs
 
-tangent-at-requires : tie.Need-tangent-at-requires
-tangent-at-requires c κs =
+joint-at-requires : tie.Need-joint-at-requires
+joint-at-requires c κs =
     let a = c .before .before .before .args in
     let p = c .before .before .before .pre in
     joint-closed (a .cutting) (a .marks .now) (a .n) (p .0) (a .from) (met _ _ _ (sym (c .before .meets .ensures) ∙ c .if1 .taken)) (omega (arith, p))
 
-opposite-of-requires : tie.Need-opposite-of-requires
-opposite-of-requires c κs = search needs
+right-start-requires : tie.Need-right-start-requires
+right-start-requires c κs = search needs
 
 returns : tie.Need-returns
 returns c =
     let a = c .before .before .before .before .before .args in
     let p = c .before .before .before .before .before .pre in
     let t = sym (c .before .before .before .meets .ensures) ∙ c .before .before .if1 .taken in
-    about-of _ (c .before .tangent-at .ensures) (c .opposite-of .ensures)
-    ∙ ap outcome (ap oppositeOf (tangent-as-closed (outlineOf (a .cutting)) (a .marks .now) (a .from) (joint-inner (a .cutting) (a .marks .now) (a .n) (p .0) (a .from) (met _ _ _ t) (omega (arith, p)))) ∙ sym (start-met (a .cutting) (marksOf (a .cutting) (a .marks .now)) (a .n) (a .from) t))
+    c .right-start .ensures
+    ∙ ap (λ (j : Joint). outcome (rightStart j)) (c .before .joint-at .ensures ∙ joint-as-closed (outlineOf (a .cutting)) (a .marks .now) (a .from) (joint-inner (a .cutting) (a .marks .now) (a .n) (p .0) (a .from) (met _ _ _ t) (omega (arith, p))))
+    ∙ ap outcome (sym (start-met (a .cutting) (marksOf (a .cutting) (a .marks .now)) (a .n) (a .from) t))
 
 outline-of-requires : tie.Need-outline-of-requires
 outline-of-requires c κs = search needs
@@ -38,14 +41,14 @@ outline-of-requires c κs = search needs
 enum-told : tie.Need-enum-told
 enum-told c = search needs
 
-seam-at-requires : tie.Need-seam-at-requires
-seam-at-requires c κs =
+seam-of-requires : tie.Need-seam-of-requires
+seam-of-requires c κs =
     let a = c .before .before .before .before .before .before .args in
     let p = c .before .before .before .before .before .before .pre in
     marks-of (a .cutting) (a .marks .now) (a .n) (p .0) (omega (arith, p)) .0
 
-opposite-of-requires-2 : tie.Need-opposite-of-requires-2
-opposite-of-requires-2 c κs = search needs
+right-start-requires-2 : tie.Need-right-start-requires-2
+right-start-requires-2 c κs = search needs
 
 enum-told-2 : tie.Need-enum-told-2
 enum-told-2 c = search needs
@@ -82,8 +85,9 @@ returns-2 c =
     let a = c .before .before .before .before .before .before .before .before .args in
     let p = c .before .before .before .before .before .before .before .before .pre in
     let o = sym (c .before .before .before .before .outline-of .ensures) ∙ c .before .before .enum-told .given .1 in
-    about-of _ (c .before .seam-at .ensures) (c .opposite-of2 .ensures)
-    ∙ ap outcome (ap oppositeOf (seam-of (a .cutting) (a .marks .now) (a .n) (p .0) (omega (arith, p)) o) ∙ sym (start-seam (a .cutting) (marksOf (a .cutting) (a .marks .now)) (a .n) (a .from) (sym (c .before .before .before .before .before .before .meets .ensures) ∙ c .before .before .before .before .before .if1 .left) o))
+    c .right-start2 .ensures
+    ∙ ap (λ (j : Joint). outcome (rightStart j)) (c .before .seam-of .ensures ∙ seam-of (a .cutting) (a .marks .now) (a .n) (p .0) (omega (arith, p)) o)
+    ∙ ap outcome (sym (start-seam (a .cutting) (marksOf (a .cutting) (a .marks .now)) (a .n) (a .from) (sym (c .before .before .before .before .before .before .meets .ensures) ∙ c .before .before .before .before .before .if1 .left) o))
 
 returns-3 : tie.Need-returns-3
 returns-3 c =
@@ -98,13 +102,13 @@ start-of-spec =
     tie.close
     (tie.spec
     meets-requires
-    tangent-at-requires
-    opposite-of-requires
+    joint-at-requires
+    right-start-requires
     returns
     outline-of-requires
     enum-told
-    seam-at-requires
-    opposite-of-requires-2
+    seam-of-requires
+    right-start-requires-2
     enum-told-2
     start-at-requires
     mul-head

@@ -1,43 +1,28 @@
 -- `tangents::tangent_at` meets its contract. Assumes nothing.
 use borrow.Author.Needs.{needs}
 use native.Mathlib.Omega.{arith}
-use mathlib.Core.Path.{sym, _∙_}
-use Rattle.ring.specs.declared.Outline.the-variants.{Closed}
-use Rattle.ring.proofs.Whole.{given}
+use mathlib.Core.Path.{ap, _∙_}
+use Rattle.float.specs.Answer.{outcome}
+use Rattle.marks.specs.Tangent.{tangentBetween}
+use Rattle.ring.specs.declared.Outline.the-variants.{Open}
+use Rattle.tangents.specs.declared.Joint.{Joint}
 use Rattle.tangents.specs.Ways.{tangentAt}
+use Rattle.tangents.proofs.Blocks.{joint-as-closed}
 use Rattle.tangents.proofs.tangent_at.Statement.{statement}
 use Rattle.tangents.proofs.tangent_at.Tie as tie
 
-sub-mark-at : tie.Need-sub-mark-at
-sub-mark-at c = search needs
-
-mark-at-requires : tie.Need-mark-at-requires
-mark-at-requires c κs = search needs
-
-mark-at-requires-2 : tie.Need-mark-at-requires-2
-mark-at-requires-2 c κs = search needs
-
-add-mark-round : tie.Need-add-mark-round
-add-mark-round c = search needs
-
-mark-round-requires : tie.Need-mark-round-requires
-mark-round-requires c κs = search needs
+joint-at-requires : tie.Need-joint-at-requires
+joint-at-requires c κs = let p = c .before .pre in (p .0, (p .1 .0, omega (arith, p)))
 
 tangent-between-requires : tie.Need-tangent-between-requires
 tangent-between-requires c κs = search needs
 
+-- the marks beside a cut are all given
 returns : tie.Need-returns
 unfolding tangentAt
-returns c = c .tangent-between .ensures ∙ rw (c .before .mark-round .ensures, c .before .before .mark-at2 .ensures ∙ sym (given Closed _ _ (omega arith)), c .before .before .before .mark-at .ensures ∙ sym (given Closed _ _ (omega arith)))
+returns c =
+    let s = c .before .before .before in
+    c .tangent-between .ensures ∙ ap (λ (j : Joint). outcome (tangentBetween (j .before) (j .at) (j .after))) (c .before .joint-at .ensures ∙ joint-as-closed Open (s .args .marks .now) (s .args .at) (s .pre))
 
 pub tangent-at-spec : {M : Type 1} → statement M
-tangent-at-spec =
-    tie.close
-    (tie.spec
-    sub-mark-at
-    mark-at-requires
-    mark-at-requires-2
-    add-mark-round
-    mark-round-requires
-    tangent-between-requires
-    returns)
+tangent-at-spec = tie.close (tie.spec joint-at-requires tangent-between-requires returns)

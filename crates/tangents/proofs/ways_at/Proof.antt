@@ -1,27 +1,18 @@
 -- `tangents::ways_at` meets its contract. Assumes nothing.
 use borrow.Author.Needs.{needs}
-use native.Mathlib.Omega.{arith}
-use mathlib.Core.Path.{_≡_, ap, _∙_}
-use Rattle.float.specs.Answer.{outcome}
-use Rattle.marks.specs.Answers.{wayAnswer}
-use Rattle.ring.specs.declared.Outline.the-variants.{Open}
 use Rattle.plane.specs.declared.Point.{Point}
 use Rattle.tangents.specs.declared.Ways.{Ways}
-use Rattle.tangents.specs.Ways.{tangentAt, opposite, waysAt, turnAnswer}
+use Rattle.tangents.specs.Joints.{opposite}
+use Rattle.tangents.specs.Ways.{waysAt, turnAnswer}
 use Rattle.tangents.proofs.Cuts.{no-first, no-second, both}
-use Rattle.tangents.proofs.Blocks.{tangent-as-closed}
 use Rattle.tangents.proofs.ways_at.Statement.{statement}
 use Rattle.tangents.proofs.ways_at.Tie as tie
 
 abbrev made : Point → Point → Ways
 made t u = record { end = t; start = u }
 
--- the marks beside a cut are all given
-abbrev met : (c : tie.After-tangent-at) → wayAnswer (c .tangent-at .result) ≡ outcome (tangentAt (c .before .before .args .marks .now) (c .before .before .args .at))
-met c = c .tangent-at .ensures ∙ ap outcome (tangent-as-closed Open (c .before .before .args .marks .now) (c .before .before .args .at) (c .before .before .pre))
-
 tangent-at-requires : tie.Need-tangent-at-requires
-tangent-at-requires c κs = let p = c .before .pre in (p .0, (p .1 .0, omega (arith, p)))
+tangent-at-requires c κs = search needs
 
 enum-known-end : tie.Need-enum-known-end
 enum-known-end c = search needs
@@ -31,7 +22,7 @@ enum-told c = search needs
 
 returns : tie.Need-returns
 unfolding turnAnswer waysAt
-returns c = no-first _ opposite made _ (met (c .before .before)) (c .enum-told .given .1)
+returns c = no-first _ opposite made _ (c .before .before .tangent-at .ensures) (c .enum-told .given .1)
 
 opposite-requires : tie.Need-opposite-requires
 opposite-requires c κs = search needs
@@ -44,11 +35,11 @@ enum-told-2 c = search needs
 
 returns-2 : tie.Need-returns-2
 unfolding turnAnswer waysAt
-returns-2 c = no-second _ opposite made _ (met (c .before .before .before .before .before .before)) _ (c .before .before .before .before .end .given .1) _ (c .before .before .opposite .ensures) (c .enum-told2 .given .1)
+returns-2 c = no-second _ opposite made _ (c .before .before .before .before .before .before .tangent-at .ensures) _ (c .before .before .before .before .end .given .1) _ (c .before .before .opposite .ensures) (c .enum-told2 .given .1)
 
 returns-3 : tie.Need-returns-3
 unfolding turnAnswer waysAt
-returns-3 c = both _ opposite made _ (met (c .before .before .before .before .before .before .before)) _ (c .before .before .before .before .before .end .given .1) _ (c .before .before .before .opposite .ensures) _ (c .before .start .given .1)
+returns-3 c = both _ opposite made _ (c .before .before .before .before .before .before .before .tangent-at .ensures) _ (c .before .before .before .before .before .end .given .1) _ (c .before .before .before .opposite .ensures) _ (c .before .start .given .1)
 
 pub ways-at-spec : {M : Type 1} → statement M
 ways-at-spec =

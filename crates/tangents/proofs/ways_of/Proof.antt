@@ -2,7 +2,7 @@
 use borrow.Author.Needs.{needs}
 use Rattle.plane.specs.declared.Point.{Point}
 use Rattle.tangents.specs.declared.Ways.{Ways}
-use Rattle.tangents.specs.Ways.{marksOf, endOf, waysOf, turnAnswer}
+use Rattle.tangents.specs.Ways.{marksOf, startOf, endOf, waysOf, turnAnswer}
 use Rattle.tangents.proofs.Cuts.{no-first, no-second, both}
 use Rattle.tangents.proofs.ways_of.Statement.{statement}
 use Rattle.tangents.proofs.ways_of.Tie as tie
@@ -21,7 +21,7 @@ enum-told c = search needs
 
 returns : tie.Need-returns
 unfolding turnAnswer waysOf
-returns c = let a = c .before .before .before .before .args in no-first _ (λ s. endOf (a .cutting) (marksOf (a .cutting) (a .marks .now)) (a .n) (a .to)) made _ (c .before .before .start-of .ensures) (c .enum-told .given .1)
+returns c = let a = c .before .before .before .before .args in no-first (startOf (a .cutting) (marksOf (a .cutting) (a .marks .now)) (a .n) (a .from)) (λ s. endOf (a .cutting) (marksOf (a .cutting) (a .marks .now)) (a .n) (a .to)) made _ (c .before .before .start-of .ensures) (c .enum-told .given .1)
 
 end-of-requires : tie.Need-end-of-requires
 end-of-requires c κs = search needs
@@ -36,13 +36,13 @@ returns-2 : tie.Need-returns-2
 unfolding turnAnswer waysOf
 returns-2 c =
     let a = c .before .before .before .before .before .before .before .before .args in
-    no-second _ (λ s. endOf (a .cutting) (marksOf (a .cutting) (a .marks .now)) (a .n) (a .to)) made _ (c .before .before .before .before .before .before .start-of .ensures) _ (c .before .before .before .before .start .given .1) _ (c .before .before .end-of .ensures) (c .enum-told2 .given .1)
+    no-second (startOf (a .cutting) (marksOf (a .cutting) (a .marks .now)) (a .n) (a .from)) (λ s. endOf (a .cutting) (marksOf (a .cutting) (a .marks .now)) (a .n) (a .to)) made _ (c .before .before .before .before .before .before .start-of .ensures) _ (c .before .before .before .before .start .given .1) _ (c .before .before .end-of .ensures) (c .enum-told2 .given .1)
 
 returns-3 : tie.Need-returns-3
 unfolding turnAnswer waysOf
 returns-3 c =
     let a = c .before .before .before .before .before .before .before .before .before .args in
-    both _ (λ s. endOf (a .cutting) (marksOf (a .cutting) (a .marks .now)) (a .n) (a .to)) made _ (c .before .before .before .before .before .before .before .start-of .ensures) _ (c .before .before .before .before .before .start .given .1) _ (c .before .before .before .end-of .ensures) _ (c .before .end .given .1)
+    both (startOf (a .cutting) (marksOf (a .cutting) (a .marks .now)) (a .n) (a .from)) (λ s. endOf (a .cutting) (marksOf (a .cutting) (a .marks .now)) (a .n) (a .to)) made _ (c .before .before .before .before .before .before .before .start-of .ensures) _ (c .before .before .before .before .before .start .given .1) _ (c .before .before .before .end-of .ensures) _ (c .before .end .given .1)
 
 pub ways-of-spec : {M : Type 1} → statement M
 ways-of-spec =

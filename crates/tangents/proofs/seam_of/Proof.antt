@@ -1,4 +1,4 @@
--- `tangents::seam_at` meets its contract. Assumes nothing.
+-- `tangents::seam_of` meets its contract. Assumes nothing.
 use borrow.Author.Needs.{needs}
 use native.Mathlib.Omega.{arith}
 use Prim.Native.Nat.{_+_, _-_}
@@ -6,9 +6,8 @@ use mathlib.Core.Path.{_≡_, sym, _∙_}
 use Rattle.marks.specs.Marks.{count}
 use Rattle.ring.specs.declared.Outline.the-variants.{Closed}
 use Rattle.ring.proofs.Whole.{given}
-use Rattle.tangents.specs.Ways.{seamAt}
-use Rattle.tangents.proofs.seam_at.Statement.{statement}
-use Rattle.tangents.proofs.seam_at.Tie as tie
+use Rattle.tangents.proofs.seam_of.Statement.{statement}
+use Rattle.tangents.proofs.seam_of.Tie as tie
 
 sub-last : tie.Need-sub-last
 sub-last c = search needs
@@ -22,23 +21,18 @@ mark-at-requires-2 c κs = search needs
 mark-round-requires : tie.Need-mark-round-requires
 mark-round-requires c κs = search needs
 
-tangent-between-requires : tie.Need-tangent-between-requires
-tangent-between-requires c κs = search needs
-
 returns : tie.Need-returns
-unfolding seamAt
 returns c =
-    let ms = c .before .before .before .before .before .args .marks .now in
+    let ms = c .before .before .before .before .args .marks .now in
     let last : 1 + count ms - 2 ≡ count ms - 1 = omega arith in
-    c .tangent-between .ensures ∙ rw (last, c .before .mark-round .ensures, c .before .before .mark-at2 .ensures ∙ sym (given Closed ms 0 (omega arith)), c .before .before .before .mark-at .ensures ∙ sym (given Closed ms (count ms - 1) (omega arith)))
+    rw (last, c .mark-round .ensures, c .before .mark-at2 .ensures ∙ sym (given Closed ms 0 (omega arith)), c .before .before .mark-at .ensures ∙ sym (given Closed ms (count ms - 1) (omega arith)))
 
-pub seam-at-spec : {M : Type 1} → statement M
-seam-at-spec =
+pub seam-of-spec : {M : Type 1} → statement M
+seam-of-spec =
     tie.close
     (tie.spec
     sub-last
     mark-at-requires
     mark-at-requires-2
     mark-round-requires
-    tangent-between-requires
     returns)
