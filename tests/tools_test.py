@@ -397,23 +397,6 @@ class Other(Case):
         self.assertEqual(len(met), 2)
         self.assertLess(max(met), 1e-9)
 
-    def test_fold_where_blocks_meet(self):
-        """The dart's tip is mark 200, where two blocks meet and the outline folds back. Both curves leave it along the dart, and the drawing is of them; the one of before is of curves
-        without a direction there."""
-        listing = self.program('listing', read('examples/dart.house')).decode('ascii')
-        draw = ('tools/draw_joint.py', in_copy('examples/dart.house'), '200', '44')
-        self.assertEqual(self.call(*draw, given=listing.encode('ascii')), (0, read('docs/fold-after.svg').decode('utf-8'), ''))
-        marks = numbers(house.parse(read('examples/dart.house')).marks)
-        self.assertEqual(marks[398:400], marks[402:404])
-        curves = {int(piece[1]): numbers([pattern_of(text) for text in piece[2:]]) for piece in (line.split() for line in listing.split('\n')[1:-1])}
-        before = curves[max(first for first in curves if first < 200)]
-        for control in (before[4:6], curves[200][2:4]):
-            self.assertLess(kink([0.0] * 4 + marks[400:402] + marks[398:400], [*marks[400:402], *control]), 1e-9)
-        self.assertIn('no direction', read('docs/fold-before.svg').decode('utf-8'))
-        self.says(2, 'usage: tools/draw_joint.py', *draw[:3])
-        self.says(2, 'standard input is no listing of this file', *draw, given=listing.encode('ascii')[:-1])
-        self.says(2, 'no two curves meet at mark 199', *draw[:2], '199', '44', given=listing.encode('ascii'))
-
     def test_run_program(self):
         self.says(2, 'usage: tools/run_program', 'tools/run_program')
         self.says(2, 'there is no target/bin/nothing yet', 'tools/run_program', 'nothing')

@@ -4,7 +4,7 @@ use mathlib.Core.Bool.{Bool, true, false, _&&_, cond}
 use lib.Ieee.{Float, binary64, eq, mul, div, ofBits}
 use Rattle.float.specs.Number.{finite, f0, f1}
 use Rattle.float.specs.Calc.{Calc, give, _>>=_, _/!_}
-use Rattle.float.proofs.Truth.{and-left, and-right, and-true, and-false, both, same}
+use Rattle.float.proofs.Truth.{and-left, and-right, and-true, and-false, both, same, picked}
 use Rattle.float.proofs.Strict.{Fin, add-finite, sub-finite, mul-finite}
 use Rattle.float.proofs.Signs.{negative, square-sign, add-sign}
 use Rattle.float.proofs.Answers.{Fine}
@@ -124,6 +124,16 @@ or-zero-by p m = go (eq m f0)
     go : (b : Bool) → orZero (cond b Nowhere (Toward (cond {A = Calc Point} b (give (at f0 f0)) some .val))) ≡ cond {A = Calc Point} b (give (at f0 f0)) some .val
     go true = refl
     go false = refl
+
+-- by the test of the magnitude
+module _ (p : Point) (m : Float) where
+  pub no-direction : eq m f0 ≡ true → Nowhere ≡ directionBy p m .val
+  unfolding directionBy
+  no-direction h = picked Nowhere (Toward (unitBy p m .val)) h
+
+  pub its-direction : (u : Point) → eq m f0 ≡ false → u ≡ times p (div binary64 f1 m) .val → Toward u ≡ directionBy p m .val
+  unfolding directionBy unitBy
+  its-direction u h e = rw h (ap Toward e)
 
 pub or-zero : (p : Point) → orZero (directionOf p .val) ≡ unitOf p .val
 unfolding directionOf unitOf
