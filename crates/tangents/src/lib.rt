@@ -190,7 +190,7 @@ fn left_end(joint: Joint) -> Way
     Way::Toward(end)
 }
 
-// The tangent with which the right block starts there: the left one's turned about, or by the chord to its own neighbour, which points into the block already.
+// The tangent with which the right block starts there: that direction turned about. The chord to its own neighbour points into the block already, and is not turned.
 fn right_start(joint: Joint) -> Way
     ensures { λ r. ⌜ wayAnswer r ≡ outcome (rightStart joint) ⌝ }
 {
