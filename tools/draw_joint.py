@@ -6,7 +6,9 @@
 The listing is what `./wesalondo fit --listing` prints for the file. The drawing, an SVG on standard output, shows so many marks before and after the one that is named.
 Exit status: 0 drawn; 2 misuse, or a listing that is none of this file's.
 """
+import math
 import os
+import re
 import sys
 
 sys.dont_write_bytecode = True
@@ -19,16 +21,33 @@ from shared.house import parse
 from shared.words import number, numbers, pattern_of
 
 WIDE, HIGH, EDGE, FOOT = 440, 300, 20, 24  # of the drawing, in its own units; the foot has the words
+MOST_BYTES = 1 << 20                       # of a file and of a listing: more than any of 4,096 marks has
+LEAST = 1e-6                               # mm, that a box is wide and high at least
 
 
-def listed(lines, marks):
-    """The curves of a listing of these marks: first mark and four points of each."""
-    curves = []
-    if lines and lines[0].split() == ['OUTLINE', str(len(marks)), str(len(lines) - 1)]:
-        for words in (line.split() for line in lines[1:]):
-            eight = [number(pattern_of(word)) for word in words[2:]]
-            curves.append((int(words[1]), list(zip(eight[::2], eight[1::2]))))
-    if not curves or any(marks[first] != points[0] for first, points in curves):
+def marks_of(path):
+    with open(path, 'rb') as file:
+        held = parse(file.read(MOST_BYTES))
+    if held is None:
+        raise Stop(f'{path} is no house file')
+    values = numbers(held.marks)
+    return list(zip(values[::2], values[1::2]))
+
+
+def curve_of(line):
+    """First mark and four points of a line of a listing, or None."""
+    found = re.fullmatch('PIECE ([0-9]{1,5})((?: [0-9A-F]{16}){8})', line)
+    if not found:
+        return None
+    eight = [number(pattern_of(word)) for word in found[2].split()]
+    return (int(found[1]), list(zip(eight[::2], eight[1::2]))) if all(map(math.isfinite, eight)) else None
+
+
+def listed(text, marks):
+    """The curves of a listing of these marks: each begins on its first one."""
+    head, *lines = text.split('\n')[:-1] or ['']
+    curves = [curve_of(line) for line in lines]
+    if head != f'OUTLINE {len(marks)} {len(lines)}' or not all(curve and marks[curve[0]:curve[0] + 1] == curve[1][:1] for curve in curves):
         raise Stop('standard input is no listing of this file')
     return curves
 
@@ -37,8 +56,8 @@ class View:
     """A box on paper; x runs right and y up."""
 
     def __init__(self, box):
-        self.left, _, _, self.high = box
-        self.scale = min((WIDE - 2 * EDGE) / (box[2] - box[0]), (HIGH - 2 * EDGE) / (box[3] - box[1]))
+        self.left, low, right, self.high = box
+        self.scale = min((WIDE - 2 * EDGE) / max(right - self.left, LEAST), (HIGH - 2 * EDGE) / max(self.high - low, LEAST))
 
     def at(self, point):
         return EDGE + (point[0] - self.left) * self.scale, EDGE + (self.high - point[1]) * self.scale
@@ -69,8 +88,8 @@ def meeting(curves, mark):
 
 
 def drawing(marks, curves, mark, reach):
-    view, here = View(box_of(marks[max(mark - reach, 0):mark + reach + 1])), marks[mark]
     left, right = meeting(curves, mark)
+    view, here = View(box_of(marks[max(mark - reach, 0):mark + reach + 1])), marks[mark]
     joints = [points[0] for _, points in curves if view.shows(points[0])]
     inside = [k for k, (_, points) in enumerate(curves) if view.shows(points[0]) and view.shows(points[3])]
     bare = [left[2], right[1]].count(here)
@@ -85,13 +104,11 @@ def drawing(marks, curves, mark, reach):
 
 
 def main(words):
-    if len(words) != 3 or not all(word.isdigit() for word in words[1:]):
+    if len(words) != 3 or not all(re.fullmatch('[0-9]{1,5}', word) for word in words[1:]):
         raise Stop('usage: tools/draw_joint.py FILE.house MARK REACH < LISTING')
-    with open(words[0], 'rb') as file:
-        values = numbers(parse(file.read()).marks)
-    marks = list(zip(values[::2], values[1::2]))
-    curves = listed(sys.stdin.read().split('\n')[:-1], marks)
-    sys.stdout.write(drawing(marks, curves, int(words[1]), int(words[2])))
+    marks = marks_of(words[0])
+    text_given = sys.stdin.buffer.read(MOST_BYTES).decode('ascii', errors='replace')
+    sys.stdout.write(drawing(marks, listed(text_given, marks), int(words[1]), int(words[2])))
     return 0
 
 

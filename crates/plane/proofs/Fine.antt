@@ -8,7 +8,6 @@ use Rattle.float.proofs.Truth.{and-left, and-right, and-true, and-false, both, 
 use Rattle.float.proofs.Strict.{Fin, add-finite, sub-finite, mul-finite}
 use Rattle.float.proofs.Signs.{negative, square-sign, add-sign}
 use Rattle.float.proofs.Answers.{Fine}
-use Rattle.root.specs.Root.{sqrt}
 use Rattle.root.proofs.Laws.{sqrt-strict}
 use Rattle.plane.specs.Plane.{at, plus, minus, times, dotOf, magnitudeOf, distanceOf, unitBy, unitOf, directionBy, directionOf, orZero}
 use Rattle.plane.specs.Range.{pointFinite}

@@ -13,8 +13,6 @@ use Rattle.plane.specs.Range.{pointFinite}
 use Rattle.plane.specs.declared.Point.{Point}
 use Rattle.plane.proofs.Fine.{times-same}
 use Rattle.plane.specs.declared.Direction.{Direction}
-use Rattle.plane.specs.declared.Direction.the-variants.{Toward, Nowhere}
-use Rattle.marks.specs.Tangent.{along}
 use Rattle.marks.specs.Answers.{bearingAnswer, wayAnswer}
 use Rattle.marks.specs.declared.tangent.Bearing.{Bearing}
 use Rattle.marks.specs.declared.tangent.Bearing.the-variants as bearing
@@ -22,7 +20,7 @@ use Rattle.marks.specs.declared.tangent.Way.{Way}
 use Rattle.marks.specs.declared.tangent.Way.the-variants as way
 use Rattle.tangents.specs.declared.Ways.{Ways}
 use Rattle.tangents.specs.declared.Joint.{Joint}
-use Rattle.tangents.specs.Joints.{opposite, through, endBy, startBy, leftEnd, rightStart}
+use Rattle.tangents.specs.Joints.{opposite, through}
 
 minus-one : Fin (neg f1)
 unfolding finite neg ofBits
@@ -64,33 +62,13 @@ module _ (m : Calc Point) (f : Point → Calc Point) (g : Point → Point → Wa
     unfolding wayAnswer
     both u i = sym (outcome-ok (give (g t u)) refl) ∙ goes-on (f t) (λ u. give (g t u)) k u (ap wayAnswer i) ∙ goes-on m second h t (ap wayAnswer e)
 
--- ---- where two blocks meet, by what the call about the direction there answered: refused, none, or a direction
-module _ (j : Joint) (r : Bearing) (h : bearingAnswer r ≡ outcome (through j)) where
-  pub end-lost : r ≡ bearing.Lost → refused 6 ≡ outcome (leftEnd j)
-  unfolding bearingAnswer leftEnd
-  end-lost e = lost (through j) (endBy j) h (ap bearingAnswer e)
+-- ---- where two blocks meet: what goes on with the direction there, by what the call about it answered
+module _ (j : Joint) (f : Direction → Calc Point) (r : Bearing) (h : bearingAnswer r ≡ outcome (through j)) where
+  pub no-bearing : r ≡ bearing.Lost → refused 6 ≡ outcome (_>>=_ (through j) f)
+  unfolding bearingAnswer
+  no-bearing e = lost (through j) f h (ap bearingAnswer e)
 
-  pub start-lost : r ≡ bearing.Lost → refused 6 ≡ outcome (rightStart j)
-  unfolding bearingAnswer rightStart
-  start-lost e = lost (through j) (startBy j) h (ap bearingAnswer e)
-
-  module _ (d : Direction) (e : r ≡ bearing.Of d) where
-    met : (f : Direction → Calc Point) (c : Direction) → d ≡ c → outcome (f c) ≡ outcome (_>>=_ (through j) f)
-    unfolding bearingAnswer
-    met f c i = goes-on (through j) f h c (ap bearingAnswer (e ∙ ap bearing.Of i))
-
-    pub end-folded : {w : Answer Point} → d ≡ Nowhere → w ≡ outcome (along (j .at) (j .before)) → w ≡ outcome (leftEnd j)
-    unfolding leftEnd endBy
-    end-folded i k = k ∙ met (endBy j) Nowhere i
-
-    pub start-folded : {w : Answer Point} → d ≡ Nowhere → w ≡ outcome (along (j .at) (j .after)) → w ≡ outcome (rightStart j)
-    unfolding rightStart startBy
-    start-folded i k = k ∙ met (startBy j) Nowhere i
-
-    pub end-toward : (t : Point) → d ≡ Toward t → ok t ≡ outcome (leftEnd j)
-    unfolding leftEnd endBy
-    end-toward t i = sym (outcome-ok (give t) refl) ∙ met (endBy j) (Toward t) i
-
-    pub start-turned : {w : Answer Point} (t : Point) → d ≡ Toward t → w ≡ outcome (opposite t) → w ≡ outcome (rightStart j)
-    unfolding rightStart startBy
-    start-turned t i k = k ∙ met (startBy j) (Toward t) i
+  -- d is the direction that was answered, e is which it is
+  pub by-bearing : {d : Direction} {w : Answer Point} (e : Direction) → r ≡ bearing.Of d → d ≡ e → w ≡ outcome (f e) → w ≡ outcome (_>>=_ (through j) f)
+  unfolding bearingAnswer
+  by-bearing e i k g = g ∙ goes-on (through j) f h e (ap bearingAnswer (i ∙ ap bearing.Of k))

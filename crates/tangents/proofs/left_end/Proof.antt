@@ -1,7 +1,12 @@
 -- `tangents::left_end`: the refusal is taken out first, and then whether there is a direction. Assumes nothing.
 use borrow.Author.Needs.{needs}
+use mathlib.Core.Path.{refl, sym}
+use Rattle.float.specs.Calc.{give}
+use Rattle.float.proofs.Answers.{outcome-ok}
+use Rattle.plane.specs.declared.Direction.the-variants.{Toward, Nowhere}
 use Rattle.marks.specs.Answers.{wayAnswer}
-use Rattle.tangents.proofs.Cuts.{end-lost, end-folded, end-toward}
+use Rattle.tangents.specs.Joints.{endBy, leftEnd}
+use Rattle.tangents.proofs.Cuts.{no-bearing, by-bearing}
 use Rattle.tangents.proofs.left_end.Statement.{statement}
 use Rattle.tangents.proofs.left_end.Tie as tie
 
@@ -15,8 +20,8 @@ enum-told : tie.Need-enum-told
 enum-told c = search needs
 
 returns : tie.Need-returns
-unfolding wayAnswer
-returns c = end-lost _ _ (c .before .before .direction-between .ensures) (c .enum-told .given .1)
+unfolding wayAnswer leftEnd
+returns c = let j = c .before .before .before .args .joint in no-bearing j (endBy j) _ (c .before .before .direction-between .ensures) (c .enum-told .given .1)
 
 enum-known-direction-2 : tie.Need-enum-known-direction-2
 enum-known-direction-2 c = search needs
@@ -28,11 +33,12 @@ along-requires : tie.Need-along-requires
 along-requires c κs = search needs
 
 returns-2 : tie.Need-returns-2
-returns-2 c = end-folded _ _ (c .before .before .before .before .before .before .direction-between .ensures) _ (c .before .before .before .before .direction .given .1) (c .before .enum-told2 .given .1) (c .along .ensures)
+unfolding endBy leftEnd
+returns-2 c = let j = c .before .before .before .before .before .before .before .args .joint in by-bearing j (endBy j) _ (c .before .before .before .before .before .before .direction-between .ensures) Nowhere (c .before .before .before .before .direction .given .1) (c .before .enum-told2 .given .1) (c .along .ensures)
 
 returns-3 : tie.Need-returns-3
-unfolding wayAnswer
-returns-3 c = end-toward _ _ (c .before .before .before .before .before .before .direction-between .ensures) _ (c .before .before .before .before .direction .given .1) _ (c .before .direction2 .given .1)
+unfolding wayAnswer endBy leftEnd
+returns-3 c = let j = c .before .before .before .before .before .before .before .args .joint in by-bearing j (endBy j) _ (c .before .before .before .before .before .before .direction-between .ensures) (Toward _) (c .before .before .before .before .direction .given .1) (c .before .direction2 .given .1) (sym (outcome-ok (give _) refl))
 
 pub left-end-spec : {M : Type 1} → statement M
 left-end-spec =

@@ -1,7 +1,9 @@
 -- `tangents::right_start`: the refusal is taken out first, and then whether there is a direction. Assumes nothing.
 use borrow.Author.Needs.{needs}
+use Rattle.plane.specs.declared.Direction.the-variants.{Toward, Nowhere}
 use Rattle.marks.specs.Answers.{wayAnswer}
-use Rattle.tangents.proofs.Cuts.{start-lost, start-folded, start-turned}
+use Rattle.tangents.specs.Joints.{startBy, rightStart}
+use Rattle.tangents.proofs.Cuts.{no-bearing, by-bearing}
 use Rattle.tangents.proofs.right_start.Statement.{statement}
 use Rattle.tangents.proofs.right_start.Tie as tie
 
@@ -15,8 +17,8 @@ enum-told : tie.Need-enum-told
 enum-told c = search needs
 
 returns : tie.Need-returns
-unfolding wayAnswer
-returns c = start-lost _ _ (c .before .before .direction-between .ensures) (c .enum-told .given .1)
+unfolding wayAnswer rightStart
+returns c = let j = c .before .before .before .args .joint in no-bearing j (startBy j) _ (c .before .before .direction-between .ensures) (c .enum-told .given .1)
 
 enum-known-direction-2 : tie.Need-enum-known-direction-2
 enum-known-direction-2 c = search needs
@@ -28,13 +30,15 @@ along-requires : tie.Need-along-requires
 along-requires c κs = search needs
 
 returns-2 : tie.Need-returns-2
-returns-2 c = start-folded _ _ (c .before .before .before .before .before .before .direction-between .ensures) _ (c .before .before .before .before .direction .given .1) (c .before .enum-told2 .given .1) (c .along .ensures)
+unfolding startBy rightStart
+returns-2 c = let j = c .before .before .before .before .before .before .before .args .joint in by-bearing j (startBy j) _ (c .before .before .before .before .before .before .direction-between .ensures) Nowhere (c .before .before .before .before .direction .given .1) (c .before .enum-told2 .given .1) (c .along .ensures)
 
 opposite-requires : tie.Need-opposite-requires
 opposite-requires c κs = search needs
 
 returns-3 : tie.Need-returns-3
-returns-3 c = start-turned _ _ (c .before .before .before .before .before .before .before .direction-between .ensures) _ (c .before .before .before .before .before .direction .given .1) _ (c .before .before .direction2 .given .1) (c .opposite .ensures)
+unfolding startBy rightStart
+returns-3 c = let j = c .before .before .before .before .before .before .before .before .args .joint in by-bearing j (startBy j) _ (c .before .before .before .before .before .before .before .direction-between .ensures) (Toward _) (c .before .before .before .before .before .direction .given .1) (c .before .before .direction2 .given .1) (c .opposite .ensures)
 
 pub right-start-spec : {M : Type 1} → statement M
 right-start-spec =
