@@ -5,19 +5,19 @@ use mathlib.Core.List.{List}
 use Prim.Native.Nat.{_-_}
 use lib.Ieee.{Float}
 use Rattle.float.specs.Number.{finite}
-use Rattle.float.specs.Calc.{Calc, _>>=_}
+use Rattle.float.specs.Calc.{Calc, give, _>>=_}
 use Rattle.float.specs.Answer.{Answer, ok, refused, unless, outcome}
 use Rattle.float.specs.Answer.{_>>=_ as chain}
 use Rattle.float.proofs.Truth.{and-left, and-right, and-false, and-implied, both, same, is-so}
 use Rattle.float.proofs.Strict.{Fin}
-use Rattle.float.proofs.Answers.{Fine, outcome-ok, outcome-no}
+use Rattle.float.proofs.Answers.{Fine, outcome-ok, outcome-no, outcome-then}
 use Rattle.plane.specs.Plane.{plus, minus, magnitudeOf, unitOf, directionBy, directionOf, orZero}
 use Rattle.plane.specs.Range.{pointFinite}
 use Rattle.plane.specs.declared.Point.{Point}
 use Rattle.plane.specs.declared.Curve.{Curve}
 use Rattle.plane.specs.declared.Direction.{Direction}
 use Rattle.plane.specs.declared.Direction.the-variants.{Toward, Nowhere}
-use Rattle.plane.proofs.Fine.{Good, plus-fine, minus-fine, times-fine, good-point, point-good, or-zero, direction-fine, direction-same, none-finite, unit-good, direction-good}
+use Rattle.plane.proofs.Fine.{Good, plus-fine, minus-fine, times-fine, good-point, point-good, direction-same, none-finite, unit-good, direction-good}
 use Rattle.marks.specs.Marks.{count, markAt}
 use Rattle.marks.specs.Line.{lineOf}
 use Rattle.marks.specs.Tangent.{startTangent, endTangent, between, tangentBetween, directionBetween, along}
@@ -83,16 +83,9 @@ module _ (v : Point) (m : Float) (is : m ≡ magnitudeOf v .val) where
     toward-off u e h = sym (outcome-no (directionOf v) (whole ∙ ap (λ (x : Direction). pointFinite (orZero x)) e ∙ h))
 
 -- ---- tangents: unit vectors, zero where there is no direction
-filled : (b : Bool) (d : Direction) → unless 6 b (ok (orZero d)) ≡ chain (unless 6 b (ok d)) (λ (x : Direction). ok (orZero x))
-filled true d = refl
-filled false d = refl
-
 unit-is : (v : Point) → chain (outcome (directionOf v)) (λ (d : Direction). ok (orZero d)) ≡ outcome (unitOf v)
-unfolding outcome
-unit-is v =
-    sym (filled (directionOf v .fine) (directionOf v .val))
-    ∙ ap (λ (u : Point). unless 6 (directionOf v .fine) (ok u)) (or-zero v)
-    ∙ ap (λ (b : Bool). unless 6 b (ok (unitOf v .val))) (direction-fine v)
+unfolding outcome unitOf
+unit-is v = sym (outcome-then (directionOf v) (λ (d : Direction). give (orZero d)))
 
 pub unit-by : (v : Point) {a : Answer Direction} {w : Answer Point} → w ≡ chain a (λ (d : Direction). ok (orZero d)) → a ≡ outcome (directionOf v) → w ≡ outcome (unitOf v)
 unit-by v h e = h ∙ ap (λ (x : Answer Direction). chain x (λ (d : Direction). ok (orZero d))) e ∙ unit-is v

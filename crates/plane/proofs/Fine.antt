@@ -4,14 +4,15 @@ use mathlib.Core.Bool.{Bool, true, false, _&&_, cond}
 use lib.Ieee.{Float, binary64, eq, mul, div, ofBits}
 use Rattle.float.specs.Number.{finite, f0, f1}
 use Rattle.float.specs.Calc.{Calc, give, _>>=_, _/!_}
-use Rattle.float.proofs.Truth.{and-left, and-right, and-true, and-false, both, same, picked}
+use Rattle.float.proofs.Truth.{and-left, and-right, and-true, and-false, both, same}
 use Rattle.float.proofs.Strict.{Fin, add-finite, sub-finite, mul-finite}
 use Rattle.float.proofs.Signs.{negative, square-sign, add-sign}
 use Rattle.float.proofs.Answers.{Fine}
 use Rattle.root.proofs.Laws.{sqrt-strict}
-use Rattle.plane.specs.Plane.{at, plus, minus, times, dotOf, magnitudeOf, distanceOf, unitBy, unitOf, directionBy, directionOf, orZero}
+use Rattle.plane.specs.Plane.{plus, minus, times, dotOf, magnitudeOf, distanceOf, directionBy, directionOf, orZero, unitOf}
 use Rattle.plane.specs.Range.{pointFinite}
 use Rattle.plane.specs.declared.Point.{Point}
+use Rattle.plane.specs.declared.Direction.{Direction}
 use Rattle.plane.specs.declared.Direction.the-variants.{Toward, Nowhere}
 
 -- both coordinates are finite
@@ -93,73 +94,44 @@ times-ends p k =
 pub times-same : (p : Point) (k : Float) → Fin k → times p k .fine ≡ pointFinite (times p k .val)
 times-same p k h = ap (λ (b : Bool). b && times p k .fine) (sym h) ∙ times-ends p k
 
-origin-finite : pointFinite (at f0 f0) ≡ true
-unfolding pointFinite finite ofBits
-origin-finite = refl
+-- ---- directions: fine exactly where the magnitude and the vector that the answer stands for are finite
+pub none-finite : pointFinite (orZero Nowhere) ≡ true
+unfolding orZero pointFinite finite ofBits
+none-finite = refl
 
-unit-by-same : (p : Point) (m : Float) → unitBy p m .fine ≡ pointFinite (unitBy p m .val)
-unfolding unitBy
-unit-by-same p m = go (eq m f0)
-  where
-    some : Calc Point
-    some = do times p (← f1 /! m)
-
-    go : (b : Bool) → cond {A = Calc Point} b (give (at f0 f0)) some .fine ≡ pointFinite (cond {A = Calc Point} b (give (at f0 f0)) some .val)
-    go true = sym origin-finite
-    go false = times-ends p (div binary64 f1 m)
-
-unit-same : (p : Point) → unitOf p .fine ≡ finite (magnitudeOf p .val) && pointFinite (unitBy p (magnitudeOf p .val) .val)
-unfolding unitOf
-unit-same p = ap (λ (b : Bool). b && unitBy p (magnitudeOf p .val) .fine) (magnitude-same p) ∙ ap (λ (b : Bool). finite (magnitudeOf p .val) && b) (unit-by-same p (magnitudeOf p .val))
-
--- ---- a direction stands for the unit vector, which is zero where there is none, and is worked out by the same operations
-or-zero-by : (p : Point) (m : Float) → orZero (directionBy p m .val) ≡ unitBy p m .val
-unfolding orZero directionBy unitBy
-or-zero-by p m = go (eq m f0)
-  where
-    some : Calc Point
-    some = do times p (← f1 /! m)
-
-    go : (b : Bool) → orZero (cond b Nowhere (Toward (cond {A = Calc Point} b (give (at f0 f0)) some .val))) ≡ cond {A = Calc Point} b (give (at f0 f0)) some .val
-    go true = refl
-    go false = refl
-
--- by the test of the magnitude
 module _ (p : Point) (m : Float) where
+  abbrev some : Calc Direction
+  some = do give (Toward (← times p (← f1 /! m)))
+
+  by-same : directionBy p m .fine ≡ pointFinite (orZero (directionBy p m .val))
+  unfolding directionBy orZero
+  by-same = go (eq m f0)
+    where
+      go : (b : Bool) → cond b (give Nowhere) some .fine ≡ pointFinite (orZero (cond b (give Nowhere) some .val))
+      go true = sym none-finite
+      go false = ap (λ (b : Bool). finite (div binary64 f1 m) && b) (and-true (times p (div binary64 f1 m) .fine)) ∙ times-ends p (div binary64 f1 m)
+
+  -- by the test of the magnitude
   pub no-direction : eq m f0 ≡ true → Nowhere ≡ directionBy p m .val
   unfolding directionBy
-  no-direction h = picked Nowhere (Toward (unitBy p m .val)) h
+  no-direction h = rw h
 
   pub its-direction : (u : Point) → eq m f0 ≡ false → u ≡ times p (div binary64 f1 m) .val → Toward u ≡ directionBy p m .val
-  unfolding directionBy unitBy
+  unfolding directionBy
   its-direction u h e = rw h (ap Toward e)
 
-pub or-zero : (p : Point) → orZero (directionOf p .val) ≡ unitOf p .val
-unfolding directionOf unitOf
-or-zero p = or-zero-by p (magnitudeOf p .val)
-
-by-fine : (p : Point) (m : Float) → directionBy p m .fine ≡ unitBy p m .fine
-unfolding directionBy
-by-fine p m = and-true (unitBy p m .fine)
-
-pub direction-fine : (p : Point) → directionOf p .fine ≡ unitOf p .fine
-unfolding directionOf unitOf
-direction-fine p = ap (λ (b : Bool). magnitudeOf p .fine && b) (by-fine p (magnitudeOf p .val))
-
 pub direction-same : (p : Point) → directionOf p .fine ≡ finite (magnitudeOf p .val) && pointFinite (orZero (directionBy p (magnitudeOf p .val) .val))
-direction-same p = direction-fine p ∙ unit-same p ∙ ap (λ (u : Point). finite (magnitudeOf p .val) && pointFinite u) (sym (or-zero-by p (magnitudeOf p .val)))
+unfolding directionOf
+direction-same p = ap (λ (b : Bool). b && directionBy p (magnitudeOf p .val) .fine) (magnitude-same p) ∙ ap (λ (b : Bool). finite (magnitudeOf p .val) && b) (by-same p (magnitudeOf p .val))
 
-pub none-finite : pointFinite (orZero Nowhere) ≡ true
-unfolding orZero
-none-finite = origin-finite
+-- a vector whose direction or unit vector was worked out with no refusal is finite
+pub direction-good : (p : Point) → Fine (directionOf p) → Good p
+unfolding directionOf
+direction-good p h = magnitude-fine p (sym (magnitude-same p) ∙ and-left (magnitudeOf p .fine) _ h) .1
 
--- a vector whose unit vector or direction was worked out with no refusal is finite
 pub unit-good : (p : Point) → Fine (unitOf p) → Good p
 unfolding unitOf
-unit-good p h = magnitude-fine p (sym (magnitude-same p) ∙ and-left (magnitudeOf p .fine) _ h) .1
-
-pub direction-good : (p : Point) → Fine (directionOf p) → Good p
-direction-good p h = unit-good p (sym (direction-fine p) ∙ h)
+unit-good p h = direction-good p (and-left (directionOf p .fine) _ h)
 
 -- ---- a vector's dot with itself is never negative
 pub dot-sign : (p : Point) → negative (dotOf p p .val) ≡ false

@@ -39,27 +39,20 @@ magnitudeOf p = do sqrt! (← dotOf p p)
 unfoldable pub distanceOf : Point → Point → Calc Float
 distanceOf p target = do magnitudeOf (← minus target p)
 
--- to_unit_vector: a vector of magnitude 0 has the zero vector, any other the product with 1 / magnitude
-unfoldable pub unitBy : Point → Float → Calc Point
-unitBy p magnitude = cond (eq magnitude f0) (give (at f0 f0)) (do times p (← f1 /! magnitude))
-
-unfoldable pub unitOf : Point → Calc Point
-unitOf p = do
-  magnitude ← magnitudeOf p
-  unitBy p magnitude
-
--- what is answered: the direction, or that a vector of magnitude 0 has none
+-- to_unit_vector: a vector of magnitude 0 has no direction, any other that of its product with 1 / magnitude
 unfoldable pub directionBy : Point → Float → Calc Direction
-directionBy p magnitude = do
-  u ← unitBy p magnitude
-  give (cond (eq magnitude f0) Nowhere (Toward u))
+directionBy p magnitude = cond (eq magnitude f0) (give Nowhere) (do give (Toward (← times p (← f1 /! magnitude))))
 
 unfoldable pub directionOf : Point → Calc Direction
 directionOf p = do
   magnitude ← magnitudeOf p
   directionBy p magnitude
 
--- the vector that each answer stands for in the Rust
+-- the vector that each answer stands for: where there is no direction it is zero
 unfoldable pub orZero : Direction → Point
 orZero (Toward u) = u
 orZero Nowhere = at f0 f0
+
+-- the unit vector as the Rust has it
+unfoldable pub unitOf : Point → Calc Point
+unitOf p = do give (orZero (← directionOf p))

@@ -4,7 +4,7 @@ use lib.Ieee.{ofBits, add, sub, mul, div, lt, le, eq, neg, round, size, fits}
 use Rattle.float.specs.Number.{finite, abs}
 use Rattle.float.specs.Answer.{outcome}
 use Rattle.root.specs.Root.{sqrt, rootIn, root, twiceRoot}
-use Rattle.plane.specs.Plane.{plus, minus, times, dotOf, magnitudeOf, unitBy, unitOf, directionBy, directionOf}
+use Rattle.plane.specs.Plane.{plus, minus, times, dotOf, magnitudeOf, directionBy, directionOf, orZero, unitOf}
 use Rattle.plane.specs.Range.{coordinate}
 use Rattle.marks.specs.Block.{sizeFrom, blockSize}
 use Rattle.marks.specs.Marks.{markAt}
@@ -22,5 +22,5 @@ use Rattle.fit.specs.Fit.{fitOf}
 use Rattle.worked.specs.Table.{Table}
 
 pub table : Table
-unfolding ofBits add sub mul div lt le eq neg round size fits finite abs outcome sqrt twiceRoot root rootIn plus minus times dotOf magnitudeOf unitBy unitOf directionBy directionOf coordinate blockSize sizeFrom markAt lineOf startTangent endTangent between directionBetween along pointAt basis casteljau2 subdivide4Of partOf run runOf inRange tolerable gateFor endBy startBy leftEnd rightStart over startAt endAt waysOf blocks blocksFrom blocksOf fitOf
+unfolding ofBits add sub mul div lt le eq neg round size fits finite abs outcome sqrt twiceRoot root rootIn plus minus times dotOf magnitudeOf directionBy directionOf orZero unitOf coordinate blockSize sizeFrom markAt lineOf startTangent endTangent between directionBetween along pointAt basis casteljau2 subdivide4Of partOf run runOf inRange tolerable gateFor endBy startBy leftEnd rightStart over startAt endAt waysOf blocks blocksFrom blocksOf fitOf
 table = record { block199 = refl; block200 = refl; block201 = refl; block249 = refl; block250 = refl; block400 = refl; middle = refl; left = refl; fine = refl; line = refl; root0 = refl; rootQuarter = refl; root4 = refl; rootLeast = refl; unit = refl; foldEnd = refl; foldStart = refl; nearEnd = refl; nearStart = refl }
