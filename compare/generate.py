@@ -12,8 +12,10 @@ sys.dont_write_bytecode = True
 sys.path.insert(0, os.path.join(os.path.dirname(os.path.dirname(os.path.realpath(__file__))), 'tools'))
 
 from shared.basis import point_at
+from shared.checker import kept_for
 from shared.command import Stop, run
 from shared.meetings import ABOUTS
+from shared.ties import CURVE, PARAMS, TIES
 from shared.words import word_of
 
 BIG, NAN, INF, LEAST = 1e6, math.nan, math.inf, 5e-324
@@ -248,6 +250,12 @@ def checked(ring, tolerance, marks, firsts, curves_, at):
     return line('check_ring' if ring else 'check', tolerance, len(marks) // 2, marks, len(curves_), *words, at)
 
 
+def checked_record(ring, tolerance, marks, firsts, curves_, at, worsts, fars):
+    """A list in the record of nine: beside the first mark the worst one, and behind the eight numbers its distance."""
+    words = [w for parts in zip(firsts, worsts, curves_, fars) for w in parts]
+    return line('check_worst_ring' if ring else 'check_worst', tolerance, len(marks) // 2, marks, len(curves_), *words, at)
+
+
 def damaged(ring, count):
     """A sound list, and the same with one thing changed."""
     marks, firsts, curves_, at = drawn(count, ring)
@@ -281,6 +289,66 @@ def damaged(ring, count):
     yield check(1e-9, marks, list(range(n - 1)), [curves_[0]] * (n - 1), at)
 
 
+def replaced(values, k, value):
+    return values[:k] + [value] + values[k + 1:]
+
+
+def off_the_curves(ring, marks, firsts, by):
+    """The same marks, those inside a curve each a little off it; first marks stay where the curves begin."""
+    last = len(marks) // 2 - 1 + ring  # where the last curve ends
+    inner = [i for i in range(last) if i not in firsts]
+    moved = list(marks)
+    for place in (place for i in inner for place in (2 * i, 2 * i + 1)):
+        moved[place] += hand.uniform(-by, by)
+    return moved
+
+
+def damaged_records(ring, count):
+    """A sound list in the record of nine whose marks are off their curves, and the same with one thing changed in what it keeps; then with two, of which the checker
+    names the first."""
+    drawn_marks, firsts, curves_, at = drawn(count, ring)
+    by = hand.choice([0.0, 1e-9, 0.25, 30.0])
+    marks = off_the_curves(ring, drawn_marks, firsts, by)
+    worsts, fars = kept_for(marks, curves_, firsts, at, ring)
+    n, k, wide = len(at), hand.randrange(count), 2 * by
+    far, worst = fars[k], worsts[k]
+    after = firsts[k + 1] if k + 1 < count else n
+
+    def check(tolerance=wide, marks=marks, firsts=firsts, curves_=curves_, at=at, worsts=worsts, fars=fars):
+        return checked_record(ring, tolerance, marks, firsts, curves_, at, worsts, fars)
+    yield check()
+    yield check(tolerance=max(fars))
+    for v in (above(far), math.nextafter(far, -INF), far * far, -far, far + 1.0, NAN, INF, -INF, LEAST):
+        yield check(fars=replaced(fars, k, v))
+    for v in (worst + 1, max(worst - 1, 0), firsts[k], after - 1, after, n - 1, n, 4294967295):
+        yield check(worsts=replaced(worsts, k, v))
+    wrong = replaced(fars, k, NAN)
+    yield check(fars=wrong, worsts=replaced(worsts, k, n))
+    yield check(fars=wrong, tolerance=math.nextafter(max(fars), -INF))            # D of this curve, or of one behind it
+    yield check(fars=wrong, at=replaced(at, after - 1, above(1.0)))               # C at the curve's last mark
+    yield check(fars=wrong, at=replaced(at, n - 1, 0.5))                          # C at the last mark of all
+    yield check(fars=wrong, curves_=replaced(curves_, count - 1, [NAN] * 8))      # B of the last curve
+    yield check(fars=wrong, curves_=replaced(curves_, k, curves_[k][:2] + [INF] + curves_[k][3:]))
+    yield check(fars=wrong, firsts=replaced(firsts, count - 1, n))                # A
+    yield check(fars=wrong, tolerance=-1.0)
+    yield check(worsts=list(reversed(worsts)), fars=list(reversed(fars)))
+    yield check(curves_=[], firsts=[], worsts=[], fars=[])
+    yield check(fars=[0.0] * count, worsts=firsts)
+
+
+def tied_records():
+    """Marks of which several are equally far off: every one is claimed to be the worst."""
+    back = [4.0, 0.0, 3.0, 1.0, 1.0, 1.0, 0.0, 0.0]
+    for marks, _ in TIES:
+        for ring in (False, True):
+            curves_, firsts, at = ([CURVE, back], [0, 4], PARAMS[:4] + [0.0, 1.0]) if ring else ([CURVE], [0], PARAMS)
+            worsts, fars = kept_for(marks, curves_, firsts, at, ring)
+            for claimed in range(len(at)):
+                yield checked_record(ring, 0.5, marks, firsts, curves_, at, [claimed] + worsts[1:], fars)
+            yield checked_record(ring, 0.5, marks, firsts, curves_, at, worsts, [above(fars[0])] + fars[1:])
+            yield checked_record(ring, 0.25, marks, firsts, curves_, at, worsts, fars)
+
+
 def measures():
     """Distances of points from curves at some parameter, near and far; and how many blocks there are."""
     for _ in range(200):
@@ -301,9 +369,13 @@ def lists():
         for count in (1, 2, 3, 8, 20):
             for _ in range(6):
                 yield from damaged(ring, count)
+                yield from damaged_records(ring, count)
         yield checked(ring, 0.5, [], [], [], [0.0] if ring else [])
+        yield checked_record(ring, 0.5, [], [], [], [0.0] if ring else [], [], [])
         for n in (1, 2, 3, 4095, 4096, 4097):
             yield checked(ring, 0.5, [0.0] * (2 * n), [0], [[0.0] * 8], [0.0] * (n - 1 + ring) + [1.0])
+            yield checked_record(ring, 0.5, [0.0] * (2 * n), [0], [[0.0] * 8], [0.0] * (n - 1 + ring) + [1.0], [n % 2], [0.0])
+    yield from tied_records()
 
 
 def nonsense():
@@ -327,8 +399,17 @@ def nonsense():
     yield 'size'
     yield 'size 0200'
     yield 'distance ' + ' '.join(['0000000000000000'] * 10)
-    for kind in ('check', 'check_ring'):  # as many parameters as the other one has
-        yield checked(kind == 'check_ring', 0.5, [0.0] * 6, [0], [[0.0] * 8], [0.0] * 3 + [1.0] * (kind == 'check'))
+    for ring in (False, True):
+        other = [0.0] * 3 + [1.0] * (not ring)  # as many parameters as the other one has
+        yield checked(ring, 0.5, [0.0] * 6, [0], [[0.0] * 8], other)
+        yield checked_record(ring, 0.5, [0.0] * 6, [0], [[0.0] * 8], other, [0], [0.0])
+        # the record of the other one
+        sound = [0.0] * 6, [0], [[0.0] * 8], [0.0] * (2 + ring) + [1.0]
+        yield checked(ring, 0.5, *sound).replace('check', 'check_worst')
+        yield checked_record(ring, 0.5, *sound, [0], [0.0]).replace('check_worst', 'check')
+        yield checked_record(ring, 0.5, *sound, [4294967296], [0.0])
+    yield 'check_worst'
+    yield 'check_worsts 3FF0000000000000 0 0'
 
 
 def main(words):

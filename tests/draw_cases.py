@@ -8,7 +8,7 @@ import xml.etree.ElementTree
 import support
 from bench.curves import at, cover, extent, seam_angle
 from bench.draw import draw
-from bench.svg import RED, WIDE
+from bench.svg import COLOURS, RED, WIDE
 from bench.tiles import CROSS, JOIN, LEAST, MARGIN, MOST, OVERLAP, Tiles, cross_places, paper_of, tiles
 from shared.command import Stop
 
@@ -30,7 +30,7 @@ def chords(marks, ring=False):
 def listed(marks, curves=None, **rest):
     """A list of curves as the drawings take it; straight ones if none are given."""
     ring = rest.get('ring', False)
-    fields = dict(name='x.house', ring=ring, tolerance=0.5, marks=marks, firsts=None, params=None, blocks=None, block_size=None, far=(0.25, 1, 0), verdict=None)
+    fields = dict(name='x.house', ring=ring, tolerance=0.5, marks=marks, firsts=None, params=None, blocks=None, block_size=None, far=(0.25, 1, 0), long=[], verdict=None)
     return types.SimpleNamespace(**{**fields, **rest}, curves=chords(marks, ring) if curves is None else curves)
 
 
@@ -144,6 +144,37 @@ class Sheets(unittest.TestCase):
         none = self.drawn(marks, far=None)
         self.assertIn('No largest distance', all_words(none))
         self.assertEqual((all_words(none, RED), [circle for circle in none.iter(f'{SVG}circle') if circle.get('stroke') == RED]), ('', []))
+
+    def test_worst_of_long_curves(self):
+        """A small ring in the curve's colour about the worst mark of each long curve but the farthest of all, its distance beside it, and the sign and a note said once."""
+        marks = wheel(40, 300)
+        drawn = self.drawn(marks, far=(0.4, 30, 2), long=[(0, 0.25, 4), (1, 0.125, 17), (2, 0.4, 30)])
+        places = [place for place, _ in crosses_of(drawn)]
+        for colour, mark, words in ((COLOURS[0], 4, '0.250 mm'), (COLOURS[1], 17, '0.125 mm')):
+            circles = [(float(circle.get('cx')), float(circle.get('cy'))) for circle in drawn.iter(f'{SVG}circle') if circle.get('stroke') == colour]
+            self.assertIn(places[mark], circles)
+            self.assertEqual(len(circles), 2 if colour == COLOURS[0] else 1)  # the other is the sign in the band
+            self.assertEqual([found for found, _ in label_boxes(drawn)].count(words), 1)
+            self.assertIn(words, all_words(drawn, colour))
+        self.assertNotIn('0.400 mm', all_words(drawn, COLOURS[0]))
+        self.assertIn('Small rings: the worst mark of each curve with 5 marks or more under it', all_words(drawn))
+        self.assertIn('worst of a curve', all_words(drawn))
+        for words in ('Small rings', 'worst of a curve'):
+            self.assertNotIn(words, all_words(self.drawn(marks)))
+
+    def test_many_long_curves(self):
+        """All have their ring; distances stand only where there is room, on no other words and close to their marks."""
+        marks = wheel(2000, 300)
+        drawn = self.drawn(marks, far=None, tolerance=9.0, long=[(k, 1 + k / 1000, 5 * k) for k in range(400)])
+        circles = [circle for circle in drawn.iter(f'{SVG}circle') if circle.get('stroke') in COLOURS]
+        places = [place for place, _ in crosses_of(drawn)]
+        labels = [(round(1000 * float(words[:-3])) - 1000, box) for words, box in label_boxes(drawn) if words.endswith(' mm')]
+        self.assertEqual(len(circles), 400 + 1)  # and the sign in the band
+        self.assertTrue(10 < len(labels) < 400, len(labels))
+        for place, (k, (left, top, right, low)) in enumerate(labels):
+            self.assertFalse(any(other[0] < right and left < other[2] and other[1] < low and top < other[3] for _, other in labels[place + 1:]))
+            x, y = places[5 * k]
+            self.assertLess(math.hypot(max(left - x, 0, x - right), max(top - y, 0, y - low)), 3 * (low - top))
 
     def test_verdict(self):
         """It stands in the notes, and in red above all else where a list is not passed; however long, on the page."""

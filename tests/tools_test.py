@@ -22,8 +22,9 @@ from support import ROOT, SIDES, TRIANGLE, in_copy, read, write
 
 from shared import house
 from shared.blocks import size_of
-from shared.checker import FAULT_A, FAULT_B, FAULT_C, FAULT_D, PASSED, REFUSED, check
+from shared.checker import FAULT_A, FAULT_B, FAULT_C, FAULT_D, FAULT_E, PASSED, REFUSED, check, kept_for
 from shared.table import fit_refusal
+from shared.ties import CURVE, PARAMS, TIES
 from shared.words import NAN, numbers, pattern_of, patterns_of, word_of, words
 
 CARGO = '''#!/bin/sh
@@ -118,7 +119,7 @@ class Compare(Case):
         for kind in ('joined', 'ring'):
             long_fit = ' '.join([kind, word_of(0.5)] + [mark] * 4201)
             self.compare(2, 'line 2 has more than the 4,200 marks', flo, write('long.txt', f'{LINES[0]}\n{long_fit}\n'))
-        for kind in ('check', 'check_ring'):
+        for kind in ('check', 'check_ring', 'check_worst', 'check_worst_ring'):
             self.compare(2, 'line 1 has more than the 4,200 marks', flo, write('long.txt', f'{kind} {word_of(0.5)} 4201 {mark}\n'))
 
     def test_last_line_without_newline(self):
@@ -157,6 +158,11 @@ class Compare(Case):
         sizes = {len(line[2:]) / 2 for line in lines if line[0] == 'ring'}
         self.assertLessEqual({0, 0.5, 1, 2, 3, 4, 199, 200, 201, 4095, 4096, 4097}, sizes)
         self.assertGreater(sum(line[0] == 'check_ring' for line in lines), 1000)
+        for kind in ('check_worst', 'check_worst_ring'):
+            said = self.answers([' '.join(line) for line in lines if line[0] == kind])
+            faults = {answer[:7] for answer in said if answer.startswith('FAULT')}
+            self.assertEqual(faults, {f'FAULT {letter}' for letter in 'ABCDE'})
+            self.assertGreater(min(said.count('0'), sum(answer.startswith('FAULT E') for answer in said)), 60)
 
     def test_rings(self):
         """The table has its own numbers for rings, and the port's answer must be the table's."""
@@ -177,10 +183,12 @@ class Compare(Case):
         compare = importlib.util.module_from_spec(importlib.util.spec_from_loader('compare_run', loader))
         loader.exec_module(compare)
         marks, times = words(patterns_of(*TRIANGLE)), words(patterns_of(0, 0, 0, 1))
-        curve = '0 ' + words(patterns_of(*range(8)))
+        eight = words(patterns_of(*range(8)))
+        plain, record = f'0 {eight} 1 {eight}', f'0 0 {eight} {word_of(8.0)} 1 2 {eight} {word_of(9.0)}'
         cases = [f'{kind} {word_of(0.5)} {marks}' for kind in ('ring', 'joined', 'loop')]
-        made = list(compare.feedback(cases, [f'0 1 {curve} {times}\tdepth 3'] * 3))
-        self.assertEqual(made, [f'{kind} {word_of(0.5)} 3 {marks} 1 {curve} {times}' for kind in ('check_ring', 'check')])
+        made = list(compare.feedback(cases, [f'0 2 {record} {times}\tdepth 3'] * 3))
+        self.assertEqual(made, [f'{kind} {word_of(0.5)} 3 {marks} 2 {curves} {times}' for kind, curves in (
+            ('check_ring', plain), ('check_worst_ring', record), ('check', plain), ('check_worst', record))])
 
 
 def ring_list():
@@ -289,9 +297,9 @@ class Vectors(Case):
 class Rings(Case):
     """The list checker by the document's text, on lists of a ring that are made by hand."""
 
-    def judged(self, want, marks=TRIANGLE, tolerance=0.0, claimed=3, curves=tuple(SIDES), firsts=(0, 1, 2), params=(0.0, 0.0, 0.0, 1.0), ring=True):
+    def judged(self, want, marks=TRIANGLE, tolerance=0.0, claimed=3, curves=tuple(SIDES), firsts=(0, 1, 2), params=(0.0, 0.0, 0.0, 1.0), ring=True, worsts=None):
         numbers_ = [value for curve in curves for value in curve]
-        self.assertEqual(check(marks, tolerance, claimed, numbers_, list(firsts), list(params), ring), want)
+        self.assertEqual(check(marks, tolerance, claimed, numbers_, list(firsts), list(params), ring, worsts), want)
 
     def test_sound(self):
         self.judged((PASSED, 0, 0))
@@ -327,18 +335,52 @@ class Rings(Case):
         self.judged((FAULT_C, 2, 2), params=(0.0, 0.0, 1.0, 1.0))
         self.judged((FAULT_D, 1, 2), claimed=2, curves=SIDES[:1] + [SIDES[1][:6] + TRIANGLE[:2]], firsts=(0, 1), params=(0.0, 0.0, 0.5, 1.0), tolerance=0.5)
 
+    def test_records(self):
+        """Lists of nine numbers a curve: E behind all else of its curve, at its first mark."""
+        nines = [side + [0.0] for side in SIDES]
+        marks, bent = TRIANGLE[:4] + [4.0, 3.0], [SIDES[0] + [0.0], SIDES[1][:6] + TRIANGLE[:2] + [2.5]]  # of the second curve mark 2 is a little off
+        far = math.dist(marks[4:], (3.5, 1.11375))  # the second curve's middle
+        sound = dict(claimed=2, firsts=(0, 1), params=(0.0, 0.0, 0.5, 1.0), tolerance=9.0, worsts=[0, 2])
+        worsts, fars = kept_for(marks, [bent[0][:8], bent[1][:8]], [0, 1], [0.0, 0.0, 0.5, 1.0], ring=True)
+        self.assertEqual((worsts, fars[0]), ([0, 2], 0.0))
+        self.assertAlmostEqual(fars[1], far)
+        good = [bent[0], bent[1][:8] + fars[1:]]
+        self.judged((PASSED, 0, 0), worsts=[0, 1, 2], curves=nines)
+        self.judged((PASSED, 0, 0), **sound, curves=good)
+        for place in (0, 1):
+            for other in (math.nextafter(fars[place], 9.0), math.nan, math.inf, -fars[place], fars[place] ** 2 or 1.0):
+                wrong = [row[:8] + [other if k == place else row[8]] for k, row in enumerate(good)]
+                self.judged((FAULT_E, place, place), **sound, curves=wrong)
+        wrong = [good[0], good[1][:8] + [math.nan]]
+        for want, change in (((FAULT_D, 1, 2), dict(tolerance=0.5)), ((FAULT_C, 1, 3), dict(params=(0.0, 0.0, 0.5, 0.5))), ((FAULT_A, 1, 0), dict(firsts=(0, 0))),
+                             ((REFUSED, 5, 0), dict(tolerance=-1.0)), ((REFUSED, 4, 0), dict(worsts=[0])), ((FAULT_E, 0, 0), dict(worsts=[1, 2], tolerance=0.5))):
+            self.judged(want, **{**sound, **change}, curves=wrong)
+        self.judged((REFUSED, 4, 0), **sound, curves=[good[0], good[1][:8]])
+        self.judged((FAULT_B, 1, 1), **sound, curves=[good[0], [0.0] * 8 + [math.nan]])
+
+    def test_ties(self):
+        """The first of equal squares is the worst mark, also where the distances of others are equal to the last bit."""
+        for marks, worst in TIES:
+            (found,), (far,) = kept_for(marks, [CURVE], [0], PARAMS)
+            self.assertEqual((found, far), (worst, 0.5 if worst else 0.0))
+            for other in range(5):
+                want = (PASSED, 0, 0) if other == worst else (FAULT_E, 0, 0)
+                self.judged(want, marks=marks, tolerance=0.5, claimed=1, curves=[CURVE + [far]], firsts=[0], params=PARAMS, ring=False, worsts=[other])
+
     def test_tender(self):
         """The ring fit of the tender's cover: its list is sound as a ring's and as no other's, and there is no kink at the seam, nor where its two blocks meet."""
         held = house.parse(read('examples/tender.house'))
         (said,) = self.answers([f'ring {words([held.tolerance] + held.marks)}'])
         head, count, *rest = said.split(' ')
-        self.assertEqual((head, count, len(rest)), ('0', '19', 9 * 19 + 261))
-        firsts = [int(text) for text in rest[:9 * 19:9]]
-        curves = [numbers([pattern_of(text) for text in rest[9 * k + 1:9 * k + 9]]) for k in range(19)]
-        params = numbers([pattern_of(text) for text in rest[9 * 19:]])
-        parts = dict(marks=numbers(held.marks), tolerance=0.8, claimed=19, curves=curves, firsts=firsts, params=params)
-        self.judged((PASSED, 0, 0), **parts)
-        self.judged((FAULT_B, 18, firsts[-1]), **parts, ring=False)
+        self.assertEqual((head, count, len(rest)), ('0', '19', 11 * 19 + 261))
+        firsts, worsts = ([int(text) for text in rest[place:11 * 19:11]] for place in (0, 1))
+        nines = [numbers([pattern_of(text) for text in rest[11 * k + 2:11 * k + 11]]) for k in range(19)]
+        params, curves = numbers([pattern_of(text) for text in rest[11 * 19:]]), [nine[:8] for nine in nines]
+        parts = dict(marks=numbers(held.marks), tolerance=0.8, claimed=19, firsts=firsts, params=params)
+        self.judged((PASSED, 0, 0), **parts, curves=curves)
+        self.judged((PASSED, 0, 0), **parts, curves=nines, worsts=worsts)
+        self.judged((FAULT_E, 4, firsts[4]), **parts, curves=nines, worsts=worsts[:4] + [worsts[4] + 1] + worsts[5:])
+        self.judged((FAULT_B, 18, firsts[-1]), **parts, curves=curves, ring=False)
         met = [kink(before, after) for first, before, after in zip(firsts, curves[-1:] + curves, curves) if first in (0, 200)]
         self.assertEqual(len(met), 2)
         self.assertLess(max(met), 1e-9)

@@ -113,7 +113,14 @@ fn fit<C: BezierCurveFactory>(kind: &str, tolerance: f64, tangents: Option<(C::P
         _ => joined(kind == "ring", p, tolerance),
     }
 }
-/// Count, first marks, curves and parameters of a fit; the plain run's curves and the watched run's must be the same bits.
+/// The square of a mark's distance from a curve at t, as `max_error_for_curve` works it out, which the crate keeps to itself.
+fn square(c: &Plain, mark: Coord2, t: f64) -> f64 { let off = mark - c.point_at_pos(t); off.dot(&off) }
+/// The largest square among so many, and the first place that has it: place 0 where none is above zero.
+fn farthest(squares: impl Iterator<Item = f64>) -> (usize, f64) {
+    squares.enumerate().fold((0, 0.0), |worst, (i, far)| if far > worst.1 { (i, far) } else { worst })
+}
+/// Count, and of each curve first mark, worst mark, its numbers and the largest distance; then the parameters of a fit. The plain run's curves and the watched run's must be the same bits.
+/// A curve's last mark is measured with its others, at 1, where the distance is 0: so it does not count which curve a joint is under.
 fn fitted(kind: &str, tolerance: f64, tangents: Option<(Coord2, Coord2)>, p: &[Coord2]) -> String {
     let marks: Vec<Mark> = p.iter().enumerate().map(|(i, c)| Mark(*c, Some(i))).collect();
     let plain: Vec<Plain> = fit(kind, tolerance, tangents, p);
@@ -124,10 +131,11 @@ fn fitted(kind: &str, tolerance: f64, tangents: Option<(Coord2, Coord2)>, p: &[C
     for (c, k) in plain.iter().zip(&kept) {
         if eight(c).map(bits) != eight(k).map(bits) { return "UNLIKE".into(); }
         let (first, last, asked) = (k.start.1.unwrap(), k.end.1.unwrap(), k.asked.borrow());
-        if last - first == 1 { at[first] = 0.0; at[last] = 1.0; }
-        else if asked.len() == last - first + 1 { at[first..=last].copy_from_slice(&asked); }
-        else { return "UNLIKE".into(); }
-        out += &format!(" {}{}", first, hex(&eight(c)));
+        let own = if last - first == 1 { &[0.0, 1.0][..] } else { &asked[..] };
+        if own.len() != last - first + 1 { return "UNLIKE".into(); }
+        at[first..=last].copy_from_slice(own);
+        let (worst, far) = farthest(p[first..=last].iter().zip(own).map(|(m, t)| square(c, *m, *t)));
+        out += &format!(" {} {}{}{}", first, first + worst, hex(&eight(c)), hex(&[far.sqrt()]));
     }
     out + &hex(&at)
 }
@@ -179,8 +187,8 @@ fn search_depth(p: &[Coord2], q: Coord2) -> Option<usize> {
 fn outline(ring: bool, given: &[Coord2]) -> Vec<Coord2> { given.iter().chain(given.first().filter(|_| ring)).copied().collect() }
 fn fewest(ring: bool) -> usize { if ring { 3 } else { 2 } }
 
-/// The list checker by the document's rules; the crate has none. Points and distances are the crate's.
-fn check(ring: bool, tolerance: f64, given: &[Coord2], firsts: &[usize], curves: &[[f64; 8]], at: &[f64]) -> String {
+/// The list checker by the document's rules; the crate has none. Points and distances are the crate's. A curve has eight numbers, or nine where worst marks are kept.
+fn check(ring: bool, tolerance: f64, given: &[Coord2], firsts: &[usize], worsts: Option<&[usize]>, curves: &[Vec<f64>], at: &[f64]) -> String {
     let marks = outline(ring, given);
     let (n, count) = (marks.len(), curves.len());
     let wild = |v: f64| !(v.abs() <= 1_000_000.0);
@@ -193,31 +201,40 @@ fn check(ring: bool, tolerance: f64, given: &[Coord2], firsts: &[usize], curves:
     }
     let same = |v: &[f64], m: Coord2| v[0].to_bits() == m.0.to_bits() && v[1].to_bits() == m.1.to_bits();
     for k in 0..count {
-        let (c, first, next) = (&curves[k], firsts[k], if k + 1 < count { firsts[k + 1] } else { n - 1 });
+        let (c, first, next) = (&curves[k][..8], firsts[k], if k + 1 < count { firsts[k + 1] } else { n - 1 });
         if c.iter().any(|v| !v.is_finite()) || !same(&c[0..2], marks[first]) || !same(&c[6..8], marks[next]) { return format!("FAULT B {} {}", k, first); }
         let p = points(c);
-        for i in first..(if k + 1 < count { next } else { n }) {
+        let p = Plain::from_points(p[0], (p[1], p[2]), p[3]);
+        let under = first..(if k + 1 < count { next } else { n });
+        for i in under.clone() {
             let t = at[i];
             let placed = if i == first { t == 0.0 } else if i == n - 1 { t == 1.0 } else { (0.0..=1.0).contains(&t) };
             if !placed { return format!("FAULT C {} {}", k, i); }
-            let off = marks[i] - basis(t, p[0], p[1], p[2], p[3]);
-            let far = f64::sqrt(off.dot(&off));
+            let far = square(&p, marks[i], t).sqrt();
             if !(far.is_finite() && far <= tolerance) { return format!("FAULT D {} {}", k, i); }
         }
+        let Some(worsts) = worsts else { continue };
+        let (worst, far) = farthest(under.map(|i| square(&p, marks[i], at[i])));
+        if curves[k][8].to_bits() != far.sqrt().to_bits() || worsts[k] != first + worst { return format!("FAULT E {} {}", k, first); }
     }
     "0".into()
 }
-fn check_line(ring: bool, w: &[&str]) -> Option<String> {
+/// A list on a line: for each curve its first mark and eight numbers, or first mark, worst mark and nine.
+fn check_line(ring: bool, kept: bool, w: &[&str]) -> Option<String> {
     let n = whole(w.get(1)?)?;
     let count_at = n.checked_mul(2)?.checked_add(2)?;
     let k = whole(w.get(count_at)?)?;
-    if w.len() != count_at + 1 + k.checked_mul(9)? + n + usize::from(ring) { return None; }
-    let (mut firsts, mut curves) = (vec![], vec![]);
-    for c in w[count_at + 1..count_at + 1 + 9 * k].chunks(9) {
-        firsts.push(u32::try_from(whole(c[0])?).ok()? as usize);
-        curves.push(<[f64; 8]>::try_from(numbers(&c[1..])?).ok()?);
+    let (wide, beside) = if kept { (11, 2) } else { (9, 1) };
+    let end = (count_at + 1).checked_add(k.checked_mul(wide)?)?;
+    if w.len() != end.checked_add(n + usize::from(ring))? { return None; }
+    let (mut firsts, mut worsts, mut curves) = (vec![], vec![], vec![]);
+    let mark = |w: &str| -> Option<usize> { Some(u32::try_from(whole(w)?).ok()? as usize) };
+    for c in w[count_at + 1..end].chunks(wide) {
+        firsts.push(mark(c[0])?);
+        worsts.push(mark(c[beside - 1])?);
+        curves.push(numbers(&c[beside..])?);
     }
-    Some(check(ring, number(w[0])?, &points(&numbers(&w[2..count_at])?), &firsts, &curves, &numbers(&w[count_at + 1 + 9 * k..])?))
+    Some(check(ring, number(w[0])?, &points(&numbers(&w[2..count_at])?), &firsts, if kept { Some(&worsts) } else { None }, &curves, &numbers(&w[end..])?))
 }
 
 /// One line's answer; None for a line that is none of replay's.
@@ -228,7 +245,7 @@ fn answer(line: &str) -> Option<String> {
     let show = |v: &[Mark]| -> String { let f: Vec<f64> = v.iter().flat_map(|m| [m.0.0, m.0.1]).collect(); format!("0{}", hex(&f)) };
     let wanted = match kind {
         "sqrt" => 1, "basis" | "de_casteljau4" | "subdivide4" | "coefficients" => 9, "de_casteljau3" => 7, "de_casteljau2" => 5, "refine" => 12, "nearest" => 10, "distance" => 11, "blocks" | "size" => 1,
-        "direct" => w.len().max(5), "source" | "loop" | "joined" | "ring" | "check" | "check_ring" => w.len().max(1), _ => return None,
+        "direct" => w.len().max(5), "source" | "loop" | "joined" | "ring" | "check" | "check_ring" | "check_worst" | "check_worst_ring" => w.len().max(1), _ => return None,
     };
     if w.len() != wanted { return None; }
     Some(match kind {
@@ -269,8 +286,7 @@ fn answer(line: &str) -> Option<String> {
         "distance" => {
             let v = numbers(w)?;
             let p = points(&v[..10]);
-            let off = p[4] - Plain::from_points(p[0], (p[1], p[2]), p[3]).point_at_pos(v[10]);
-            format!("0{}", hex(&[off.dot(&off).sqrt()]))
+            format!("0{}", hex(&[square(&Plain::from_points(p[0], (p[1], p[2]), p[3]), p[4], v[10]).sqrt()]))
         }
         "blocks" => {
             // as many as there are numbers k with k * size < n - 1
@@ -284,7 +300,7 @@ fn answer(line: &str) -> Option<String> {
             if (200..=MOST_SHOWN).contains(&n) && first_block(n) != size { return Some("UNLIKE".into()); }
             format!("0 {}", size)
         }
-        "check" | "check_ring" => check_line(kind == "check_ring", w)?,
+        "check" | "check_ring" | "check_worst" | "check_worst_ring" => check_line(kind.ends_with("_ring"), kind.starts_with("check_worst"), w)?,
         _ => {
             let v = numbers(w)?;
             let (ring, tolerance, rest) = (kind == "ring", v[0], &v[if kind == "direct" { 5 } else { 1 }..]);

@@ -3,6 +3,7 @@ import math
 from collections import namedtuple
 
 from bench.curves import at, box_of, cover, extent, grown, inside, reach, seam_angle, shared
+from bench.outline import LONG
 from bench.said import counted, millimetres, plain
 from bench.svg import (COLOURS, FONTS, GREEN, INK, RED, WHITE, WIDE, Room, bar, circle, diamond, escaped, group, label, line, lines_of, look, num, path, plus, rings,
                        rounded, target, text, wrapped)
@@ -12,6 +13,8 @@ WHOLE = 6.35             # mm, which are 24 pixels and 18 points: a page of whol
 FAR_OFF = 10 * LARGEST   # a point beyond is no place on any paper
 MOST_BOXES = 20000       # that cover all curves together
 NAMED = 8                # curves that a note names one by one
+SMALLER = 0.7            # a small ring, by the ring of the farthest mark
+FAR_AWAY, NEAR_BY = 14, 4  # steps that a label may stand away from its point: the few that must be said, and the many that need not
 
 Sizes = namedtuple('Sizes', 'font thin bold arm dot halo')
 
@@ -78,6 +81,10 @@ def measured(listed):
             f"under curve\xa0{under}; by the checker's arithmetic, at the mark's parameter.")
 
 
+def long_notes(listed):
+    return [f'Small rings: the worst mark of each curve with {LONG} marks or more under it; its distance stands beside it where there is room.'] if listed.long else []
+
+
 def seam_notes(outline):
     x, y = outline.listed.marks[0]
     turn = f'The outline turns there by {outline.seam()}; 0° is no kink.'
@@ -110,7 +117,7 @@ def verdict(listed):
 
 def notes_of(outline):
     listed = outline.listed
-    return [title(listed), *([verdict(listed)] if listed.verdict else []), measured(listed), *trouble_notes(outline), *(seam_notes(outline) if listed.ring else []),
+    return [title(listed), *([verdict(listed)] if listed.verdict else []), measured(listed), *long_notes(listed), *trouble_notes(outline), *(seam_notes(outline) if listed.ring else []),
             'Marks and curves count from 0; every tenth curve has its number. x runs right, y up.']
 
 
@@ -196,9 +203,16 @@ class Picture:
             self.ringed(layer, rings(x, y, 1.5 * self.sizes.halo, self.sizes.bold), x, y, 1.5 * self.sizes.halo)
         return layer
 
+    def worst_ones(self):
+        """The worst mark of each long curve; the farthest of all has a sign of its own."""
+        return [(k, far, mark) for k, far, mark in self.listed.long if self.listed.far is None or mark != self.listed.far[1]]
+
     def signs(self):
-        """The farthest mark, and a ring's seam."""
+        """The worst marks of long curves, the farthest mark, and a ring's seam."""
         layer, halo, bold = Layer(''), self.sizes.halo, self.sizes.bold
+        for k, _, mark in self.worst_ones():
+            x, y = self.put(self.listed.marks[mark])
+            self.ringed(layer, circle(x, y, SMALLER * halo, look('none', COLOURS[k % 2], 0.7 * bold)), x, y, SMALLER * halo)
         if self.listed.far:
             x, y = self.put(self.listed.marks[self.listed.far[1]])
             self.ringed(layer, circle(x, y, halo, look('none', RED, bold)), x, y, halo)
@@ -207,10 +221,10 @@ class Picture:
             self.ringed(layer, diamond(x, y, 1.3 * halo, GREEN, bold), x, y, 1.3 * halo)
         return layer
 
-    def label(self, point, size, words, colour, clear, allowed):
-        """Words beside a point, where nothing else is; none if there is no such place."""
+    def label(self, point, size, words, colour, clear, allowed, steps=FAR_AWAY):
+        """Words beside a point, where nothing else is; none if there is no such place within so many steps."""
         x, y = self.put(point)
-        box = self.room.place(x, y, size, words, clear, allowed)
+        box = self.room.place(x, y, size, words, clear, allowed, steps)
         if box:
             self.labels.add(label(x, y, size, words, colour, clear, box), box_of([(x, y), box[:2], box[2:]]))
 
@@ -225,6 +239,9 @@ class Picture:
         for k, curve in self.outline.curves:
             if k % 10 == 0:
                 self.label(at(curve, 0.5), font * 0.9, str(k), COLOURS[k % 2], self.sizes.dot, allowed)
+        for k, far, mark in self.worst_ones():
+            words = f'{millimetres(far, self.listed.tolerance)} mm'
+            self.label(self.listed.marks[mark], font * 0.7, words, COLOURS[k % 2], SMALLER * halo * 1.25, allowed, NEAR_BY)
 
 
 def window(x, y, wide, tall, things, at_x=None, at_y=None):
@@ -239,6 +256,8 @@ def signs_of(outline):
     """What the signs are called, each with the function that draws it about (x, y), as large as letters of a size."""
     signs = [('mark', lambda x, y, s: path(plus(x, y, 0.3 * s), look('none', INK, 0.045 * s))),
              ('joint', lambda x, y, s: circle(x, y, 0.22 * s, look(WHITE, INK, 0.05 * s)))]
+    if outline.listed.long:
+        signs.append(('worst of a curve', lambda x, y, s: circle(x, y, 0.24 * s, look('none', COLOURS[0], 0.06 * s))))
     if outline.listed.far:
         signs.append(('farthest mark', lambda x, y, s: circle(x, y, 0.33 * s, look('none', RED, 0.08 * s))))
     if outline.listed.ring:

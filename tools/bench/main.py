@@ -8,6 +8,7 @@ from bench.several import Done, go_through
 from shared.command import Stop, run, say
 
 VERBS = ('fit', 'check', 'plot', 'explain')
+CURVE_HEAD = ('curve', 'first mark', 'last mark', 'worst mark', 'distance')
 HEAD = ('marks', 'curves', 'blocks', 'block size', 'largest distance', 'at mark', 'under curve')
 
 
@@ -17,6 +18,16 @@ def table_row(name, wide, listed):
     far, mark, curve = listed.far
     cells = len(listed.marks), len(listed.curves), listed.blocks, listed.block_size, f'{said.millimetres(far, listed.tolerance)} mm', mark, curve
     return name.ljust(wide) + ''.join(f'  {cell:>{len(title)}}' for title, cell in zip(HEAD, cells))
+
+
+def curve_table(listed):
+    """How far off each curve is, and where: a line for each, below a head."""
+    rows = [CURVE_HEAD]
+    for curve, (first, end, worst) in enumerate(zip(listed.firsts, listed.ends(), listed.worst)):
+        mark, far = ('-', 'no number') if worst is None else (worst[1], f'{said.millimetres(worst[0], listed.tolerance)} mm')
+        rows.append((curve, first, end, mark, far))
+    wides = [max(len(str(cell)) for cell in column) for column in zip(*rows)]
+    return ['  ' + ''.join(f'  {cell:>{wide}}' for cell, wide in zip(row, wides)) for row in rows]
 
 
 def fitted(path, words):
@@ -36,6 +47,8 @@ def fit_lines(path, words, wide):
     except outline.Refused as refused:
         return Done(1, [f'{name.ljust(wide)}  {said.refusal(refused.refusal)}'])
     lines = [table_row(name, wide, listed)]
+    if words.curves:
+        lines += curve_table(listed)
     if words.save is not None:
         files.write(words.save, made)
         lines.append(written(words.save, made))
@@ -59,6 +72,8 @@ def fit(words):
             raise Stop(f'{option} takes one file, and {len(words.files)} are given')
     if words.listing and words.save is not None:
         raise Stop('give --listing or --save, not both')
+    if words.listing and words.curves:
+        raise Stop('give --listing or --curves, not both')
     if words.ring and words.save is not None:
         raise Stop('--save is not for --ring: a house file holds no list of a closed outline')
     hold_names(words)
@@ -73,23 +88,19 @@ def fit(words):
 # ---- check
 
 def fault_words(listed, letter, curve, mark):
-    """A fault in words. The distance of the mark at fault is replay's."""
-    def measured(mark, curve):
-        (answer,) = outline.ask([outline.distance_line(listed, mark, curve)])
-        return outline.distance(answer)
+    """A fault in words. The distances in it are replay's."""
+    def measured(marks, curve):
+        return outline.distances(listed, [(mark, curve) for mark in marks])
     return f'fault {letter}, curve {curve}, mark {mark}: {said.fault(listed, letter, curve, mark, measured)}'
 
 
-def exact_words(listed, letter):
+def exact_words(listed):
     """The largest distance by the checker's arithmetic and in exact fractions."""
     from bench import exact
-    if letter == 'A':
-        return 'no largest distance: with fault A no mark has a curve'
     found = exact.largest(listed)
     if found is None:
         return 'no largest distance: a number of the list is not finite'
     true, place = found[0], 'at mark {} under curve {}'.format(*found[1:])
-    outline.measure(listed)
     if listed.far is None:
         return f'largest distance in exact fractions {exact.written(true)} mm {place}; the sums of the checker ran over'
     far, checked = listed.far[0], 'at mark {} under curve {}'.format(*listed.far[1:])
@@ -110,7 +121,17 @@ def check_line(path, words):
         line, letter = f'{name}: passed, {said.counted(rest[0], "mark")}, {said.counted(rest[1], "curve")}', None
     else:
         line, letter = f'{name}: {fault_words(listed, *rest)}', rest[0]
-    return Done(int(letter is not None), [f'{line}; {exact_words(listed, letter)}' if words.exact else line])
+    return Done(int(letter is not None), measured_lines(line, listed, letter, words))
+
+
+def measured_lines(line, listed, letter, words):
+    """A file's line with what is asked for besides. With fault A no mark has a curve."""
+    if not (words.exact or words.curves):
+        return [line]
+    if letter == 'A':
+        return [line + '; no distances: with fault A no mark has a curve']
+    outline.measure(listed, letter is None)
+    return [f'{line}; {exact_words(listed)}' if words.exact else line] + (curve_table(listed) if words.curves else [])
 
 
 def check(words):
@@ -132,7 +153,7 @@ def to_draw(path, words):
     listed = outline.own(name, data)
     listed.verdict = outline.Verdict(True, 'passed') if kind == 'PASSED' else outline.Verdict(False, fault_words(listed, *rest))
     if listed.verdict.passed or rest[0] != 'A':
-        outline.measure(listed)
+        outline.measure(listed, listed.verdict.passed)
     return listed
 
 
@@ -214,12 +235,14 @@ def parser():
                     'wesalondo fit cover.house --save fitted.house')
     verb.add_argument('files', metavar='FILE', nargs='+', help='a house file, or - for standard input; curves that it has are not looked at')
     verb.add_argument('--ring', action='store_true', help='a closed outline, which comes back to its first mark')
+    verb.add_argument('--curves', action='store_true', help='print a line for each curve besides: how far off it is, and at which mark')
     verb.add_argument('--listing', action='store_true', help='print the curves of one file: a line OUTLINE, then a line PIECE for each')
     verb.add_argument('--save', metavar='OUT.house', help='write one file with its curves')
 
     verb = add_verb(verbs, check, 'Says of each house file with curves, whoever made it, whether they are sound for its marks, or the first fault.',
                     'wesalondo check fitted.house --exact')
     verb.add_argument('files', metavar='FILE', nargs='+', help='a house file with curves, or - for standard input')
+    verb.add_argument('--curves', action='store_true', help='print a line for each curve besides: how far off it is, and at which mark')
     verb.add_argument('--exact', action='store_true', help='add the largest distance in exact fractions, and how much of it is rounding')
 
     verb = add_verb(verbs, plot, 'Draws a house file at true scale: its own curves with the verdict on them, or its fit if it has none.',
@@ -230,7 +253,7 @@ def parser():
     verb.add_argument('--tiles', metavar='A4|A3|WxH', help='an HTML file with a page for every sheet of this paper, to print and glue; W and H in millimetres')
 
     verb = add_verb(verbs, explain, 'Says what a refusal or a fault means and what to do; all of them without a number.', 'wesalondo explain 5')
-    verb.add_argument('number', metavar='N', nargs='?', help='a refusal, 1 to 9, or a fault, A to D')
+    verb.add_argument('number', metavar='N', nargs='?', help='a refusal, 1 to 9, or a fault, A to E')
     return whole
 
 

@@ -9,8 +9,9 @@ from shared.command import Stop
 from shared.words import number, numbers, pattern_of, word, words
 
 WORD = '[0-9A-F]{16}'
-PIECE = f'([0-9]{{1,4}})((?: {WORD}){{8}})'  # a curve's first mark and eight numbers
-VERDICT = '(PASSED) ([0-9]+) ([0-9]+)|(FAULT) ([A-D]) ([0-9]+) ([0-9]+)|(NO CURVES) ([0-9]+)|(REFUSED) ([1-9])'
+LONG = 5  # marks under a curve that is called long
+PIECE = f'([0-9]{{1,4}}) ([0-9]{{1,4}})((?: {WORD}){{9}})'  # a curve's first mark, its worst mark, and nine numbers
+VERDICT = '(PASSED) ([0-9]+) ([0-9]+)|(FAULT) ([A-E]) ([0-9]+) ([0-9]+)|(NO CURVES) ([0-9]+)|(REFUSED) ([1-9])'
 
 
 class Refused(Exception):
@@ -35,12 +36,39 @@ class Listed:
         self.name, self.held, self.ring = name, held, ring
         self.tolerance = number(held.tolerance)
         self.marks = points(held.marks)
-        self.firsts = [first for first, _ in held.curves]
-        self.curves = [points(eight) for _, eight in held.curves]
+        self.firsts = held.firsts()
+        self.curves = [points(eight) for eight in held.eights()]
         self.params = numbers(held.params)
         self.blocks = self.block_size = None  # of a fit alone
-        self.far = None      # the largest distance, its mark and its curve, where every distance is a number
+        self.worst = None    # for each curve the distance of its worst mark and the mark; None where a distance is no number
         self.verdict = None  # of a list that came in a file
+
+    def stops(self):
+        """For each curve the mark behind those under it: a joint is under its later curve, and a ring's first mark comes again as its last."""
+        return self.firsts[1:] + [len(self.marks) + self.ring]
+
+    def ends(self):
+        """For each curve the mark that it ends on; a ring's last curve ends on mark 0."""
+        return self.firsts[1:] + [0 if self.ring else len(self.marks) - 1]
+
+    def kept(self):
+        """For each curve the distance and the worst mark that its record keeps; None in a list that keeps none."""
+        if self.held.worsts is None:
+            return None
+        return [(number(nine[8]), worst) for (_, nine), worst in zip(self.held.curves, self.held.worsts)]
+
+    @property
+    def far(self):
+        """The largest distance of all, its mark and its curve, the first of equals; None where not every distance is a number."""
+        if self.worst is None or None in self.worst:
+            return None
+        return max(((far, mark, curve) for curve, (far, mark) in enumerate(self.worst)), key=lambda one: one[0])
+
+    @property
+    def long(self):
+        """Of each long curve that is off a mark its number, the distance of its worst mark, and the mark."""
+        spans = zip(self.firsts, self.stops(), self.worst or [])
+        return [(curve, *worst) for curve, (first, stop, worst) in enumerate(spans) if worst and worst[0] > 0 and stop - first >= LONG]
 
 
 def points(patterns):
@@ -89,55 +117,66 @@ def taken_apart(data, program):
 # ---- measuring
 
 def placed(listed):
-    """(mark, curve) of every mark once, a joint under its later curve, as the checker goes through them; a ring's first mark comes again as its last."""
-    ends = listed.firsts[1:] + [len(listed.marks) + listed.ring]
-    return [(mark, curve) for curve, (first, end) in enumerate(zip(listed.firsts, ends)) for mark in range(first, end)]
+    """(mark, curve) of every mark once, as the checker goes through them."""
+    return [(mark, curve) for curve, (first, stop) in enumerate(zip(listed.firsts, listed.stops())) for mark in range(first, stop)]
 
 
 def distance_line(listed, mark, curve):
     """The line that asks replay how far a mark is from its curve."""
     at = 2 * (mark % len(listed.marks))
-    return f'distance {words(listed.held.curves[curve][1])} {words(listed.held.marks[at:at + 2])} {word(listed.held.params[mark])}'
+    return f'distance {words(listed.held.curves[curve][1][:8])} {words(listed.held.marks[at:at + 2])} {word(listed.held.params[mark])}'
 
 
 def distance(answer):
     return number(pattern_of(value(answer, WORD, 'distance')))
 
 
-def farthest(listed, answers):
-    """The largest of replay's answers to the distance lines, with its mark and its curve; the first of equals. None if one is no number."""
-    found = [(distance(answer), mark % len(listed.marks), curve) for answer, (mark, curve) in zip(answers, placed(listed))]
-    return max(found, key=lambda one: one[0]) if all(math.isfinite(far) for far, _, _ in found) else None
+def distances(listed, places):
+    """Replay's distances of the marks at these places, each a mark and its curve."""
+    return [distance(answer) for answer in ask([distance_line(listed, *place) for place in places])]
 
 
-def measure(listed):
-    """Asks for the distance of every mark, and keeps the largest."""
-    listed.far = farthest(listed, ask([distance_line(listed, *place) for place in placed(listed)]))
+def measured(listed):
+    """For each curve the largest of replay's distances of the marks under it, and the first mark that has it; None where one is no number."""
+    places = placed(listed)
+    under = [[] for _ in listed.firsts]
+    for far, (mark, curve) in zip(distances(listed, places), places):
+        under[curve].append((far, mark % len(listed.marks)))
+    return [max(fars, key=lambda one: one[0]) if all(math.isfinite(far) for far, _ in fars) else None for fars in under]
+
+
+def measure(listed, passed):
+    """How far off each curve is, and where. What the records of a list keep counts where the checker has passed it; else every mark is measured."""
+    listed.worst = (listed.kept() if passed else None) or measured(listed)
 
 
 def measure_fit(listed):
-    """The same of a fit, and into how many blocks it cut its marks, of what size: a ring's first mark counts again as its last."""
+    """What a fit keeps of each curve, and into how many blocks it cut its marks, of what size: a ring's first mark counts again as its last."""
     count = len(listed.marks) + listed.ring
-    blocks, size, *rest = ask([f'blocks {count}', f'size {count}'] + [distance_line(listed, *place) for place in placed(listed)])
+    blocks, size = ask([f'blocks {count}', f'size {count}'])
     listed.blocks = int(value(blocks, '[0-9]{1,4}', 'number of blocks'))
     listed.block_size = int(value(size, '[0-9]{1,4}', 'size of a block'))
-    listed.far = farthest(listed, rest)
-    if listed.far is None:
-        raise Stop('replay gives a distance of a fit that is no number')
+    listed.worst = listed.kept()
 
 
 # ---- the three ways to an outline
 
 def hold(listed, program):
-    """The curves of a fit run from mark to mark. A program that says something else is not the one that was proved."""
+    """The curves of a fit run from mark to mark, and each keeps a distance that is a number, and one of its own marks. A program that says something else is not the
+    one that was proved."""
     marks = closed(listed.held.marks) if listed.ring else listed.held.marks
     count = len(marks) // 2
     if first_marks_fault(count, len(listed.firsts), listed.firsts):
         raise Stop(f'{program} gives no list of curves for {count} marks')
     for k, (first, end) in enumerate(zip(listed.firsts, listed.firsts[1:] + [count - 1])):
-        eight = listed.held.curves[k][1]
+        eight = listed.held.curves[k][1][:8]
         if eight[:2] + eight[6:] != marks[2 * first:2 * first + 2] + marks[2 * end:2 * end + 2]:
             raise Stop(f'curve {k} of {program} does not run from mark {first} to mark {end}')
+    if listed.held.worsts is None:
+        raise Stop(f'{program} keeps no worst marks')
+    for k, (first, stop, (far, worst)) in enumerate(zip(listed.firsts, listed.stops(), listed.kept())):
+        if not (first <= worst < min(stop, len(listed.marks)) and math.isfinite(far)):  # a ring's first mark is kept by its own number
+            raise Stop(f'curve {k} of {program} keeps no worst mark of its own')
 
 
 def saved(data):
@@ -171,8 +210,9 @@ def ring(name, data):
     head = re.match('0 ([0-9]{1,4})(?= )', answer)
     if not head or not re.fullmatch(f'(?: {PIECE}){{{head[1]}}}(?: {WORD}){{{held.count + 1}}}', answer[head.end():]):
         raise Stop(f'replay gives no curves of a closed outline: it says {answer[:60]!r}')
-    curves = [(int(piece[1]), patterns(piece[2])) for piece in re.finditer(f' {PIECE}', answer)]
-    listed = Listed(name, house.File(held.tolerance, held.marks, curves, patterns(answer)[-held.count - 1:]), ring=True)
+    pieces = list(re.finditer(f' {PIECE}', answer))
+    curves, worsts = [(int(piece[1]), patterns(piece[3])) for piece in pieces], [int(piece[2]) for piece in pieces]
+    listed = Listed(name, house.File(held.tolerance, held.marks, curves, patterns(answer)[-held.count - 1:], worsts), ring=True)
     hold(listed, 'replay')
     measure_fit(listed)
     return listed
@@ -190,4 +230,4 @@ def own(name, data):
 
 def listing(listed):
     """The lines that the program `listing` prints of a fit."""
-    return [f'OUTLINE {len(listed.marks)} {len(listed.curves)}'] + [f'PIECE {first} {words(eight)}' for first, eight in listed.held.curves]
+    return [f'OUTLINE {len(listed.marks)} {len(listed.curves)}'] + [f'PIECE {first} {words(eight)}' for first, eight in zip(listed.firsts, listed.held.eights())]

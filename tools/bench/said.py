@@ -43,14 +43,14 @@ def millimetres(far, tolerance):
 def rows():
     """The tables of refusals and of faults: for each number or letter what it is in short, what it means and what to do."""
     with open(PAGE, encoding='utf-8') as file:
-        found = re.findall(r'^\| ([1-9A-D]) \| (.+?) \| (.+?) \| (.+?) \|$', file.read(), re.M)
+        found = re.findall(r'^\| ([1-9A-E]) \| (.+?) \| (.+?) \| (.+?) \|$', file.read(), re.M)
     return {name: rest for name, *rest in found}
 
 
 def row(name):
     known = rows()
     if name not in known:
-        raise Stop(f'there is no {name!r}: the refusals are 1 to 9, and the faults A to D' if known else f'{PAGE} has no table of refusals')
+        raise Stop(f'there is no {name!r}: the refusals are 1 to 9, and the faults A to E' if known else f'{PAGE} has no table of refusals')
     return known[name]
 
 
@@ -69,9 +69,13 @@ def explained(name):
 # ---- faults
 
 def fault(listed, letter, curve, mark, measured):
-    """What the checker found at the place that it names; `measured` gives the distance of a mark from its curve."""
-    words = {'A': first_mark_words, 'B': curve_words, 'C': parameter_words}.get(letter)
-    return words(listed, curve, mark) if words else distance_words(listed, curve, mark, measured(mark, curve))
+    """What the checker found at the place that it names; `measured` gives the distances of marks from a curve."""
+    if letter == 'D':
+        return distance_words(listed, curve, mark, *measured([mark], curve))
+    if letter == 'E':
+        marks = list(range(mark, listed.stops()[curve]))
+        return record_words(curve, *listed.kept()[curve], dict(zip(marks, measured(marks, curve))))
+    return {'A': first_mark_words, 'B': curve_words, 'C': parameter_words}[letter](listed, curve, mark)
 
 
 def first_mark_words(listed, curve, _):
@@ -111,6 +115,20 @@ def parameter_words(listed, curve, mark):
     if mark == len(listed.marks) - 1:
         return f'mark {mark} is the last, and its parameter is {given}, not 1'
     return f'the parameter of mark {mark} under curve {curve} is {given}, which is not between 0 and 1'
+
+
+def record_words(curve, kept, worst, fars):
+    """What a curve's record keeps, and what is measured: `fars` has the distance of every mark under the curve. All digits are said, since one bit is a fault."""
+    far = max(fars.values())
+    mark = next(mark for mark, one in fars.items() if one == far)
+    words = f'curve {curve} keeps {plain(kept)} mm at mark {worst}, and '
+    if not same_bits((kept, 0), (far, 0)):
+        return f'{words}the farthest of its marks, mark {mark}, is {plain(far)} mm from it'
+    if worst not in fars:
+        return f'{words}that mark is not under it: the farthest of its marks is mark {mark}'
+    if fars[worst] != far:
+        return f'{words}that mark is {plain(fars[worst])} mm from it: the farthest of its marks is mark {mark}'
+    return f'{words}another of its marks is as far: the first of the largest squares counts'
 
 
 def distance_words(listed, curve, mark, far):

@@ -101,10 +101,10 @@ class Room:
     def take(self, box):
         self.taken.update(self.cells(box))
 
-    def place(self, x, y, size, words, reach, allowed):
-        """The box of a label at the nearest free place beside (x, y), or None."""
+    def place(self, x, y, size, words, reach, allowed, steps):
+        """The box of a label at the nearest free place beside (x, y), so many steps away at most, or None."""
         wide, high = WIDE * size * (len(words) + 0.6), size
-        for step in range(1, 14):
+        for step in range(1, steps):
             far = reach + 0.55 * size * step
             for turn in range(16):
                 a = math.pi * (0.25 + turn / 8)

@@ -1,6 +1,6 @@
 """house_cases, listing, save and judge: house files that are listed, read and written again, damaged, fitted and judged.
 
-A record is seven words (what to do, how many bytes the file has, the room in each lent slice) and the file. Files are taken apart record by record
+A record is eight words (what to do, how many bytes the file has, the room in each lent slice) and the file. Files are taken apart record by record
 (shared/house.py), and refusals are by the document's order; the curves of a listing are those of the Rust's joined fit. Two outlines
 are read from the kept input. `listing` is the document's worked example, in its own words. `save` is given an example, and has to write the file of the Rust's
 curves; `judge` is given that file."""
@@ -16,12 +16,12 @@ from shared.words import INFINITY, MINUS, NAN, bits, number, numbers, patterns_o
 from vectors import outlines
 
 NAME = 'house_cases'
-LIST, READ, PREFIXES, CHANGES = range(4)
-HEAD = 7
+LIST, READ, PREFIXES, CHANGES, WRITE_WORST = range(5)
+HEAD = 8
 KEPT = 2  # outlines, of 201 and 512 marks
 HALF = bits(0.5)
-ROOM = [8192, 1024, 8192, 4096, 70000]  # marks, first marks, curves, parameters and bytes: enough for every file here
-NO_ROOM = [0] * 5
+ROOM = [8192, 1024, 1024, 8192, 4096, 70000]  # marks, first marks, worst marks, curves, parameters and bytes: enough for every file here
+NO_ROOM = [0] * 6
 
 
 def read():
@@ -39,20 +39,22 @@ def read_answer(data, room):
     held = house.parse(data)
     if held is None:
         return [9], None
-    marks, firsts, curves, params, _ = room
-    count = len(held.curves)
+    marks, firsts, worsts, curves, params, _ = room
+    count, numbers_held = len(held.curves), sum(len(row) for _, row in held.curves)
     if held.count > MOST_MARKS:
         return [2], None
-    if 2 * held.count > marks or count > firsts or 8 * count > curves or (count and held.count > params):
+    if 2 * held.count > marks or count > firsts or len(held.worsts or []) > worsts or numbers_held > curves or (count and held.count > params):
         return [4], None
     return [0, held.count, count], held
 
 
-def again(data, held, room):
-    """The writer's answer to what was read. The bytes have to be the file's own."""
+def again(data, held, room, todo):
+    """The writer's answer to what was read; the first worst mark may have been made too big for its field. The bytes have to be the file's own."""
     if held.bytes() != data:
         raise Stop('a file that is read and written again is another file', 1)
-    return [0, len(data)] if len(data) <= room[4] else [4]
+    if len(data) > room[5]:
+        return [4]
+    return [9] if todo == WRITE_WORST and held.worsts else [0, len(data)]
 
 
 # ---- the listing
@@ -88,7 +90,7 @@ def listing(data, rust):
     if not said.startswith('0 '):
         return refused(said)
     curves = outlines.Lists(said).curves
-    pieces = [f'PIECE {first} {words(eight)}\n' for first, eight in curves]
+    pieces = [f'PIECE {first} {words(nine[:8])}\n' for first, nine in curves]
     return f'OUTLINE {house.parse(data).count} {len(curves)}\n' + ''.join(pieces)
 
 
@@ -108,9 +110,10 @@ class Makers:
     def plain(self, count):
         return house.build(HALF, self.marks(count))
 
-    def full(self, count, curves):
-        eights = [(i, patterns_of(*(i + j / 8 for j in range(8)))) for i in range(curves)]
-        return house.build(HALF, self.marks(count), eights, patterns_of(*(i / count for i in range(count))))
+    def full(self, count, curves, kind=3):
+        rows = [(i, patterns_of(*(i + j / 8 for j in range(8 if kind == 3 else 9)))) for i in range(curves)]
+        worsts = None if kind == 3 else [count - 1 - i for i in range(curves)]
+        return house.build(HALF, self.marks(count), rows, patterns_of(*(i / count for i in range(count))), worsts)
 
 
 TWO = house.build(HALF, outlines.LINE_OF_TWO)
@@ -127,6 +130,8 @@ def listings(makers, collected):
         yield makers.plain(count)
     for count, curves in ((3, 1), (3, 2), (9, 8), (512, 100), (513, 1), (513, 512), (683, 682), (2726, 1)):
         yield makers.full(count, curves)
+    for count, curves in ((3, 2), (512, 100), (618, 617), (619, 618)):  # the last is 22 bytes too long
+        yield makers.full(count, curves, 6)
     yield house.build(HALF, outlines.LINE_OF_TWO, [(65535, [NAN] * 8)], [INFINITY, NAN])
 
 
@@ -154,13 +159,14 @@ def list_cases(makers, collected):
     for data in [*listings(makers, collected), *listing_numbers(), *no_files(makers)]:
         yield LIST, data, ROOM
     for data, room in ((TWO, 156), (TWO, 155), (TWO + b'\0', 10), (TWO + b'\0', 9)):  # room for the text, and a byte less
-        yield LIST, data, ROOM[:4] + [room]
+        yield LIST, data, ROOM[:5] + [room]
 
 
 def out_of_turn():
-    """Kinds out of turn, lengths that do not fit, too few marks for a curve, as many curves as marks."""
+    """Kinds out of turn or mixed, lengths that do not fit, too few marks for a curve, as many curves as marks."""
     one, marks = house.record(1, house.row([HALF])), house.record(2, house.row(outlines.LINE_OF_TWO))
-    three, four = house.record(3, bytes(66)), house.record(4, bytes(16))
+    three, four, six = house.record(3, bytes(66)), house.record(4, bytes(16)), house.record(6, bytes(76))
+    third, fourth = house.record(2, bytes(48)), house.record(4, bytes(24))  # for three marks
     yield from (
         one + marks + four + three, one + marks + three, one + marks + four, marks + one, one + one + marks, one + marks + three + four + four,
         one + marks + four + three + four, one + marks + three + marks, one + house.record(5, b'') + marks, one + marks + three + house.record(4, bytes(8)),
@@ -168,25 +174,39 @@ def out_of_turn():
         one + house.record(2, bytes(8)), one + house.record(2, bytes(16)) + three + house.record(4, bytes(8)),
         one + house.record(2, b'') + three + house.record(4, b''), one + marks + three * 2 + four,
         one + marks + struct.pack('<IH', 66, 3) + bytes(66) + four, one + marks + struct.pack('<IH', 1, 3) + four,
-        one + marks + struct.pack('>IH', 68, 3) + bytes(66) + four)
+        one + marks + struct.pack('>IH', 68, 3) + bytes(66) + four,
+        one + third + three + six + fourth, one + third + six + three + fourth, one + third + six + six + fourth,
+        one + third + six + house.record(3, bytes(76)) + fourth, one + third + three + house.record(6, bytes(66)) + fourth, one + marks + six + six + four,
+        one + marks + four + six, one + marks + six, one + marks + house.record(6, bytes(66)) + four, one + marks + house.record(6, bytes(74)) + four,
+        one + marks + house.record(6, bytes(77)) + four, one + marks + house.record(3, bytes(76)) + four, one + marks + house.record(5, bytes(76)) + four,
+        one + marks + house.record(7, bytes(76)) + four, one + house.record(2, bytes(16)) + six + house.record(4, bytes(8)))
 
 
 def read_cases(makers):
     """Files that are whole; 9, then 2, then 4; each slice one too short."""
     for count, curves in ((0, 0), (1, 0), (2, 0), (2, 1), (9, 8), (512, 511), (513, 512), (4096, 0), (4096, 2), (683, 682)):
         yield READ, makers.full(count, curves), ROOM
-    odd_numbers = [(65535, [NAN + j for j in range(8)])]
-    yield READ, house.build(NAN + 1, [MINUS + NAN + 7, 1, INFINITY, MINUS], odd_numbers, [MINUS, INFINITY + 1]), ROOM
-    nine = makers.full(9, 3)
-    yield READ, nine + b'\0', NO_ROOM
+    for count, curves in ((2, 1), (9, 8), (512, 511)):
+        yield READ, makers.full(count, curves, 6), ROOM
+    odd = [NAN + j for j in range(9)]
+    for rows, worsts in (([(65535, odd[:8])], None), ([(65535, odd)], [65535])):
+        yield READ, house.build(NAN + 1, [MINUS + NAN + 7, 1, INFINITY, MINUS], rows, [MINUS, INFINITY + 1], worsts), ROOM
     yield READ, makers.plain(4097), ROOM
     yield READ, makers.plain(4097), NO_ROOM
-    exact = [18, 3, 24, 9, len(nine)]
-    yield READ, nine, exact
-    for place in range(5):
-        yield READ, nine, [have - (place == i) for i, have in enumerate(exact)]
-    yield READ, makers.full(9, 0), [18, 0, 0, 0, 164]
-    yield READ, makers.full(9, 0), [17, 0, 0, 0, 164]
+    for kind, numbers_of, worsts in ((3, 8, 0), (6, 9, 3)):
+        full = makers.full(9, 3, kind)
+        yield READ, full + b'\0', NO_ROOM
+        exact = [18, 3, worsts, 3 * numbers_of, 9, len(full)]
+        yield READ, full, exact
+        for place in range(6):
+            if exact[place]:
+                yield READ, full, [have - (place == i) for i, have in enumerate(exact)]
+        yield WRITE_WORST, full, exact
+        yield WRITE_WORST, full, ROOM
+        yield WRITE_WORST, full, [*exact[:5], len(full) - 1]  # 4 before 9
+    yield READ, makers.full(9, 0), [18, 0, 0, 0, 0, 164]
+    yield READ, makers.full(9, 0), [17, 0, 0, 0, 0, 164]
+    yield WRITE_WORST, makers.full(9, 0), ROOM
     for data in out_of_turn():
         yield READ, data, ROOM
 
@@ -202,7 +222,7 @@ def cases(before):
     makers = Makers(before)
     yield from list_cases(makers, collected_in(before, makers))
     yield from read_cases(makers)
-    for data in (TWO, makers.full(2, 1), makers.full(3, 2)):
+    for data in (TWO, makers.full(2, 1), makers.full(3, 2), makers.full(2, 1, 6), makers.full(3, 2, 6)):
         yield PREFIXES, data, ROOM
         yield CHANGES, data, ROOM
 
@@ -222,11 +242,11 @@ def changes(data):
 def answer(todo, data, room, rust):
     if todo == LIST:
         text = listing(data, rust)
-        return text if len(text) <= room[4] else '4\n'
-    if todo == READ:
+        return text if len(text) <= room[5] else '4\n'
+    if todo in (READ, WRITE_WORST):
         said, held = read_answer(data, room)
         if held:
-            said = said + again(data, held, room)
+            said = said + again(data, held, room, todo)
         return ' '.join(map(str, said)) + '\n'
     heads = [read_answer(other, room)[0][0] for other in (prefixes if todo == PREFIXES else changes)(data)]
     return ' '.join(str(heads.count(head)) for head in (0, 2, 4, 9)) + '\n'
@@ -267,7 +287,7 @@ def saved(rust):
         data = file.read()
     held = house.parse(data)
     said = outlines.Lists(rust.answer_all([joined_line(data)])[0])
-    return data, house.File(held.tolerance, held.marks, said.curves, said.params)
+    return data, house.File(held.tolerance, held.marks, said.curves, said.params, said.worsts)
 
 
 def make_save(rust):
@@ -278,8 +298,8 @@ def make_save(rust):
 def make_judge(rust):
     """The list checker by the document's text says what the line is."""
     fitted = saved(rust)[1]
-    curves = numbers([pattern for _, eight in fitted.curves for pattern in eight])
-    verdict = check(numbers(fitted.marks), number(fitted.tolerance), len(fitted.curves), curves, [first for first, _ in fitted.curves], numbers(fitted.params))
+    curves = numbers([pattern for _, nine in fitted.curves for pattern in nine])
+    verdict = check(numbers(fitted.marks), number(fitted.tolerance), len(fitted.curves), curves, fitted.firsts(), numbers(fitted.params), worsts=fitted.worsts)
     if verdict[0] != PASSED:
         raise Stop("the Rust's list does not pass", 1)
     return kept.Made('judge', fitted.bytes(), f'PASSED {fitted.count} {len(fitted.curves)}\n', 1, 1)

@@ -7,6 +7,7 @@ import math
 
 from shared import kept
 from shared.blocks import blocks_of, size_of
+from shared.checker import PASSED
 from shared.command import Stop
 from shared.table import FITS
 from shared.words import INFINITY, MINUS, NAN, bits, numbers, pattern_of, patterns_of, word, word_of, words
@@ -18,8 +19,8 @@ MOST_MARKS = 4200  # marks of a line
 KEPT_CURVES = 230  # calls on single curves, 30 of them refused by 6
 KEPT_OUTLINES = 186
 KEPT_LISTS = 24    # sound lists, seven of them with changed copies
-CHECKS = ('check', 'check_ring')
-COLLECTED = {'curves': single.KINDS, 'outlines': FITS, 'lists': CHECKS}
+CHECKS = ('check', 'check_ring', 'check_worst', 'check_worst_ring')
+COLLECTED = {'curves': single.KINDS, 'outlines': FITS, 'lists': CHECKS[:2]}  # lists in the record of nine are made from those
 
 
 def values(*floats):
@@ -99,7 +100,7 @@ def size_lines():
 # ---- lists
 
 def claim_of(line):
-    """The list on a line of `check` or `check_ring`."""
+    """The list on a line of `check` or `check_ring`, which are collected."""
     kind, tolerance, count, *rest = line.split(' ')
     count = int(count)
     marks, rest = rest[:2 * count], rest[2 * count:]
@@ -112,8 +113,8 @@ def claim_of(line):
     return lists.Claim(floats([tolerance])[0], floats(marks), claimed, curves, [int(nine[0]) for nine in nines], floats(rest[9 * claimed:]), kind == 'check_ring')
 
 
-def judged(line):
-    return line, lists.line_answer(claim_of(line).answer())
+def judged(claim):
+    return claim.line(), lists.line_answer(claim.answer())
 
 
 def spoilt(line):
@@ -124,13 +125,13 @@ def spoilt(line):
     count, last = claim.places(), len(curves) - 1
 
     def check_line(*parts):
-        return lists.check_line(claim.ring, *parts)
+        return lists.check_line(claim.ring, False, *parts)
 
     def with_curves(other):
         return check_line(tolerance, marks, other, params)
 
     def with_first(k, first):
-        return with_curves(put(curves, k, (first, curves[k][1])))
+        return with_curves(put(curves, k, ((first,), curves[k][1])))
 
     def with_number(k, place, pattern):
         first, eight = curves[k]
@@ -141,7 +142,7 @@ def spoilt(line):
     yield with_curves(curves[:-1])
     for first in (1, count - 1, lists.LARGEST_FIRST):
         yield with_first(0, first)
-    for first in (0, curves[last][0] + 1, count - 2, count - 1, count):
+    for first in (0, claim.firsts[last] + 1, count - 2, count - 1, count):
         yield with_first(last, first)
     for k in sorted({0, last}):
         for place in range(8):
@@ -149,7 +150,7 @@ def spoilt(line):
             for pattern in (NAN, INFINITY, here ^ 1, here ^ MINUS):
                 yield with_number(k, place, pattern)
     above_one = bits(math.nextafter(1.0, 2.0))
-    for place in sorted({0, 1, curves[last][0], count - 2, count - 1}):
+    for place in sorted({0, 1, claim.firsts[last], count - 2, count - 1}):
         for pattern in (MINUS, 0, bits(1.0), above_one, MINUS + 1, NAN, INFINITY, bits(0.75)):
             yield check_line(tolerance, marks, curves, put(params, place, pattern))
     for other in (0, MINUS, MINUS + 1, NAN, INFINITY):
@@ -158,6 +159,25 @@ def spoilt(line):
         yield check_line(tolerance, put(marks, 3, pattern), curves, params)
     for few in range(2 if claim.ring else 1, -1, -1):
         yield check_line(tolerance, marks[:2 * few], [], params[:few + claim.ring])
+
+
+def spoilt_record(claim):
+    """A list in the record of nine that passes, and the same with something changed in what it keeps."""
+    put = lists.put
+    yield claim
+    for k in sorted({0, claim.claimed - 1}):
+        at, worst = 9 * k + 8, claim.worsts[k]
+        far = claim.curves[at]
+        for other in dict.fromkeys((worst + 1, abs(worst - 1), claim.firsts[k], claim.places() - 1, lists.LARGEST_FIRST)):
+            yield claim.but(worsts=put(claim.worsts, k, other))
+        for other in (lists.above(far), -far, far * far, math.nan, math.inf):
+            yield claim.but(curves=put(claim.curves, at, other))
+        wrong = claim.but(curves=put(claim.curves, at, math.nan))
+        yield wrong.but(tolerance=0.0)                                    # D comes first if a mark is off
+        yield wrong.but(params=put(claim.params, claim.firsts[k], 0.5))   # and so does C
+        yield wrong.but(curves=put(wrong.curves, 9 * k + 2, math.inf))    # and B
+        yield wrong.but(firsts=put(claim.firsts, claim.claimed - 1, claim.places()))
+    yield claim.but(claimed=0, curves=[], firsts=[], worsts=[])
 
 
 # ---- lines that are no case
@@ -172,7 +192,9 @@ GOOD = [
     f'de_casteljau3 {HALF} {values(0, 0, 1, 0, 2, 0)}', f'de_casteljau2 {HALF} {TWO}', f'refine {ARCH} {QUERY} {HALF} 3', f'nearest {ARCH} {QUERY}',
     f'direct {HALF} {values(1, 0, -1, 0)} {TWO}', f'source {HALF} {TWO}', f'loop {HALF} {TWO}', f'joined {HALF} {TWO}',
     f'check {HALF} 2 {TWO} 1 0 {values(0, 0, 1.32, 0, 2.64, 0, 4, 0)} {values(0, 1)}', f'ring {HALF} {THREE}',
-    f'check_ring {HALF} 3 {THREE} 1 0 {values(0, 0, 8, 0, 4, 8, 0, 0)} {values(0, 0.25, 0.75, 1)}', f'distance {ARCH} {QUERY} {HALF}', 'blocks 7', 'size 7']
+    f'check_ring {HALF} 3 {THREE} 1 0 {values(0, 0, 8, 0, 4, 8, 0, 0)} {values(0, 0.25, 0.75, 1)}',
+    f'check_worst {HALF} 2 {TWO} 1 0 0 {values(0, 0, 1.32, 0, 2.64, 0, 4, 0, 0)} {values(0, 1)}',
+    f'check_worst_ring {HALF} 3 {THREE} 1 0 1 {values(0, 0, 8, 0, 4, 8, 0, 0, 0)} {values(0, 0.25, 0.75, 1)}', f'distance {ARCH} {QUERY} {HALF}', 'blocks 7', 'size 7']
 
 
 def misspelt(line):
@@ -191,12 +213,19 @@ def misspelt(line):
             yield line.replace(HALF, other, 1)
 
 
-COUNTED = {'check': ('2', TWO, values(0, 1)), 'check_ring': ('3', THREE, values(0, 0, 0, 1))}  # marks and parameters of a well-formed line
+OPEN_LIST, RING_LIST = ('2', TWO, values(0, 1)), ('3', THREE, values(0, 0, 0, 1))  # marks and parameters of a well-formed line
+COUNTED = {'check': (*OPEN_LIST, ARCH), 'check_ring': (*RING_LIST, ARCH)}
+COUNTED.update({'check_worst': (*OPEN_LIST, f'0 {ARCH} {HALF}'), 'check_worst_ring': (*RING_LIST, f'0 {ARCH} {HALF}')})  # behind the first mark the worst one
 
 
 def counted(kind, count=None, curves='1', first='0', params=None):
-    right, marks, times = COUNTED[kind]
-    return f'{kind} {HALF} {right if count is None else count} {marks} {curves} {first} {ARCH} {times if params is None else params}'
+    right, marks, times, curve = COUNTED[kind]
+    return f'{kind} {HALF} {right if count is None else count} {marks} {curves} {first} {curve} {times if params is None else params}'
+
+
+def with_worst(kind, text):
+    """A well-formed line but for its worst mark."""
+    return counted(kind).replace(f' 0 {ARCH}', f' {text} {ARCH}')
 
 
 def miscounted():
@@ -205,8 +234,9 @@ def miscounted():
         yield from [f'coefficients {text} {ARCH}', f'refine {ARCH} {QUERY} {HALF} {text}', f'blocks {text}', f'size {text}']
         for kind in CHECKS:
             yield from [counted(kind, count=text), counted(kind, curves=text), counted(kind, first=text)]
+        yield from [with_worst(kind, text) for kind in CHECKS[2:]]
     for kind in CHECKS:
-        right, marks, _ = COUNTED[kind]
+        right, marks, *_ = COUNTED[kind]
         for text in ('0', '1', '2', '3', '4', '4201', '18446744073709551615'):
             if text != right:
                 yield counted(kind, count=text)
@@ -214,6 +244,8 @@ def miscounted():
                 yield counted(kind, curves=text)
         for text in ('4294967296', '18446744073709551615'):
             yield counted(kind, first=text)
+            if kind in CHECKS[2:]:
+                yield with_worst(kind, text)
         for params in (values(0), values(0, 1), values(0, 0, 1), values(0, 0, 0, 1), values(0, 0, 0, 0, 1)):
             if params != COUNTED[kind][2]:
                 yield counted(kind, params=params)
@@ -289,8 +321,14 @@ def collected_lists(lines):
 
 
 def list_rows(lines):
+    """The collected lists, and the same in the record of nine."""
     for line, has_copies in lines:
-        yield from map(judged, spoilt(line) if has_copies else [line])
+        yield from ((other, lists.line_answer(claim_of(other).answer())) for other in (spoilt(line) if has_copies else [line]))
+    for line, has_copies in lines:
+        claim = claim_of(line)
+        if claim.answer()[0] == PASSED:
+            yield from map(judged, spoilt_record(claim.kept()) if has_copies else [claim.kept()])
+    yield from map(judged, lists.border_ties())
 
 
 def cases(before):
@@ -318,12 +356,21 @@ def hold(lines, rust):
             raise Stop(f'the Rust side takes a line that is no case: {line[:200]!r}', 1)
 
 
+def hold_lists(rows, rust):
+    """The Rust side has a checker of its own, which says the same of every list."""
+    judged_rows = [row for row in rows if row[0].split(' ')[0] in CHECKS]
+    for (line, want), (said, _) in zip(judged_rows, rust.ask([line for line, _ in judged_rows])):
+        if said != want:
+            raise Stop(f'the two checkers differ, {said} and {want}, on: {line[:200]!r}', 1)
+
+
 def make(rust):
     before = kept.read_stdin(NAME).decode('latin-1').split('\n')
     wrong = list(bad())
     end = long_lines() + LAST
     rows = cases(kept.without(before, wrong + [line for line, _ in end]))
     hold(wrong, rust)
+    hold_lists(rows, rust)
     found = mixed(answered(rows, rust), [(line, 'BAD') for line in wrong]) + end
     stdin = '\n'.join(line for line, _ in found).encode('latin-1')
     return kept.Made(NAME, stdin, ''.join(said + '\n' for _, said in found), len(found), len(before), kept.tally(said for _, said in found))

@@ -1,29 +1,31 @@
 """check_cases: lists for the checker, sound ones and damaged copies.
 
-A record is eight words (whether the list is a ring's, how many numbers the marks have, the claimed number of curves, the lengths of the three slices,
-whether copies are damaged, the tolerance), the numbers of marks, curves and parameters, and the first marks. The answers are by the document's rules
-(shared/checker.py). First come both sides of each rule (`borders`), then KEPT lists, which are read from the kept input: `hold` asks the Rust for them
+A record is ten words (whether the list is a ring's, whether a curve has nine numbers, how many numbers the marks have, the claimed number of curves, the lengths of
+the slices of curves, first marks, worst marks and parameters, whether copies are damaged, the tolerance), the numbers of marks, curves and parameters, the first marks
+and the worst marks. The answers are by the document's rules (shared/checker.py). First come both sides of each rule (`borders`), then KEPT lists, which are read from the kept input: `hold` asks the Rust for them
 again, and looks that the answers are what is known of such lists."""
 import math
 
 from shared import kept
-from shared.checker import FAULT_B, PASSED, REFUSED, check, distance
+from shared.checker import EIGHT, FAULT_B, LETTERS, NINE, PASSED, REFUSED, check, distance, kept_for
 from shared.command import Stop
+from shared.ties import CURVE, PARAMS, TIES
 from shared.words import bits, digest_of, number, numbers, patterns_of, word, words
 from vectors import outlines
 
 NAME = 'check_cases'
 KEPT = 293
-HEAD = 8
+HEAD = 10
 LARGEST_FIRST = (1 << 32) - 1
 
 
 class Claim:
-    """A list with what it is claimed to be. Numbers are floats."""
+    """A list with what it is claimed to be. Numbers are floats. Worst marks count where a curve has nine numbers; they may be lent where it has eight, too."""
 
-    def __init__(self, tolerance, marks, claimed, curves, firsts, params, ring=False, damage=False):
+    def __init__(self, tolerance, marks, claimed, curves, firsts, params, ring=False, damage=False, nine=False, worsts=()):
         self.tolerance, self.marks, self.claimed = tolerance, marks, claimed
         self.curves, self.firsts, self.params, self.ring, self.damage = curves, firsts, params, ring, damage
+        self.nine, self.worsts = nine, list(worsts)
 
     def but(self, **other):
         """The same with other things in place of its own."""
@@ -33,7 +35,23 @@ class Claim:
         """What the checker says, with other things in place of the list's own."""
         parts = {**vars(self), **other}
         del parts['damage']
+        if not parts.pop('nine'):
+            parts['worsts'] = None
         return check(**parts)
+
+    def wide(self):
+        """How many numbers a curve has."""
+        return NINE if self.nine else EIGHT
+
+    def rows(self):
+        """The numbers of each curve."""
+        wide = self.wide()
+        return [self.curves[wide * k:wide * k + wide] for k in range(len(self.curves) // wide)]
+
+    def kept(self):
+        """A list of eight numbers a curve in the record of nine, with the worst marks and the distances that belong to it."""
+        worsts, fars = kept_for(self.marks, self.rows(), self.firsts, self.params, self.ring)
+        return self.but(nine=True, worsts=worsts, curves=[value for row, far in zip(self.rows(), fars) for value in row + [far]])
 
     def places(self):
         """How many marks the curves run over: a ring's first one twice."""
@@ -41,28 +59,31 @@ class Claim:
 
     def is_whole(self):
         """Whether the slices are as long as they are claimed to be: a line of replay carries no others."""
-        lengths = len(self.marks) % 2, len(self.curves), len(self.firsts), len(self.params)
-        return lengths == (0, 8 * self.claimed, self.claimed, self.places())
+        lengths = len(self.marks) % 2, len(self.curves), len(self.firsts), len(self.worsts), len(self.params)
+        return lengths == (0, self.wide() * self.claimed, self.claimed, self.claimed * self.nine, self.places())
 
     def line(self):
         """The line of replay."""
-        return check_line(self.ring, *self.parts())
+        return check_line(self.ring, self.nine, *self.parts())
 
     def parts(self):
-        """In patterns: tolerance, marks, curves as pairs of first mark and eight patterns, parameters."""
-        curves = patterns_of(*self.curves)
-        pairs = [(first, curves[8 * k:8 * k + 8]) for k, first in enumerate(self.firsts)]
+        """In patterns: tolerance, marks, curves as pairs of what stands beside a curve (its first mark, and its worst mark in the record of nine) and its patterns,
+        parameters."""
+        beside = list(zip(self.firsts, self.worsts)) if self.nine else [(first,) for first in self.firsts]
+        pairs = list(zip(beside, [patterns_of(*row) for row in self.rows()]))
         return bits(self.tolerance), patterns_of(*self.marks), pairs, patterns_of(*self.params)
 
     def record(self):
-        head = [int(self.ring), len(self.marks), self.claimed, len(self.curves), len(self.firsts), len(self.params), int(self.damage)]
-        return kept.packed(head + patterns_of(self.tolerance, *self.marks, *self.curves, *self.params) + self.firsts)
+        head = [int(self.ring), int(self.nine), len(self.marks), self.claimed]
+        head += [len(part) for part in (self.curves, self.firsts, self.worsts, self.params)] + [int(self.damage)]
+        return kept.packed(head + patterns_of(self.tolerance, *self.marks, *self.curves, *self.params) + self.firsts + self.worsts)
 
 
-def check_line(ring, tolerance, marks, curves, params):
+def check_line(ring, nine, tolerance, marks, curves, params):
     """The line of replay for a list in patterns."""
-    parts = ['check_ring' if ring else 'check', word(tolerance), str(len(marks) // 2)] + [word(mark) for mark in marks] + [str(len(curves))]
-    parts += [f'{first} {words(eight)}' for first, eight in curves]
+    kind = 'check' + '_worst' * nine + '_ring' * ring
+    parts = [kind, word(tolerance), str(len(marks) // 2)] + [word(mark) for mark in marks] + [str(len(curves))]
+    parts += [f'{" ".join(map(str, beside))} {words(row)}' for beside, row in curves]
     return ' '.join(parts + [word(t) for t in params])
 
 
@@ -71,16 +92,16 @@ def line_answer(answer):
     kind, curve, mark = answer
     if kind == PASSED:
         return '0'
-    return str(curve) if kind == REFUSED else f'FAULT {"ABCD"[kind - 1]} {curve} {mark}'
+    return str(curve) if kind == REFUSED else f'FAULT {LETTERS[kind - 1]} {curve} {mark}'
 
 
 def read():
     """The lists of the kept input."""
     source = kept.Words(NAME)
     while source:
-        ring, marks, claimed, curves, firsts, params, damage, tolerance = source.take(HEAD)
+        ring, nine, marks, claimed, curves, firsts, worsts, params, damage, tolerance = source.take(HEAD)
         parts = [numbers(source.take(length)) for length in (marks, curves, params)]
-        yield Claim(number(tolerance), parts[0], claimed, parts[1], source.take(firsts), parts[2], bool(ring), bool(damage))
+        yield Claim(number(tolerance), parts[0], claimed, parts[1], source.take(firsts), parts[2], bool(ring), bool(damage), bool(nine), source.take(worsts))
 
 
 # ---- damaged copies
@@ -97,19 +118,20 @@ def damaged_numbers(claim):
         yield said
 
 
-def damaged_firsts(claim):
-    """Every first mark one up, one down, the last mark, the largest u32, equal to the next one's, and swapped with it."""
-    last = claim.places() - 1
+def damaged_beside(claim):
+    """Every first mark, and behind them every worst mark, one up, one down, the last mark, the largest u32, equal to the next number's, and swapped with it."""
+    last, count = claim.places() - 1, len(claim.firsts)
+    everything = claim.firsts + claim.worsts
     for damage in range(6):
         said = []
-        for place, first in enumerate(claim.firsts):
-            copy = list(claim.firsts)
+        for place, here in enumerate(everything):
+            copy = list(everything)
             after = (place + 1) % len(copy)
             other = copy[after]
             if damage == 5:
-                copy[after] = first
-            copy[place] = ((first + 1) % (1 << 32), (first - 1) % (1 << 32), last, LARGEST_FIRST, other, other)[damage]
-            said.append(claim.answer(firsts=copy))
+                copy[after] = here
+            copy[place] = ((here + 1) % (1 << 32), (here - 1) % (1 << 32), last, LARGEST_FIRST, other, other)[damage]
+            said.append(claim.answer(firsts=copy[:count], worsts=copy[count:]))
         yield said
 
 
@@ -122,8 +144,9 @@ def damaged_shapes(claim):
     counts = (claim.claimed + 1, max(claim.claimed - 1, 0), 0, (1 << 64) - 1, 1 << 61)
     said = [claim.answer(claimed=count) for count in counts]
     said += [claim.answer(marks=shorter(claim.marks, by)) for by in (1, 2)]
-    said += [claim.answer(curves=shorter(claim.curves, by)) for by in (1, 8)]
+    said += [claim.answer(curves=shorter(claim.curves, by)) for by in (1, claim.wide())]
     said.append(claim.answer(firsts=shorter(claim.firsts, 1)))
+    said.append(claim.answer(worsts=shorter(claim.worsts, 1)))
     said.append(claim.answer(params=shorter(claim.params, 1)))
     said.append(claim.answer(tolerance=-claim.tolerance))
     return said
@@ -132,14 +155,14 @@ def damaged_shapes(claim):
 def copies(claim):
     """For each line of the summary the answers on its damaged copies."""
     yield from damaged_numbers(claim)
-    yield from damaged_firsts(claim)
+    yield from damaged_beside(claim)
     yield damaged_shapes(claim)
 
 
 def summary(said):
     """How many copies got each answer, and a digest of all of them in turn."""
     kinds = [kind for kind, _, _ in said]
-    counts = ''.join(f' {kinds.count(kind)}' for kind in range(6))
+    counts = ''.join(f' {kinds.count(kind)}' for kind in range(REFUSED + 1))
     return counts + ' %016x\n' % digest_of(part for answer in said for part in answer)
 
 
@@ -166,9 +189,9 @@ CURVES = straight(MARKS[0:2], MARKS[2:4]) + straight(MARKS[2:4], MARKS[6:8])
 FAR = distance(2.0, 0.0, CURVES[8:], 0.5)
 OPEN = Claim(FAR, MARKS, 2, CURVES, [0, 1], [0.0, 0.0, 0.5, 1.0])
 RING = Claim(FAR, MARKS, 3, CURVES + straight(MARKS[6:8], MARKS[0:2]), [0, 1, 3], [0.0, 0.0, 0.5, 0.0, 1.0], ring=True)
-OUT_OF_TURN = {
-    OPEN: ([0, 0], [1, 2], [0, 2], [0, 3], [0, 4], [2, 1], [0, LARGEST_FIRST]),
-    RING: ([0, 0, 3], [1, 2, 3], [0, 2, 3], [0, 1, 2], [0, 1, 1], [0, 1, 4], [0, 1, 5], [0, 3, 1], [0, 1, LARGEST_FIRST])}
+OUT_OF_TURN = {  # of an outline, and of a ring
+    False: ([0, 0], [1, 2], [0, 2], [0, 3], [0, 4], [2, 1], [0, LARGEST_FIRST]),
+    True: ([0, 0, 3], [1, 2, 3], [0, 2, 3], [0, 1, 2], [0, 1, 1], [0, 1, 4], [0, 1, 5], [0, 3, 1], [0, 1, LARGEST_FIRST])}
 
 
 def below(value):
@@ -180,30 +203,74 @@ def above(value):
 
 
 def border_counts(sound):
-    count, curves, firsts = sound.claimed, sound.curves, sound.firsts
+    count, curves, firsts, worsts = sound.claimed, sound.curves, sound.firsts, sound.worsts
     for claimed in (0, 1, count + 1, count + 2, (1 << 61) - 1, 1 << 61, (1 << 61) + 2, 1 << 63, (1 << 64) - 1):
         yield sound.but(claimed=claimed)
-    yield sound.but(claimed=count + 1, curves=curves + curves[:8], firsts=list(range(count + 1)))  # the most that there can be
-    yield sound.but(claimed=count + 2, curves=curves + curves, firsts=firsts + firsts)
-    yield sound.but(curves=curves + [math.nan], firsts=firsts + [9], params=sound.params + [math.nan])  # more than there are
-    for other in OUT_OF_TURN[sound]:
+    yield sound.but(claimed=count + 1, curves=curves + curves[:sound.wide()], firsts=list(range(count + 1)), worsts=worsts + worsts[:1])  # the most that there can be
+    yield sound.but(claimed=count + 2, curves=curves + curves, firsts=firsts + firsts, worsts=worsts + worsts)
+    yield sound.but(curves=curves + [math.nan], firsts=firsts + [9], params=sound.params + [math.nan], worsts=worsts + [9])  # more than there are
+    for other in OUT_OF_TURN[sound.ring]:
         yield sound.but(firsts=other)
 
 
 def border_numbers(sound):
-    curves, params = sound.curves, sound.params
+    curves, params, wide = sound.curves, sound.params, sound.wide()
     for k in range(sound.claimed):
         for place in (0, 1, 6, 7):  # an end by its sign
-            yield sound.but(curves=put(curves, 8 * k + place, -curves[8 * k + place]))
-    for place in (2, 5, 11):
+            yield sound.but(curves=put(curves, wide * k + place, -curves[wide * k + place]))
+    for place in (2, 5, wide + 3):
         for value in (1e308, -1.7e308, math.inf, math.nan):
             yield sound.but(curves=put(curves, place, value))
-    yield sound.but(curves=put(put(curves, 10, 1.7e308), 12, -1.7e308))
+    yield sound.but(curves=put(put(curves, wide + 2, 1.7e308), wide + 4, -1.7e308))
     for place in range(len(params)):
         for t in (0.0, -0.0, 0.5, 1.0, above(1.0), below(1.0), -5e-324, 5e-324, 2.0, math.nan, math.inf):
             yield sound.but(params=put(params, place, t))
     for place, value in ((0, 1e6), (1, above(1e6)), (6, -above(1e6)), (7, math.nan), (3, math.inf)):
         yield sound.but(marks=put(MARKS, place, value))
+
+
+def border_records(sound):
+    """What a list in the record of nine has besides: the worst marks and the distances."""
+    curves, worsts = sound.curves, sound.worsts
+    for k, worst in enumerate(worsts):
+        for other in (0, worst + 1, worst - 1 if worst else 9, 2, 4, LARGEST_FIRST):
+            yield sound.but(worsts=put(worsts, k, other))
+        at = 9 * k + 8
+        far = curves[at]
+        for other in (above(far), below(far), far * far, -far, math.nan, math.inf, -math.inf, 1e308):
+            yield sound.but(curves=put(curves, at, other))
+            yield sound.but(curves=put(curves, at, other), worsts=put(worsts, k, 9))
+    wrong = sound.but(curves=put(put(curves, 8, math.nan), 17, math.inf), worsts=[9] * len(worsts))
+    yield wrong
+    yield wrong.but(tolerance=below(FAR))                                 # E at curve 0 before D at curve 1
+    late = wrong.but(curves=put(wrong.curves, 8, 0.0), worsts=put(wrong.worsts, 0, 0))
+    yield late
+    yield late.but(tolerance=below(FAR))                                  # D before E in curve 1
+    yield late.but(params=put(sound.params, 2, above(1.0)))               # and C
+    yield late.but(curves=put(late.curves, 9, math.nan))                  # and B
+    yield late.but(firsts=OUT_OF_TURN[sound.ring][0])                     # and A
+    yield sound.but(worsts=worsts[:-1])
+    yield sound.but(curves=curves[:-1])
+    yield sound.but(nine=False)                                           # nine numbers taken for eight
+    flat = OPEN if not sound.ring else RING
+    yield flat.but(nine=True)
+    yield flat.but(nine=True, worsts=worsts)
+    yield flat.but(worsts=[LARGEST_FIRST] * 9)                            # lent with eight numbers a curve, and not looked at
+
+
+def border_ties():
+    """The first of equal squares, and no other."""
+    back = straight(CURVE[6:], CURVE[:2])
+    for marks, worst in TIES:
+        for ring in (False, True):
+            curves, firsts = (CURVE + back, [0, 4]) if ring else (CURVE, [0])
+            params = PARAMS[:4] + [0.0, 1.0] if ring else PARAMS
+            sound = Claim(0.5, marks, len(firsts), curves, firsts, params, ring).kept()
+            if sound.worsts[0] != worst:
+                raise Stop(f'mark {sound.worsts[0]} and not {worst} is the worst of a tie', 1)
+            yield sound
+            for other in range(5):
+                yield sound.but(worsts=put(sound.worsts, 0, other))
 
 
 def border_rings():
@@ -220,7 +287,7 @@ def border_rings():
 
 
 def borders():
-    for sound in (OPEN, RING):
+    for sound in (OPEN, RING, OPEN.kept(), RING.kept()):
         yield sound.but(damage=True)
         for tolerance in (below(FAR), above(FAR), 0.0, -0.0, -5e-324, math.inf, math.nan):
             yield sound.but(tolerance=tolerance)
@@ -228,12 +295,16 @@ def borders():
         yield from border_numbers(sound)
         for length in range(6 if sound.ring else 4):
             yield sound.but(marks=MARKS[:length])
-        yield sound.but(marks=MARKS[:7], curves=[], firsts=[], params=[])  # odd before short
+        yield sound.but(marks=MARKS[:7], curves=[], firsts=[], params=[], worsts=[])  # odd before short
         yield sound.but(tolerance=math.nan, params=sound.params[:-1])  # room before range
         yield sound.but(tolerance=math.nan, claimed=0)  # range before A
-        yield Claim(0.001, [0.0] * 8192, 1, [0.0] * 8, [0], [0.0] + [0.5] * (4094 + sound.ring) + [1.0], sound.ring)
-        yield Claim(0.001, [0.0] * 8194, 1, [], [], [], sound.ring)
+        if sound.nine == sound.ring:
+            yield Claim(0.001, [0.0] * 8192, 1, [0.0] * sound.wide(), [0], [0.0] + [0.5] * (4094 + sound.ring) + [1.0], sound.ring, nine=sound.nine, worsts=[0] * sound.nine)
+            yield Claim(0.001, [0.0] * 8194, 1, [], [], [], sound.ring, nine=sound.nine)
+        if sound.nine:
+            yield from border_records(sound)
     yield from border_rings()
+    yield from border_ties()
 
 
 # ---- what is known of the Rust's lists
@@ -266,11 +337,12 @@ def makers(claim, rust, tangents):
     if not claim.ring:
         tries.append(outlines.taken('direct', tolerance, marks))
         tries.append(outlines.Outline('direct', tolerance, marks, None, tangents.get((tolerance, tuple(marks)))))
-    mine = claim.firsts, patterns_of(*claim.curves), patterns_of(*claim.params)
+    mine = claim.firsts, claim.worsts, patterns_of(*claim.curves), patterns_of(*claim.params)
     found = []
     for fit, (said, _) in zip(tries, rust.ask([fit.line() for fit in tries])):
         lists = outlines.Lists(said)
-        if (lists.firsts(), lists.eights(), lists.params) == mine:
+        beside = (lists.firsts, lists.worsts, lists.nines()) if claim.nine else (lists.firsts, [], lists.eights())
+        if (*beside, lists.params) == mine:
             found.append(fit.kind)
     return found
 

@@ -1,6 +1,6 @@
 """fit_cases: outlines by the five fits.
 
-A record is eleven words (which fit, how many numbers the marks have, the rooms for curves, first marks and parameters, whether lists are
+A record is twelve words (which fit, how many numbers the marks have, the rooms for curves, first marks, worst marks and parameters, whether lists are
 printed, tolerance, tangents) and the marks. A line says 0 and how many curves, or the refusal, and of each lent slice how many places are as
 before, how many are plus zero, and a digest. The lists are the Rust's, 6 is where one of its operations was not finite, and what else is refused,
 and what the slices hold then, is by the document's table. The first KEPT outlines are read from the kept input; both sides of each line of the document
@@ -14,19 +14,21 @@ from shared.table import FITS, fit_refusal
 from shared.words import INFINITY, MINUS, NAN, bits, digest_of, number, numbers, pattern_of, patterns_of, words
 
 NAME = 'fit_cases'
-KEPT = 575
-HEAD = 11
+KEPT = 580
+HEAD = 12
+ROOMS = 4   # lent slices: curves, first marks, worst marks, parameters
 SHORT = 64  # marks of which lists are printed
-BEFORE, BEFORE_FIRST = bits(7.5), 7  # what the lent slices hold
+BEFORE = [bits(7.5), 7, 7, bits(7.5)]  # what the lent slices hold
 NO_TANGENTS = [0] * 4
+NO_ROOM = [0] * ROOMS
 ABOVE = bits(math.nextafter(1e6, math.inf))
 ABOVE_TWO = bits(math.nextafter(2.0, math.inf))
 
 
-def room_for(kind, count, curves=0, firsts=0, params=0):
+def room_for(kind, count, *more):
     """The room that so many marks want, with more or less of each. A ring has a curve and a parameter more."""
     most = count if kind == 'ring' else count - 1
-    return [8 * most + curves, most + firsts, most + 1 + params]
+    return [want + extra for want, extra in zip([9 * most, most, most, most + 1], more or NO_ROOM)]
 
 
 class Outline:
@@ -59,7 +61,8 @@ def read():
     source = kept.Words(NAME)
     while source:
         kind, length, *rest = source.take(HEAD)
-        yield Outline(FITS[kind], rest[4], source.take(length), rest[:3], rest[5:], bool(rest[3]))
+        room, (lists, tolerance, *tangents) = rest[:ROOMS], rest[ROOMS:]
+        yield Outline(FITS[kind], tolerance, source.take(length), room, tangents, bool(lists))
 
 
 # ---- both sides of each line of the document
@@ -109,21 +112,24 @@ def few_marks(kind):
     yield taken(kind, THOUSANDTH, LINE_OF_THREE)
     yield taken(kind, THOUSANDTH, LINE_OF_TWO)
     yield taken(kind, THOUSANDTH, ON_ONE_SPOT[:4])
-    yield Outline(kind, THOUSANDTH, ON_ONE_SPOT, room_for(kind, 3, 8, 1, 1))
-    for room in ([0, 0, 0], [16, 3, 4]):
+    yield Outline(kind, THOUSANDTH, ON_ONE_SPOT, room_for(kind, 3, 9, 1, 1, 1))
+    for room in (NO_ROOM, [18, 3, 3, 4]):
         yield Outline(kind, THOUSANDTH, [], room)
         yield Outline(kind, THOUSANDTH, patterns_of(1, 2), room)
     for length in (1, 3, 9):
-        yield Outline(kind, THOUSANDTH, patterns_of(*range(length)), [64, 8, 9])
-    yield Outline(kind, THOUSANDTH, patterns_of(*range(5)), [0, 0, 0])
+        yield Outline(kind, THOUSANDTH, patterns_of(*range(length)), [72, 8, 8, 9])
+    yield Outline(kind, THOUSANDTH, patterns_of(*range(5)), NO_ROOM)
+
+
+ONE_SHORT = [[-(place == i) for i in range(ROOMS)] for place in range(ROOMS)]  # each slice in turn
 
 
 def rooms(kind, arc):
     yield taken(kind, THOUSANDTH, arc(9))
-    yield taken(kind, THOUSANDTH, arc(9), room_for(kind, 9, 1, 1, 1))
-    for less in ((-1, 0, 0), (-8, 0, 0), (0, -1, 0), (0, 0, -1), (-8, -1, -1)):
+    yield taken(kind, THOUSANDTH, arc(9), room_for(kind, 9, 1, 1, 1, 1))
+    for less in (*ONE_SHORT, (-8, 0, 0, 0), (-9, -1, -1, -1)):  # eight numbers a curve are too few
         yield Outline(kind, THOUSANDTH, arc(9), room_for(kind, 9, *less))
-    yield Outline(kind, THOUSANDTH, arc(2), [0, 0, 1])
+    yield Outline(kind, THOUSANDTH, arc(2), [0, 0, 0, 1])
 
 
 def ranges(kind, arc):
@@ -141,8 +147,8 @@ def ranges(kind, arc):
 
 def orders(kind, arc):
     """Two refusals at once."""
-    yield Outline(kind, NAN, [NAN, 0], [0, 0, 0])
-    yield Outline(kind, NAN, arc(3), [0, 0, 0])
+    yield Outline(kind, NAN, [NAN, 0], NO_ROOM)
+    yield Outline(kind, NAN, arc(3), NO_ROOM)
     yield Outline(kind, NAN, ON_ONE_SPOT)
 
 
@@ -155,8 +161,8 @@ def rings(arc):
     """What a ring alone has: one mark less is too few, the room is for one curve more, and the last mark may be the first."""
     for count in (1, 2):
         yield Outline('ring', THOUSANDTH, arc(3)[:2 * count])
-        yield Outline('ring', NAN, arc(3)[:2 * count], [0, 0, 0])
-    for less in ((-1, 0, 0), (0, -1, 0), (0, 0, -1), (0, 0, 0)):
+        yield Outline('ring', NAN, arc(3)[:2 * count], NO_ROOM)
+    for less in (*ONE_SHORT, NO_ROOM):
         yield Outline('ring', THOUSANDTH, arc(3), room_for('ring', 3, *less))
     for count in (3, 4, 198):
         yield Outline('ring', THOUSANDTH, arc(count))
@@ -167,10 +173,10 @@ def rings(arc):
         yield Outline('ring', THOUSANDTH, ON_ONE_SPOT[:2] * count)
     for count in (4095, 4096):
         yield Outline('ring', 0, saw(count))
-    for less in ((-1, 0, 0), (0, -1, 0), (0, 0, -1)):
+    for less in ONE_SHORT:
         yield Outline('ring', THOUSANDTH, arc(200), room_for('ring', 200, *less))
     yield Outline('ring', THOUSANDTH, saw(4097), room_for('ring', 4096))
-    yield Outline('ring', NAN, [NAN] + saw(4097)[1:], [0, 0, 0])
+    yield Outline('ring', NAN, [NAN] + saw(4097)[1:], NO_ROOM)
 
 
 def meetings():
@@ -194,7 +200,7 @@ def borders(arc):
         yield Outline('direct', THOUSANDTH, arc(5), None, tangents)
     yield Outline('source', THOUSANDTH, arc(4097))
     yield Outline('direct', THOUSANDTH, arc(513))
-    yield Outline('direct', NAN, arc(513), [0, 0, 0])
+    yield Outline('direct', NAN, arc(513), NO_ROOM)
     for kind in ('source', 'loop', 'joined', 'ring'):
         for count in (199, 200, 201, 249, 250, 400):
             yield taken(kind, THOUSANDTH, arc(count))
@@ -210,19 +216,26 @@ def kept_borders():
 # ---- answers
 
 class Lists:
-    """What an accepted fit gives, from its line of answer: curves as pairs of first mark and eight patterns, and a parameter for every mark."""
+    """What an accepted fit gives, from its line of answer: curves as pairs of first mark and nine patterns, their worst marks, and a parameter for every mark."""
 
     def __init__(self, said):
         count, rest = int(said.split(' ')[1]), said.split(' ')[2:]
-        nines = [rest[9 * k:9 * k + 9] for k in range(count)]
-        self.curves = [(int(nine[0]), [pattern_of(word) for word in nine[1:]]) for nine in nines]
-        self.params = [pattern_of(word) for word in rest[9 * count:]]
+        rows = [rest[11 * k:11 * k + 11] for k in range(count)]
+        self.firsts, self.worsts = [int(row[0]) for row in rows], [int(row[1]) for row in rows]
+        self.curves = [(first, [pattern_of(word) for word in row[2:]]) for first, row in zip(self.firsts, rows)]
+        self.params = [pattern_of(word) for word in rest[11 * count:]]
+
+    def nines(self):
+        return [pattern for _, nine in self.curves for pattern in nine]
 
     def eights(self):
-        return [pattern for _, eight in self.curves for pattern in eight]
+        """The curves' own numbers."""
+        return [pattern for _, nine in self.curves for pattern in nine[:8]]
 
-    def firsts(self):
-        return [first for first, _ in self.curves]
+    def text(self):
+        """A line for each curve, its first mark, its worst mark and nine numbers, and one of the parameters."""
+        lines = [f'{first} {worst} {words(nine).lower()}\n' for (first, nine), worst in zip(self.curves, self.worsts)]
+        return ''.join(lines) + f' {words(self.params).lower()}\n'
 
 
 def state(lent, before):
@@ -236,18 +249,16 @@ def written(lent, new):
 
 def text(outline, said):
     """What the program has to write."""
-    curves, firsts, params = outline.room
-    lent = [[BEFORE] * curves, [BEFORE_FIRST] * firsts, [BEFORE] * params]
+    lent = [[before] * length for before, length in zip(BEFORE, outline.room)]
     more = ''
     if said in ('6', '7'):
         lent = [[0] * length for length in outline.room]
     if said.startswith('0 '):
         lists = Lists(said)
         said = f'0 {len(lists.curves)}'
-        lent = [written(part, new) for part, new in zip(lent, (lists.eights(), lists.firsts(), lists.params))]
-        if outline.lists:
-            more = ''.join(f'{first} {words(eight).lower()}\n' for first, eight in lists.curves) + f' {words(lists.params).lower()}\n'
-    return said + state(lent[0], BEFORE) + state(lent[1], BEFORE_FIRST) + state(lent[2], BEFORE) + '\n' + more
+        lent = [written(part, new) for part, new in zip(lent, (lists.nines(), lists.firsts, lists.worsts, lists.params))]
+        more = lists.text() if outline.lists else ''
+    return said + ''.join(map(state, lent, BEFORE)) + '\n' + more
 
 
 def answers(outlines, rust):

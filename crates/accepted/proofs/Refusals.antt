@@ -22,7 +22,9 @@ use Rattle.ring.specs.Ring.{again}
 use Rattle.ring.specs.declared.Outline.{Outline}
 use Rattle.ring.specs.declared.Outline.the-variants.{Open}
 use Rattle.ring.proofs.Whole.{whole-even}
-use Rattle.gate.specs.Gate.{inRange, tolerable, refuse, gateFor, gateOf}
+use Rattle.form.specs.declared.Form.{Form}
+use Rattle.form.specs.declared.Form.the-variants.{Nine}
+use Rattle.gate.specs.Gate.{inRange, tolerable, refuse, roomFor, gateFor, gateOf}
 use Rattle.gate.proofs.Tests.{passed, passed-even}
 use Rattle.tangents.specs.declared.Cutting.{Cutting}
 use Rattle.blocks.specs.Blocks.{blockAt, blockOf, lastOf, blocks, blocksFrom, blocksOf}
@@ -36,7 +38,7 @@ use Rattle.accepted.proofs.Within.{block-count}
 
 abbrev Stopped : Run → Type 0
 Stopped (refused q) = Stops q
-Stopped (done cs fs ps) = Unit {0}
+Stopped (done cs bs ps) = Unit {0}
 
 join-stops : (k : ℕ) (R R′ : Run) → Stopped R → Stopped R′ → Stopped (join k R R′)
 join-stops k (refused q) R′ a b = a
@@ -44,7 +46,7 @@ join-stops k (done c f p) (refused q) a b = b
 join-stops k (done c f p) (done c′ f′ p′) a b = tt
 
 run-stops : (ms : List Float) (first : ℕ) (s e : Point) (tol : Float) → 2 ≤ count ms → Stopped (runOf ms first s e tol)
-run-stops = run-ind (λ ms first R. Stopped R) (λ ms first c ps h sd. tt) (λ ms first q s. s) (λ ms first k R R′ i j a b. join-stops k R R′ a b)
+run-stops = run-ind (λ ms first R. Stopped R) (λ ms first c w ps h sd. tt) (λ ms first q s. s) (λ ms first k R R′ i j a b. join-stops k R R′ a b)
 
 module _ (k : Cutting) (ms : List Float) (n size : ℕ) (tol : Float) (even : length ms ≡ 2 * n) (two : 2 ≤ size) where
   block-stops : (from to : ℕ) → from + 2 ≤ to → to ≤ n → Stopped (blockOf k ms n tol from to)
@@ -80,75 +82,74 @@ one-of : (b : Bool) (q n : ℕ) → q ≤ 5 → n ≤ 5 → refuse b q n ≤ 5
 one-of true q n h l = h
 one-of false q n h l = l
 
-gate-most : (top : ℕ) (o : Outline) (k : ℕ) (ms : List Float) (tol : Float) (c f p : ℕ) → gateFor top o k ms tol c f p ≤ 5
+gate-most : (top : ℕ) (o : Outline) (form : Form) (k : ℕ) (ms : List Float) (tol : Float) (c f w p : ℕ) → gateFor top o form k ms tol c f w p ≤ 5
 unfolding gateFor
-gate-most top o k ms tol c f p =
+gate-most top o form k ms tol c f w p =
     one-of (not (eqb (length ms % 2) 0)) 3 _ (omega arith)
     (one-of (ltb (count ms) (again o + 2)) 1 _ (omega arith)
     (one-of (ltb top (count ms)) 2 _ (omega arith)
-    (one-of (ltb c (8 * k)) 4 _ (omega arith)
-    (one-of (ltb f k) 4 _ (omega arith)
+    (one-of (not (roomFor form k c f w)) 4 _ (omega arith)
     (one-of (ltb p (again o + count ms)) 4 _ (omega arith)
     (one-of (not (inRange ms)) 5 _ (omega arith)
-    (one-of (not (tolerable tol)) 5 0 (omega arith) (omega arith))))))))
+    (one-of (not (tolerable tol)) 5 0 (omega arith) (omega arith)))))))
 
-cubic-most : (ms : List Float) (s e : Point) (tol : Float) (c f p : ℕ) → cubicGate ms s e tol c f p ≤ 5
+cubic-most : (ms : List Float) (s e : Point) (tol : Float) (c f w p : ℕ) → cubicGate ms s e tol c f w p ≤ 5
 unfolding cubicGate
-cubic-most ms s e tol c f p = go (eqb (gateOf 512 Open ms tol c f p) 0)
+cubic-most ms s e tol c f w p = go (eqb (gateOf 512 Open ms tol c f w p) 0)
   where
-    go : (b : Bool) → cond b (refuse (not (areTangents s e)) 5 0) (gateOf 512 Open ms tol c f p) ≤ 5
+    go : (b : Bool) → cond b (refuse (not (areTangents s e)) 5 0) (gateOf 512 Open ms tol c f w p) ≤ 5
     go true = one-of (not (areTangents s e)) 5 0 (omega arith) (omega arith)
-    go false = gate-most 512 Open (0 + count ms - 1) ms tol c f p
+    go false = gate-most 512 Open Nine (0 + count ms - 1) ms tol c f w p
 
 -- ---- a call that is refused
 
-module _ (q g : ℕ) (R : Run) (C C′ : List Float) (F F′ : List ℕ) (P P′ : List Float) where
-  before : g ≤ 5 → (g ≡ 0 → ⊥) → ending (no q) C′ F′ P′ ≡ ending (no g) C F P → Before q C C′ F F′ P P′
+module _ (q g : ℕ) (R : Run) (C C′ : List Float) (F F′ W W′ : List ℕ) (P P′ : List Float) where
+  before : g ≤ 5 → (g ≡ 0 → ⊥) → ending (no q) C′ F′ W′ P′ ≡ ending (no g) C F W P → Before q C C′ F F′ W W′ P P′
   before l z h =
       let a : _≡_ {A = Answer ℕ} (no q) (no g) = ap (λ (x : Ending). x .answer) h in
       let e : q ≡ g = cc in
       let n : (q ≡ 0 → ⊥) = λ y. z (let w : g ≡ 0 = omega arith in w) in
-      record { least = above q n; most = omega arith; curves = ap (λ (x : Ending). x .curves) h; firsts = ap (λ (x : Ending). x .firsts) h; params = ap (λ (x : Ending). x .params) h }
+      record { least = above q n; most = omega arith; curves = ap (λ (x : Ending). x .curves) h; firsts = ap (λ (x : Ending). x .firsts) h; worsts = ap (λ (x : Ending). x .worsts) h; params = ap (λ (x : Ending). x .params) h }
     where
       above : (q : ℕ) → (q ≡ 0 → ⊥) → 1 ≤ q
       above zero n = absurd (n refl)
       above (suc q) n = omega arith
 
-  inside : (R : Run) → Stopped R → ending (no q) C′ F′ P′ ≡ ended R C F P → Inside q C C′ F F′ P P′
-  inside (done cs fs ps) s h = let a : _≡_ {A = Answer ℕ} (no q) (ok (length fs)) = ap (λ (x : Ending). x .answer) h in let y : _≡_ {A = ℕ} 0 1 = cc in absurd (omega arith)
+  inside : (R : Run) → Stopped R → ending (no q) C′ F′ W′ P′ ≡ ended R C F W P → Inside q C C′ F F′ W W′ P P′
+  inside (done cs bs ps) s h = let a : _≡_ {A = Answer ℕ} (no q) (ok (length bs)) = ap (λ (x : Ending). x .answer) h in let y : _≡_ {A = ℕ} 0 1 = cc in absurd (omega arith)
   inside (refused r) s h =
       let a : _≡_ {A = Answer ℕ} (no q) (no r) = ap (λ (x : Ending). x .answer) h in
       let e : q ≡ r = cc in
-      record { least = omega arith; most = omega arith; curves = ap (λ (x : Ending). x .curves) h; firsts = ap (λ (x : Ending). x .firsts) h; params = ap (λ (x : Ending). x .params) h }
+      record { least = omega arith; most = omega arith; curves = ap (λ (x : Ending). x .curves) h; firsts = ap (λ (x : Ending). x .firsts) h; worsts = ap (λ (x : Ending). x .worsts) h; params = ap (λ (x : Ending). x .params) h }
 
-  refuses : g ≤ 5 → (g ≡ 0 → Stopped R) → ending (no q) C′ F′ P′ ≡ entered g R C F P → Before q C C′ F F′ P P′ ⊎ Inside q C C′ F F′ P P′
+  refuses : g ≤ 5 → (g ≡ 0 → Stopped R) → ending (no q) C′ F′ W′ P′ ≡ entered g R C F W P → Before q C C′ F F′ W W′ P P′ ⊎ Inside q C C′ F F′ W W′ P P′
   refuses l s h = go (eqb g 0) refl h
     where
-      go : (b : Bool) → eqb g 0 ≡ b → ending (no q) C′ F′ P′ ≡ cond b (ended R C F P) (ending (no g) C F P) → Before q C C′ F F′ P P′ ⊎ Inside q C C′ F F′ P P′
+      go : (b : Bool) → eqb g 0 ≡ b → ending (no q) C′ F′ W′ P′ ≡ cond b (ended R C F W P) (ending (no g) C F W P) → Before q C C′ F F′ W W′ P P′ ⊎ Inside q C C′ F F′ W W′ P P′
       go true e h = inr (inside R (s (eqb-true g 0 e)) h)
       go false e h = inl (before l (eqb-false g 0 e) h)
 
 pub fit-refuses : FitRefuses
 unfolding fittedAnswer fitOf blocksOf
-fit-refuses k ms tol q C C′ F F′ P P′ h =
-    refuses q g (blocksOf k ws (blockSize (count ws)) tol) C C′ F F′ P P′ (gate-most 4096 (outlineOf k) (again (outlineOf k) + count ms - 1) ms tol (length C) (length F) (length P)) stops h
+fit-refuses k ms tol q C C′ F F′ W W′ P P′ h =
+    refuses q g (blocksOf k ws (blockSize (count ws)) tol) C C′ F F′ W W′ P P′ (gate-most 4096 (outlineOf k) Nine (again (outlineOf k) + count ms - 1) ms tol (length C) (length F) (length W) (length P)) stops h
   where
     ws : List Float
     ws = marksOf k ms
 
     g : ℕ
-    g = gateOf 4096 (outlineOf k) ms tol (length C) (length F) (length P)
+    g = gateOf 4096 (outlineOf k) ms tol (length C) (length F) (length W) (length P)
 
     stops : g ≡ 0 → Stopped (blocksOf k ws (blockSize (count ws)) tol)
     stops z =
-        let e = whole-even (outlineOf k) ms (passed-even (passed 4096 (outlineOf k) ms tol (length C) (length F) (length P) z)) in
+        let e = whole-even (outlineOf k) ms (passed-even (passed 4096 (outlineOf k) ms tol (length C) (length F) (length W) (length P) z)) in
         let even : length ws ≡ 2 * count ws = omega (arith, e) in
         blocks-stop k ws (count ws) (blockSize (count ws)) tol even (size-within (count ws) (blockSize (count ws)) refl .0) (e .1)
 
 pub direct-refuses : DirectRefuses
 unfolding fittedAnswer cubicOf
-direct-refuses ms s e tol q C C′ F F′ P P′ h =
-    refuses q g (runOf ms 0 s e tol) C C′ F F′ P P′ (cubic-most ms s e tol (length C) (length F) (length P)) (λ z. run-stops ms 0 s e tol (let p = cubic-passed ms s e tol (length C) (length F) (length P) g refl z .two in omega arith)) h
+direct-refuses ms s e tol q C C′ F F′ W W′ P P′ h =
+    refuses q g (runOf ms 0 s e tol) C C′ F F′ W W′ P P′ (cubic-most ms s e tol (length C) (length F) (length W) (length P)) (λ z. run-stops ms 0 s e tol (let p = cubic-passed ms s e tol (length C) (length F) (length W) (length P) g refl z .two in omega arith)) h
   where
     g : ℕ
-    g = cubicGate ms s e tol (length C) (length F) (length P)
+    g = cubicGate ms s e tol (length C) (length F) (length W) (length P)

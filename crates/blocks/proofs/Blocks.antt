@@ -14,7 +14,8 @@ use Rattle.float.specs.Answer.{refused as no}
 use Rattle.float.specs.Slices.{written}
 use Rattle.plane.specs.declared.Point.{Point}
 use Rattle.marks.specs.Marks.{count}
-use Rattle.cut.specs.Run.{Run, refused, done, join, turned, runOf}
+use Rattle.form.specs.Form.{recordNumbers}
+use Rattle.cut.specs.Run.{Run, refused, done, Beside, join, turned, runOf}
 use Rattle.tangents.specs.declared.Ways.{Ways}
 use Rattle.tangents.specs.declared.Turn.{Turn}
 use Rattle.tangents.specs.declared.Turn.the-variants as turn
@@ -64,34 +65,34 @@ module _ (k : Cutting) (ms : List Float) (n size : ℕ) (tol : Float) where
       go zero e = absurd (omega arith)
       go (suc d) e = ap (join size (blockOf k ms n tol from (from + (size + over k)))) (blocks-fuel d n (from + size) z (omega arith) (omega arith) (omega arith))
 
-  -- ---- one block: fewer curves than marks, eight numbers for each, and a parameter for each mark
+  -- ---- one block: fewer curves than marks, nine numbers for each, and a parameter for each mark
 
-  pub block-sized : (from to : ℕ) (cs : List Float) (fs : List ℕ) (p : List Float) → length ms ≡ 2 * n → from + 2 ≤ to → to ≤ n → blockOf k ms n tol from to ≡ done cs fs p → Sizes (to - from) cs fs p
-  block-sized from to cs fs p e h l q = go (outcome (waysOf k ms n from to)) q
+  pub block-sized : (from to : ℕ) (cs : List Float) (bs : List Beside) (p : List Float) → length ms ≡ 2 * n → from + 2 ≤ to → to ≤ n → blockOf k ms n tol from to ≡ done cs bs p → Sizes (to - from) cs bs p
+  block-sized from to cs bs p e h l q = go (outcome (waysOf k ms n from to)) q
     where
       many : count (blockAt ms from to) ≡ to - from
       many = simp (length-take, length-drop) (omega arith)
 
-      go : (w : Answer Ways) → turned w (λ w. runOf (blockAt ms from to) from (w .start) (w .end) tol) ≡ done cs fs p → Sizes (to - from) cs fs p
+      go : (w : Answer Ways) → turned w (λ w. runOf (blockAt ms from to) from (w .start) (w .end) tol) ≡ done cs bs p → Sizes (to - from) cs bs p
       go (ok w) q =
-          let z = sizes (blockAt ms from to) from (w .start) (w .end) tol cs fs p (omega (arith, many)) q in
+          let z = sizes (blockAt ms from to) from (w .start) (w .end) tol cs bs p (omega (arith, many)) q in
           (z .0, omega (arith, many, z .1), z .2, z .3 ∙ many)
       go (no i) q = let z : _≡_ {A = ℕ} 0 1 = cc in absurd (omega arith)
 
 -- ---- fit_block's returns
 
-pub block-room : (ms : List Float) (n from to : ℕ) (C : List Float) (F : List ℕ) (P : List Float) → length ms ≡ 2 * n → (from + 2 ≤ to) × (to ≤ n) × (n ≤ 65536)
-    → (to ≡ from + length P) × (length P ≤ 201) × (8 * length P ≤ length C + 8) × (length P ≤ length F + 1) → Room (blockAt ms from to) from C F P
-block-room ms n from to C F P e h l =
+pub block-room : (ms : List Float) (n from to : ℕ) (C : List Float) (F W : List ℕ) (P : List Float) → length ms ≡ 2 * n → (from + 2 ≤ to) × (to ≤ n) × (n ≤ 65536)
+    → (to ≡ from + length P) × (length P ≤ 201) × (recordNumbers * length P ≤ length C + recordNumbers) × (length P ≤ length F + 1) × (length P ≤ length W + 1) → Room (blockAt ms from to) from C F W P
+block-room ms n from to C F W P e h l =
     let m : length (blockAt ms from to) ≡ 2 * to - 2 * from = simp (length-take, length-drop) (omega arith) in
-    record { even = omega arith; two = omega arith; near = omega arith; curves = omega arith; firsts = omega arith }
+    record { even = omega arith; two = omega arith; near = omega arith; curves = omega arith; firsts = omega arith; worsts = omega arith }
 
 -- a run over one list of marks is that over another, where the two are equal
-pub same-marks : (ms ws : List Float) (first : ℕ) (s e : Point) (tol : Float) (r : Fitted) (C C₁ : List Float) (F F₁ : List ℕ) (p : List Float) → ms ≡ ws → Left (runOf ms first s e tol) r C C₁ F F₁ p → Left (runOf ws first s e tol) r C C₁ F F₁ p
-same-marks ms ws first s e tol r C C₁ F F₁ p h ran = subst (λ (l : List Float). Left (runOf l first s e tol) r C C₁ F F₁ p) h ran
+pub same-marks : (ms ws : List Float) (first : ℕ) (s e : Point) (tol : Float) (r : Fitted) (C C₁ : List Float) (F F₁ W W₁ : List ℕ) (p : List Float) → ms ≡ ws → Left (runOf ms first s e tol) r C C₁ F F₁ W W₁ p → Left (runOf ws first s e tol) r C C₁ F F₁ W W₁ p
+same-marks ms ws first s e tol r C C₁ F F₁ W W₁ p h ran = subst (λ (l : List Float). Left (runOf l first s e tol) r C C₁ F F₁ W W₁ p) h ran
 
-pub same-room : (ms ws : List Float) (first : ℕ) (C : List Float) (F : List ℕ) (P : List Float) → ms ≡ ws → Room ms first C F P → Room ws first C F P
-same-room ms ws first C F P h room = subst (λ (l : List Float). Room l first C F P) h room
+pub same-room : (ms ws : List Float) (first : ℕ) (C : List Float) (F W : List ℕ) (P : List Float) → ms ≡ ws → Room ms first C F W P → Room ws first C F W P
+same-room ms ws first C F W P h room = subst (λ (l : List Float). Room l first C F W P) h room
 
 -- the marks of a block that were all given, and of one that mark 0 ends
 module _ (ms : List Float) (from to : ℕ) (even : Even ms) (l : from ≤ to) where
@@ -112,27 +113,27 @@ pub block-as-closed : (k : Cutting) (ms : List Float) (n from to : ℕ) → leng
 block-as-closed k ms n from to e h l = part-as-closed (outlineOf k) ms (2 * from) (2 * to) (omega arith) (omega (arith, e))
 
 module _ (k : Cutting) (ms : List Float) (n : ℕ) (tol : Float) (from to : ℕ) (w : Turn) (h : turnAnswer w ≡ outcome (waysOf k ms n from to)) where
-  pub block-lost : w ≡ turn.Lost → (C C₁ : List Float) (F F₁ : List ℕ) (p : List Float) → Left (blockOf k ms n tol from to) (Refused 6) C C₁ F F₁ p
-  block-lost e C C₁ F F₁ p = rw (ways-lost w (outcome (waysOf k ms n from to)) h e) refl
+  pub block-lost : w ≡ turn.Lost → (C C₁ : List Float) (F F₁ W W₁ : List ℕ) (p : List Float) → Left (blockOf k ms n tol from to) (Refused 6) C C₁ F F₁ W W₁ p
+  block-lost e C C₁ F F₁ W W₁ p = rw (ways-lost w (outcome (waysOf k ms n from to)) h e) refl
 
-  pub block-ran : (T : Ways) → w ≡ turn.At T → (r : Fitted) (C C₁ : List Float) (F F₁ : List ℕ) (p : List Float)
-      → Left (runOf (blockAt ms from to) from (T .start) (T .end) tol) r C C₁ F F₁ p → Left (blockOf k ms n tol from to) r C C₁ F F₁ p
-  block-ran T e r C C₁ F F₁ p ran = rw (ways-are w (outcome (waysOf k ms n from to)) T h e) ran
+  pub block-ran : (T : Ways) → w ≡ turn.At T → (r : Fitted) (C C₁ : List Float) (F F₁ W W₁ : List ℕ) (p : List Float)
+      → Left (runOf (blockAt ms from to) from (T .start) (T .end) tol) r C C₁ F F₁ W W₁ p → Left (blockOf k ms n tol from to) r C C₁ F F₁ W W₁ p
+  block-ran T e r C C₁ F F₁ W W₁ p ran = rw (ways-are w (outcome (waysOf k ms n from to)) T h e) ran
 
 -- ---- what has been written stands before the rest of the run
 
-abbrev pub prepend : List Float → List ℕ → List Float → Run → Run
-prepend c f p (refused q) = refused q
-prepend c f p (done c′ f′ p′) = done (c ++ c′) (f ++ f′) (p ++ p′)
+abbrev pub prepend : List Float → List Beside → List Float → Run → Run
+prepend c b p (refused q) = refused q
+prepend c b p (done c′ b′ p′) = done (c ++ c′) (b ++ b′) (p ++ p′)
 
-pub join-prepend : (k : ℕ) (c : List Float) (f : List ℕ) (p : List Float) (R : Run) → join k (done c f p) R ≡ prepend c f (take k p) R
-join-prepend k c f p (refused q) = refl
-join-prepend k c f p (done c′ f′ p′) = refl
+pub join-prepend : (k : ℕ) (c : List Float) (b : List Beside) (p : List Float) (R : Run) → join k (done c b p) R ≡ prepend c b (take k p) R
+join-prepend k c b p (refused q) = refl
+join-prepend k c b p (done c′ b′ p′) = refl
 
-pub prepend-twice : (c c′ : List Float) (f f′ : List ℕ) (p p′ : List Float) (R : Run) → prepend c f p (prepend c′ f′ p′ R) ≡ prepend (c ++ c′) (f ++ f′) (p ++ p′) R
-prepend-twice c c′ f f′ p p′ (refused q) = refl
-prepend-twice c c′ f f′ p p′ (done c″ f″ p″) = rw (← append-assoc c c′ c″, ← append-assoc f f′ f″, ← append-assoc p p′ p″)
+pub prepend-twice : (c c′ : List Float) (b b′ : List Beside) (p p′ : List Float) (R : Run) → prepend c b p (prepend c′ b′ p′ R) ≡ prepend (c ++ c′) (b ++ b′) (p ++ p′) R
+prepend-twice c c′ b b′ p p′ (refused q) = refl
+prepend-twice c c′ b b′ p p′ (done c″ b″ p″) = rw (← append-assoc c c′ c″, ← append-assoc b b′ b″, ← append-assoc p p′ p″)
 
 pub prepend-none : (R : Run) → R ≡ prepend [] [] [] R
 prepend-none (refused q) = refl
-prepend-none (done c f p) = refl
+prepend-none (done c b p) = refl

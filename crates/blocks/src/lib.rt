@@ -4,6 +4,7 @@ ghost use mathlib.Core.Path.{_≡_};
 ghost use Prim.Native.Nat.{_+_, _*_, _≤_};
 ghost use lib.ListN.{length, drop};
 ghost use Rattle.marks.specs.Marks.{count};
+ghost use Rattle.form.specs.Form.{recordNumbers};
 ghost use Rattle.ring.specs.Ring.{whole, Even};
 ghost use Rattle.ring.specs.declared.Outline.the-variants as outline;
 ghost use Rattle.tangents.specs.Ways.{marksOf};
@@ -12,6 +13,7 @@ ghost use Rattle.cut.specs.Lent.{Left, Room};
 ghost use Rattle.blocks.specs.Blocks.{blockAt, blockOf, blocksOf};
 use cut::Fitted;
 use float::refusal::NOT_FINITE;
+use form::RECORD_NUMBERS;
 use plane::Point;
 use tangents::Cutting;
 use tangents::Turn;
@@ -32,11 +34,12 @@ fn fit_round(
     tolerance: f64,
     curves: &mut [f64],
     firsts: &mut [u32],
+    worsts: &mut [u32],
     params: &mut [f64],
 ) -> Fitted
     requires { ⌜ Even (now marks) × ((from + length (now params) ≡ 1 + count (now marks)) × (length (now params) ≤ 201)) ⌝ }
-    requires { ⌜ Room (drop (2 * from) (whole outline.Closed (now marks))) from (now curves) (now firsts) (now params) ⌝ }
-    ensures { λ r. ⌜ Left (runOf (drop (2 * from) (whole outline.Closed (now (marks .entry)))) from start end tolerance) r (now (curves .entry)) (now (curves .exit)) (now (firsts .entry)) (now (firsts .exit)) (now (params .exit)) ⌝ }
+    requires { ⌜ Room (drop (2 * from) (whole outline.Closed (now marks))) from (now curves) (now firsts) (now worsts) (now params) ⌝ }
+    ensures { λ r. ⌜ Left (runOf (drop (2 * from) (whole outline.Closed (now (marks .entry)))) from start end tolerance) r (now (curves .entry)) (now (curves .exit)) (now (firsts .entry)) (now (firsts .exit)) (now (worsts .entry)) (now (worsts .exit)) (now (params .exit)) ⌝ }
 {
     let mut round = block_room();
     ring::lay_round(marks, from, &mut round);
@@ -49,6 +52,7 @@ fn fit_round(
         tolerance,
         curves,
         firsts,
+        worsts,
         params,
     )
 }
@@ -63,16 +67,27 @@ fn fit_marks(
     tolerance: f64,
     curves: &mut [f64],
     firsts: &mut [u32],
+    worsts: &mut [u32],
     params: &mut [f64],
 ) -> Fitted
     requires { ⌜ Even (now marks) × ((to ≤ 1 + count (now marks)) × ((to ≡ from + length (now params)) × (length (now params) ≤ 201))) ⌝ }
-    requires { ⌜ Room (blockAt (whole outline.Closed (now marks)) from to) from (now curves) (now firsts) (now params) ⌝ }
-    ensures { λ r. ⌜ Left (runOf (blockAt (whole outline.Closed (now (marks .entry))) from to) from start end tolerance) r (now (curves .entry)) (now (curves .exit)) (now (firsts .entry)) (now (firsts .exit)) (now (params .exit)) ⌝ }
+    requires { ⌜ Room (blockAt (whole outline.Closed (now marks)) from to) from (now curves) (now firsts) (now worsts) (now params) ⌝ }
+    ensures { λ r. ⌜ Left (runOf (blockAt (whole outline.Closed (now (marks .entry))) from to) from start end tolerance) r (now (curves .entry)) (now (curves .exit)) (now (firsts .entry)) (now (firsts .exit)) (now (worsts .entry)) (now (worsts .exit)) (now (params .exit)) ⌝ }
 {
     let head = 2 * from;
     let tail = 2 * to;
     if marks.len() < tail {
-        return fit_round(marks, from, start, end, tolerance, curves, firsts, params);
+        return fit_round(
+            marks,
+            from,
+            start,
+            end,
+            tolerance,
+            curves,
+            firsts,
+            worsts,
+            params,
+        );
     }
     cut::fit_part(
         &marks[head..tail],
@@ -82,6 +97,7 @@ fn fit_marks(
         tolerance,
         curves,
         firsts,
+        worsts,
         params,
     )
 }
@@ -96,12 +112,13 @@ fn fit_block(
     tolerance: f64,
     curves: &mut [f64],
     firsts: &mut [u32],
+    worsts: &mut [u32],
     params: &mut [f64],
 ) -> Fitted
     requires { ⌜ length (marksOf cutting (now marks)) ≡ 2 * n ⌝ }
     requires { ⌜ (from + 2 ≤ to) × (to ≤ n) × (n ≤ 65536) ⌝ }
-    requires { ⌜ (to ≡ from + length (now params)) × (length (now params) ≤ 201) × (8 * length (now params) ≤ length (now curves) + 8) × (length (now params) ≤ length (now firsts) + 1) ⌝ }
-    ensures { λ r. ⌜ Left (blockOf cutting (marksOf cutting (now (marks .entry))) n tolerance from to) r (now (curves .entry)) (now (curves .exit)) (now (firsts .entry)) (now (firsts .exit)) (now (params .exit)) ⌝ }
+    requires { ⌜ (to ≡ from + length (now params)) × (length (now params) ≤ 201) × (recordNumbers * length (now params) ≤ length (now curves) + recordNumbers) × (length (now params) ≤ length (now firsts) + 1) × (length (now params) ≤ length (now worsts) + 1) ⌝ }
+    ensures { λ r. ⌜ Left (blockOf cutting (marksOf cutting (now (marks .entry))) n tolerance from to) r (now (curves .entry)) (now (curves .exit)) (now (firsts .entry)) (now (firsts .exit)) (now (worsts .entry)) (now (worsts .exit)) (now (params .exit)) ⌝ }
 {
     let Turn::At(ways) = tangents::ways_of(cutting, marks, n, from, to) else {
         return Fitted::Refused(NOT_FINITE);
@@ -117,6 +134,7 @@ fn fit_block(
         tolerance,
         curves,
         firsts,
+        worsts,
         params,
     )
 }
@@ -129,11 +147,12 @@ pub fn fit_blocks(
     tolerance: f64,
     curves: &mut [f64],
     firsts: &mut [u32],
+    worsts: &mut [u32],
     params: &mut [f64],
 ) -> Fitted
-    requires { ⌜ Room (marksOf cutting (now marks)) 0 (now curves) (now firsts) (now params) ⌝ }
+    requires { ⌜ Room (marksOf cutting (now marks)) 0 (now curves) (now firsts) (now worsts) (now params) ⌝ }
     requires { ⌜ (2 ≤ size) × (size ≤ 200) ⌝ }
-    ensures { λ r. ⌜ Left (blocksOf cutting (marksOf cutting (now (marks .entry))) size tolerance) r (now (curves .entry)) (now (curves .exit)) (now (firsts .entry)) (now (firsts .exit)) (now (params .exit)) ⌝ }
+    ensures { λ r. ⌜ Left (blocksOf cutting (marksOf cutting (now (marks .entry))) size tolerance) r (now (curves .entry)) (now (curves .exit)) (now (firsts .entry)) (now (firsts .exit)) (now (worsts .entry)) (now (worsts .exit)) (now (params .exit)) ⌝ }
 {
     let n = params.len();
     let whole = size + tangents::shared(cutting);
@@ -141,7 +160,7 @@ pub fn fit_blocks(
     let mut made = 0;
     while whole < n - from {
         let to = from + whole;
-        let behind = 8 * made;
+        let behind = RECORD_NUMBERS * made;
         let out = fit_block(
             cutting,
             marks,
@@ -151,6 +170,7 @@ pub fn fit_blocks(
             tolerance,
             &mut curves[behind..],
             &mut firsts[made..],
+            &mut worsts[made..],
             &mut params[from..to],
         );
         let Fitted::Curves(k) = out else {
@@ -163,7 +183,7 @@ pub fn fit_blocks(
         params[from] = 0.0;
         return Fitted::Curves(made);
     }
-    let behind = 8 * made;
+    let behind = RECORD_NUMBERS * made;
     let out = fit_block(
         cutting,
         marks,
@@ -173,6 +193,7 @@ pub fn fit_blocks(
         tolerance,
         &mut curves[behind..],
         &mut firsts[made..],
+        &mut worsts[made..],
         &mut params[from..],
     );
     let Fitted::Curves(k) = out else {

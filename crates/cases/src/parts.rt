@@ -19,7 +19,7 @@ pub fn front_words(xs: &[u64], n: usize) -> &[u64] {
     xs
 }
 
-// The first n first marks.
+// The first n marks' numbers.
 pub fn front_firsts(xs: &[u32], n: usize) -> &[u32] {
     let from: usize = 0;
     if n <= xs.len() {
@@ -55,7 +55,7 @@ pub fn lent_words(xs: &mut [u64], n: usize) -> &mut [u64] {
     xs
 }
 
-// The first n first marks, lent.
+// The first n marks' numbers, lent.
 pub fn lent_firsts(xs: &mut [u32], n: usize) -> &mut [u32] {
     let from: usize = 0;
     if n <= xs.len() {
@@ -77,6 +77,14 @@ pub fn lent_bytes(xs: &mut [u8], n: usize) -> &mut [u8] {
 pub fn floats_at(xs: &[f64], from: usize, n: usize) -> &[f64] {
     if from <= xs.len() {
         return front_floats(&xs[from..], n);
+    }
+    xs
+}
+
+// The n marks' numbers from `from` on.
+pub fn firsts_at(xs: &[u32], from: usize, n: usize) -> &[u32] {
+    if from <= xs.len() {
+        return front_firsts(&xs[from..], n);
     }
     xs
 }

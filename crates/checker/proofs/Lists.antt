@@ -10,6 +10,7 @@ use lib.Ieee.{Float}
 use borrow.Author.Tests.{eq-eqb, ne-eqb}
 use Rattle.float.specs.Answer.{Answer, ok, refused}
 use Rattle.marks.specs.Marks.{count}
+use Rattle.form.specs.declared.Form.{Form}
 use Rattle.ring.specs.Ring.{again, whole, Even}
 use Rattle.ring.specs.declared.Outline.{Outline}
 use Rattle.ring.proofs.Whole.{whole-count, whole-even}
@@ -22,9 +23,9 @@ use Rattle.checker.specs.Inner.{Listed}
 use Rattle.checker.proofs.Checked.{the-type}
 use Rattle.checker.proofs.Turns.{passed-is, other-is, turn-next, turn-stop}
 
-module _ (ms : List Float) (tol : Float) (k : ℕ) (cs : List Float) (fs : List ℕ) (ps : List Float) where
+module _ (form : Form) (ms : List Float) (tol : Float) (k : ℕ) (cs : List Float) (fs ws : List ℕ) (ps : List Float) where
   abbrev steps : ℕ → Verdict
-  steps = curveChecked ms tol k cs fs ps
+  steps = curveChecked form ms tol k cs fs ws ps
 
   -- the first j curves have no fault
   abbrev pub Faultless : ℕ → Type 0
@@ -46,16 +47,16 @@ module _ (ms : List Float) (tol : Float) (k : ℕ) (cs : List Float) (fs : List 
         sym (rw n at (inv .1))
 
 -- ---- the whole list, after a gate that gave g
-module _ (o : Outline) (ms : List Float) (tol : Float) (k : ℕ) (cs : List Float) (fs : List ℕ) (ps : List Float) (g : ℕ) (is : g ≡ gateFor 4096 o k ms tol (length cs) (length fs) (length ps)) where
-  pub by-gate : (g ≡ 0 → ⊥) → refused g ≡ checkOf o ms tol k cs fs ps
+module _ (o : Outline) (form : Form) (ms : List Float) (tol : Float) (k : ℕ) (cs : List Float) (fs ws : List ℕ) (ps : List Float) (g : ℕ) (is : g ≡ gateFor 4096 o form k ms tol (length cs) (length fs) (length ws) (length ps)) where
+  pub by-gate : (g ≡ 0 → ⊥) → refused g ≡ checkOf o form ms tol k cs fs ws ps
   unfolding checkOf
   by-gate n = rw (← is, ne-eqb g 0 n)
 
   module _ (z : g ≡ 0) where
-    pub gate-passed : PassedFor 4096 o k ms tol (length cs) (length fs) (length ps)
-    gate-passed = passed-for 4096 o k ms tol (length cs) (length fs) (length ps) (sym is ∙ z)
+    pub gate-passed : PassedFor 4096 o form k ms tol (length cs) (length fs) (length ws) (length ps)
+    gate-passed = passed-for 4096 o form k ms tol (length cs) (length fs) (length ws) (length ps) (sym is ∙ z)
 
-    through : checkOf o ms tol k cs fs ps ≡ ok (listChecked (whole o ms) tol k cs fs ps)
+    through : checkOf o form ms tol k cs fs ws ps ≡ ok (listChecked form (whole o ms) tol k cs fs ws ps)
     unfolding checkOf
     through = rw (← is, eq-eqb g 0 z)
 
@@ -66,20 +67,20 @@ module _ (o : Outline) (ms : List Float) (tol : Float) (k : ℕ) (cs : List Floa
       firsts : checkedAnswer r ≡ ok (listed (count (whole o ms)) k fs)
       firsts = a ∙ ap (λ (m : ℕ). ok (listed m k fs)) (all ∙ sym (whole-count o ms even))
 
-      pub by-firsts : OneOf (1 ∷ 2 ∷ []) (tagOf the-type r) → checkedAnswer r ≡ checkOf o ms tol k cs fs ps
+      pub by-firsts : OneOf (1 ∷ 2 ∷ []) (tagOf the-type r) → checkedAnswer r ≡ checkOf o form ms tol k cs fs ws ps
       unfolding listChecked
       by-firsts other =
           let f = other-is r firsts other in
           firsts ∙ sym (through ∙ rw (f .1))
 
       module _ (p : r ≡ Passed) where
-        pub held : Listed (whole o ms) k cs fs ps
+        pub held : Listed form (whole o ms) k cs fs ws ps
         held =
             let h = gate-passed in
             let w = whole-count o ms even in
             let room = h .params in
-            record { even = whole-even o ms even .0; curves = h .curves; firsts = h .firsts; params = omega arith; rising = passed-is firsts p }
+            record { even = whole-even o ms even .0; curves = h .curves; firsts = h .firsts; worsts = h .worsts; params = omega arith; rising = passed-is firsts p }
 
-        pub by-curves : {b : Answer Verdict} → b ≡ ok (inTurn k (steps (whole o ms) tol k cs fs ps)) → b ≡ checkOf o ms tol k cs fs ps
+        pub by-curves : {b : Answer Verdict} → b ≡ ok (inTurn k (steps form (whole o ms) tol k cs fs ws ps)) → b ≡ checkOf o form ms tol k cs fs ws ps
         unfolding listChecked
         by-curves e = e ∙ sym (through ∙ rw (passed-is firsts p))

@@ -1,5 +1,5 @@
--- The list checker: A over the whole list; then, curve by curve, B and, mark by mark, C and D. The first fault is the answer.
--- What each test asks (rises: A; runs: B; timed: C; near: D) is `Tests` in `faults`. Definitions only.
+-- The list checker: A over the whole list; then, curve by curve, B, mark by mark C and D, and E. The first fault is the answer.
+-- What each test asks (rises: A; runs: B; timed: C; near: D; kept: E) is `Tests` in `faults`. Definitions only.
 use Prim.Native.Nat.{ℕ, zero, suc, _+_, _-_}
 use mathlib.Core.Bool.{Bool, true, false, _&&_, cond}
 use mathlib.Core.List.{List}
@@ -8,13 +8,14 @@ use lib.Dec.{leb, ltb, eqb}
 use lib.Ieee.{Float, nan}
 use Rattle.float.specs.Answer.{Answer, ok, refused}
 use Rattle.marks.specs.Marks.{count, markAt}
+use Rattle.form.specs.declared.Form.{Form}
 use Rattle.ring.specs.Ring.{whole}
 use Rattle.ring.specs.declared.Outline.{Outline}
 use Rattle.gate.specs.Gate.{gateFor}
-use Rattle.faults.specs.Tests.{firstAt, curveAt, lastAt, stopAt, rises, runs, timed, near}
+use Rattle.faults.specs.Tests.{firstAt, curveAt, lastAt, stopAt, rises, runs, timed, near, farthest, kept}
 use Rattle.checker.specs.declared.Place.{Place}
 use Rattle.checker.specs.declared.Fault.{Fault}
-use Rattle.checker.specs.declared.Fault.the-variants.{A, B, C, D}
+use Rattle.checker.specs.declared.Fault.the-variants.{A, B, C, D, E}
 use Rattle.checker.specs.declared.Checked.{Checked}
 use Rattle.checker.specs.declared.Checked.the-variants as checked
 
@@ -55,28 +56,33 @@ inTurn (suc n) f = inTurn n f then f n
 unfoldable pub listed : ℕ → ℕ → List ℕ → Verdict
 listed n k fs = must (A (place 0 0)) (leb 1 k && ltb k n) then inTurn k (λ j. must (A (place j 0)) (rises n fs j))
 
--- ---- B, then C and D, then the whole
+-- ---- B, then C and D, then E, then the whole
 
-module _ (ms : List Float) (tol : Float) (k : ℕ) (cs : List Float) (fs : List ℕ) (ps : List Float) where
+module _ (form : Form) (ms : List Float) (tol : Float) (k : ℕ) (cs : List Float) (fs ws : List ℕ) (ps : List Float) where
   -- C and D of mark i under curve j
   unfoldable pub markChecked : ℕ → ℕ → Verdict
   markChecked j i =
-      must (C (place j i)) (timed (count ms) (firstAt fs j) i (getD ps i nan)) then must (D (place j i)) (near tol (markAt ms i) (curveAt cs j) (getD ps i nan))
+      must (C (place j i)) (timed (count ms) (firstAt fs j) i (getD ps i nan)) then must (D (place j i)) (near tol (markAt ms i) (curveAt form cs j) (getD ps i nan))
 
-  -- B of curve j, then its marks
+  -- how many marks are measured under curve j
+  abbrev pub under : ℕ → ℕ
+  under j = stopAt (count ms) k fs j - firstAt fs j
+
+  -- B of curve j, then its marks, then what is kept of them
   unfoldable pub curveChecked : ℕ → Verdict
   curveChecked j =
-      must (B (place j (firstAt fs j))) (runs (curveAt cs j) (markAt ms (firstAt fs j)) (markAt ms (lastAt (count ms) k fs j)))
-      then inTurn (stopAt (count ms) k fs j - firstAt fs j) (λ i. markChecked j (firstAt fs j + i))
+      must (B (place j (firstAt fs j))) (runs (curveAt form cs j) (markAt ms (firstAt fs j)) (markAt ms (lastAt (count ms) k fs j)))
+      then inTurn (under j) (λ i. markChecked j (firstAt fs j + i))
+      then must (E (place j (firstAt fs j))) (kept form cs ws j (farthest ms (curveAt form cs j) ps (firstAt fs j) (under j)))
 
   -- A, then every curve
   unfoldable pub listChecked : Verdict
   listChecked = listed (count ms) k fs then inTurn k curveChecked
 
 -- 3, 1, 2 of more than 4,096 marks given, 4, 5; else the verdict over the marks that the outline runs over
-unfoldable pub checkOf : Outline → List Float → Float → ℕ → List Float → List ℕ → List Float → Answer Verdict
-checkOf o ms tol k cs fs ps =
+unfoldable pub checkOf : Outline → Form → List Float → Float → ℕ → List Float → List ℕ → List ℕ → List Float → Answer Verdict
+checkOf o form ms tol k cs fs ws ps =
     cond
-    (eqb (gateFor 4096 o k ms tol (length cs) (length fs) (length ps)) 0)
-    (ok (listChecked (whole o ms) tol k cs fs ps))
-    (refused (gateFor 4096 o k ms tol (length cs) (length fs) (length ps)))
+    (eqb (gateFor 4096 o form k ms tol (length cs) (length fs) (length ws) (length ps)) 0)
+    (ok (listChecked form (whole o ms) tol k cs fs ws ps))
+    (refused (gateFor 4096 o form k ms tol (length cs) (length fs) (length ws) (length ps)))

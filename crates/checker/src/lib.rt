@@ -5,10 +5,16 @@ ghost use lib.ListN.{length, drop};
 ghost use Rattle.float.specs.Answer.{ok};
 ghost use Rattle.ring.specs.Ring.{whole};
 ghost use Rattle.ring.specs.declared.Outline.the-variants as outlines;
+ghost use mathlib.Core.List.{[]};
+ghost use Rattle.form.specs.Form.{width, worstsFor};
+ghost use Rattle.form.specs.declared.Form.the-variants as forms;
+ghost use Rattle.faults.specs.Tests.{squareAt, unmeasured};
 ghost use Rattle.checker.specs.Check.{checkedAnswer, place, inTurn, listed, curveChecked, checkOf};
-ghost use Rattle.checker.specs.Inner.{underChecked, Under, Listed};
+ghost use Rattle.checker.specs.Inner.{underChecked, walked, keptChecked, Under, Listed};
+use form::Form;
 use plane::Curve;
 use ring::Outline;
+use stages::Worst;
 
 // The most marks that are taken.
 const MOST: usize = 4096;
@@ -19,12 +25,14 @@ pub struct Place {
     pub mark: usize,
 }
 
-// What can be wrong with a list: the count or the first marks (A), a curve's numbers or ends (B), a parameter (C), a distance (D).
+// What can be wrong with a list: the count or the first marks (A), a curve's numbers or ends (B), a parameter (C), a distance (D), what is kept of the
+// distances (E).
 pub enum Fault {
     A(Place),
     B(Place),
     C(Place),
     D(Place),
+    E(Place),
 }
 
 // Passed, the first fault, or a refusal.
@@ -32,6 +40,12 @@ pub enum Checked {
     Passed,
     Faulty(Fault),
     Refused(u32),
+}
+
+// The farthest mark of those walked over, with the square of its distance, or the first fault.
+enum Walked {
+    Far(Worst),
+    Stopped(Fault),
 }
 
 // ---- faults, each made in one place
@@ -48,16 +62,22 @@ fn fault_b(curve: usize, mark: usize) -> Checked
     Checked::Faulty(Fault::B(Place { curve, mark }))
 }
 
-fn fault_c(curve: usize, mark: usize) -> Checked
-    ensures { λ r. ⌜ r ≡ Checked.Faulty (Fault.C (place curve mark)) ⌝ }
+fn fault_c(curve: usize, mark: usize) -> Walked
+    ensures { λ r. ⌜ r ≡ Walked.Stopped (Fault.C (place curve mark)) ⌝ }
 {
-    Checked::Faulty(Fault::C(Place { curve, mark }))
+    Walked::Stopped(Fault::C(Place { curve, mark }))
 }
 
-fn fault_d(curve: usize, mark: usize) -> Checked
-    ensures { λ r. ⌜ r ≡ Checked.Faulty (Fault.D (place curve mark)) ⌝ }
+fn fault_d(curve: usize, mark: usize) -> Walked
+    ensures { λ r. ⌜ r ≡ Walked.Stopped (Fault.D (place curve mark)) ⌝ }
 {
-    Checked::Faulty(Fault::D(Place { curve, mark }))
+    Walked::Stopped(Fault::D(Place { curve, mark }))
+}
+
+fn fault_e(curve: usize, mark: usize) -> Checked
+    ensures { λ r. ⌜ r ≡ Checked.Faulty (Fault.E (place curve mark)) ⌝ }
+{
+    Checked::Faulty(Fault::E(Place { curve, mark }))
 }
 
 // ---- A: the first marks
@@ -86,7 +106,8 @@ fn check_firsts(firsts: &[u32], n: usize, count: usize) -> Checked
 
 // ---- C and D: the marks under a curve
 
-// C and D, mark by mark, over a part of the marks under curve j, whose first mark is `first` of n. The part begins at mark `from`.
+// C and D, mark by mark, over a part of the marks under curve j, whose first mark is `first` of n. The part begins at mark `from`, and `before` is the
+// farthest mark before it.
 fn check_marks(
     under: &[f64],
     params: &[f64],
@@ -96,10 +117,12 @@ fn check_marks(
     from: usize,
     c: Curve,
     tolerance: f64,
-) -> Checked
+    before: Worst,
+) -> Walked
     requires { ⌜ (length (now under) ≡ 2 * length (now params)) × (from + length (now params) ≤ n) ⌝ }
-    ensures { λ r. ⌜ checkedAnswer r ≡ ok (inTurn (length (now (params .entry))) (underChecked tolerance n j first from c (now (under .entry)) (now (params .entry)))) ⌝ }
+    ensures { λ r. ⌜ r ≡ walked (length (now (params .entry))) (underChecked tolerance n j first from c (now (under .entry)) (now (params .entry))) before (squareAt (now (under .entry)) c (now (params .entry))) from ⌝ }
 {
+    let mut far = before;
     let mut i = 0;
     while i < params.len() {
         let t = params[i];
@@ -107,12 +130,14 @@ fn check_marks(
         if !faults::is_timed(n, first, mark, t) {
             return fault_c(j, mark);
         }
-        if !faults::is_near(under, c, i, t, tolerance) {
+        let square = stages::error_at(under, c, i, t);
+        if !faults::is_near(square, tolerance) {
             return fault_d(j, mark);
         }
+        far = stages::larger(far, square, mark);
         i += 1;
     }
-    Checked::Passed
+    Walked::Far(far)
 }
 
 // C and D over all marks under curve j, from mark `first` up to mark `stop`. Mark 0, where it counts again, has a walk of its own, so that no slice is
@@ -126,14 +151,28 @@ fn check_under(
     stop: usize,
     c: Curve,
     tolerance: f64,
-) -> Checked
+) -> Walked
     requires { ⌜ Under (now marks) (now params) n first stop ⌝ }
-    ensures { λ r. ⌜ checkedAnswer r ≡ ok (inTurn (stop - first) (underChecked tolerance n j first first c (drop (2 * first) (whole outlines.Closed (now (marks .entry)))) (drop first (now (params .entry))))) ⌝ }
+    ensures { λ r. ⌜ r ≡ walked (stop - first) (underChecked tolerance n j first first c (drop (2 * first) (whole outlines.Closed (now (marks .entry)))) (drop first (now (params .entry)))) (unmeasured first) (squareAt (drop (2 * first) (whole outlines.Closed (now (marks .entry)))) c (drop first (now (params .entry)))) first ⌝ }
 {
     let given = marks.len() / 2;
+    let none = Worst {
+        err: 0.0,
+        at: first,
+    };
     if stop <= given {
         let all = faults::marks_under(marks, first, stop);
-        return check_marks(all, &params[first..stop], n, j, first, first, c, tolerance);
+        return check_marks(
+            all,
+            &params[first..stop],
+            n,
+            j,
+            first,
+            first,
+            c,
+            tolerance,
+            none,
+        );
     }
     let most = faults::marks_under(marks, first, given);
     let walked = check_marks(
@@ -145,34 +184,72 @@ fn check_under(
         first,
         c,
         tolerance,
+        none,
     );
-    let Checked::Passed = walked else {
+    let Walked::Far(far) = walked else {
         return walked;
     };
     let last = stop - 1;
     let again = faults::marks_under(marks, last - given, stop - given);
-    check_marks(again, &params[last..stop], n, j, first, last, c, tolerance)
+    check_marks(
+        again,
+        &params[last..stop],
+        n,
+        j,
+        first,
+        last,
+        c,
+        tolerance,
+        far,
+    )
+}
+
+// ---- E: what is kept of the marks under a curve
+
+// E of curve j, whose first mark is `first`, after the walk over its marks.
+fn check_kept(
+    walked: Walked,
+    form: Form,
+    curves: &[f64],
+    worsts: &[u32],
+    j: usize,
+    first: usize,
+) -> Checked
+    requires { ⌜ (width form * j + width form ≤ length (now curves)) × (worstsFor form (j + 1) ≤ length (now worsts)) ⌝ }
+    ensures { λ r. ⌜ checkedAnswer r ≡ ok (keptChecked form (now (curves .entry)) (now (worsts .entry)) j first walked) ⌝ }
+{
+    match walked {
+        Walked::Stopped(fault) => Checked::Faulty(fault),
+        Walked::Far(far) => {
+            if faults::is_kept(form, curves, worsts, j, far) {
+                return Checked::Passed;
+            }
+            fault_e(j, first)
+        }
+    }
 }
 
 // ---- the whole
 
-// B of curve j, then C and D of the marks under it.
+// B of curve j, then C and D of the marks under it, then E.
 fn check_curve(
     outline: Outline,
+    form: Form,
     marks: &[f64],
     tolerance: f64,
     count: usize,
     curves: &[f64],
     firsts: &[u32],
+    worsts: &[u32],
     params: &[f64],
     j: usize,
 ) -> Checked
-    requires { ⌜ (j < «count») × Listed (whole outline (now marks)) «count» (now curves) (now firsts) (now params) ⌝ }
-    ensures { λ r. ⌜ checkedAnswer r ≡ ok (curveChecked (whole outline (now (marks .entry))) tolerance «count» (now (curves .entry)) (now (firsts .entry)) (now (params .entry)) j) ⌝ }
+    requires { ⌜ (j < «count») × Listed form (whole outline (now marks)) «count» (now curves) (now firsts) (now worsts) (now params) ⌝ }
+    ensures { λ r. ⌜ checkedAnswer r ≡ ok (curveChecked form (whole outline (now (marks .entry))) tolerance «count» (now (curves .entry)) (now (firsts .entry)) (now (worsts .entry)) (now (params .entry)) j) ⌝ }
 {
     let given = marks.len() / 2;
     let n = ring::again(outline) + given;
-    let c = faults::curve_at(curves, j);
+    let c = faults::curve_at(form, curves, j);
     let first = faults::first_at(firsts, j);
     let last = faults::last_at(firsts, n, count, j);
     let p = marks::mark_at(marks, first);
@@ -181,25 +258,39 @@ fn check_curve(
         return fault_b(j, first);
     }
     let stop = faults::stop_at(firsts, n, count, j);
-    check_under(marks, params, n, j, first, stop, c, tolerance)
+    let walked = check_under(marks, params, n, j, first, stop, c, tolerance);
+    check_kept(walked, form, curves, worsts, j, first)
 }
 
 // Curve by curve.
 fn check_curves(
     outline: Outline,
+    form: Form,
     marks: &[f64],
     tolerance: f64,
     count: usize,
     curves: &[f64],
     firsts: &[u32],
+    worsts: &[u32],
     params: &[f64],
 ) -> Checked
-    requires { ⌜ Listed (whole outline (now marks)) «count» (now curves) (now firsts) (now params) ⌝ }
-    ensures { λ r. ⌜ checkedAnswer r ≡ ok (inTurn «count» (curveChecked (whole outline (now (marks .entry))) tolerance «count» (now (curves .entry)) (now (firsts .entry)) (now (params .entry)))) ⌝ }
+    requires { ⌜ Listed form (whole outline (now marks)) «count» (now curves) (now firsts) (now worsts) (now params) ⌝ }
+    ensures { λ r. ⌜ checkedAnswer r ≡ ok (inTurn «count» (curveChecked form (whole outline (now (marks .entry))) tolerance «count» (now (curves .entry)) (now (firsts .entry)) (now (worsts .entry)) (now (params .entry)))) ⌝ }
 {
     let mut j = 0;
     while j < count {
-        let one = check_curve(outline, marks, tolerance, count, curves, firsts, params, j);
+        let one = check_curve(
+            outline,
+            form,
+            marks,
+            tolerance,
+            count,
+            curves,
+            firsts,
+            worsts,
+            params,
+            j,
+        );
         let Checked::Passed = one else {
             return one;
         };
@@ -209,26 +300,30 @@ fn check_curves(
 }
 
 // Whether `count` curves are a sound list for the marks of an outline and this tolerance, or the first fault, with its curve's number and its mark's: the gate,
-// then A, then curve by curve.
+// then A, then curve by curve. A list of eight numbers a curve keeps no worst marks, and none are looked at.
 pub fn check(
     outline: Outline,
+    form: Form,
     marks: &[f64],
     tolerance: f64,
     count: usize,
     curves: &[f64],
     firsts: &[u32],
+    worsts: &[u32],
     params: &[f64],
 ) -> Checked
-    ensures { λ r. ⌜ checkedAnswer r ≡ checkOf outline (now (marks .entry)) tolerance «count» (now (curves .entry)) (now (firsts .entry)) (now (params .entry)) ⌝ }
+    ensures { λ r. ⌜ checkedAnswer r ≡ checkOf outline form (now (marks .entry)) tolerance «count» (now (curves .entry)) (now (firsts .entry)) (now (worsts .entry)) (now (params .entry)) ⌝ }
 {
     let refusal = gate::gate_for(
         outline,
+        form,
         marks,
         tolerance,
         MOST,
         count,
         curves.len(),
         firsts.len(),
+        worsts.len(),
         params.len(),
     );
     if refusal != 0 {
@@ -239,10 +334,20 @@ pub fn check(
     let Checked::Passed = risen else {
         return risen;
     };
-    check_curves(outline, marks, tolerance, count, curves, firsts, params)
+    check_curves(
+        outline,
+        form,
+        marks,
+        tolerance,
+        count,
+        curves,
+        firsts,
+        worsts,
+        params,
+    )
 }
 
-// The same for an open outline, from its first mark to its last.
+// The same for a list of eight numbers a curve over an open outline, from its first mark to its last.
 pub fn check_list(
     marks: &[f64],
     tolerance: f64,
@@ -251,15 +356,17 @@ pub fn check_list(
     firsts: &[u32],
     params: &[f64],
 ) -> Checked
-    ensures { λ r. ⌜ checkedAnswer r ≡ checkOf outlines.Open (now (marks .entry)) tolerance «count» (now (curves .entry)) (now (firsts .entry)) (now (params .entry)) ⌝ }
+    ensures { λ r. ⌜ checkedAnswer r ≡ checkOf outlines.Open forms.Eight (now (marks .entry)) tolerance «count» (now (curves .entry)) (now (firsts .entry)) [] (now (params .entry)) ⌝ }
 {
     check(
         Outline::Open,
+        Form::Eight,
         marks,
         tolerance,
         count,
         curves,
         firsts,
+        &[],
         params,
     )
 }
@@ -273,15 +380,67 @@ pub fn check_ring(
     firsts: &[u32],
     params: &[f64],
 ) -> Checked
-    ensures { λ r. ⌜ checkedAnswer r ≡ checkOf outlines.Closed (now (marks .entry)) tolerance «count» (now (curves .entry)) (now (firsts .entry)) (now (params .entry)) ⌝ }
+    ensures { λ r. ⌜ checkedAnswer r ≡ checkOf outlines.Closed forms.Eight (now (marks .entry)) tolerance «count» (now (curves .entry)) (now (firsts .entry)) [] (now (params .entry)) ⌝ }
 {
     check(
         Outline::Closed,
+        Form::Eight,
         marks,
         tolerance,
         count,
         curves,
         firsts,
+        &[],
+        params,
+    )
+}
+
+// For records of nine numbers, with the number of each curve's worst mark, over an open outline.
+pub fn check_worst(
+    marks: &[f64],
+    tolerance: f64,
+    count: usize,
+    curves: &[f64],
+    firsts: &[u32],
+    worsts: &[u32],
+    params: &[f64],
+) -> Checked
+    ensures { λ r. ⌜ checkedAnswer r ≡ checkOf outlines.Open forms.Nine (now (marks .entry)) tolerance «count» (now (curves .entry)) (now (firsts .entry)) (now (worsts .entry)) (now (params .entry)) ⌝ }
+{
+    check(
+        Outline::Open,
+        Form::Nine,
+        marks,
+        tolerance,
+        count,
+        curves,
+        firsts,
+        worsts,
+        params,
+    )
+}
+
+// The same for a closed outline.
+pub fn check_worst_ring(
+    marks: &[f64],
+    tolerance: f64,
+    count: usize,
+    curves: &[f64],
+    firsts: &[u32],
+    worsts: &[u32],
+    params: &[f64],
+) -> Checked
+    ensures { λ r. ⌜ checkedAnswer r ≡ checkOf outlines.Closed forms.Nine (now (marks .entry)) tolerance «count» (now (curves .entry)) (now (firsts .entry)) (now (worsts .entry)) (now (params .entry)) ⌝ }
+{
+    check(
+        Outline::Closed,
+        Form::Nine,
+        marks,
+        tolerance,
+        count,
+        curves,
+        firsts,
+        worsts,
         params,
     )
 }

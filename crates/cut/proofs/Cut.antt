@@ -2,8 +2,8 @@
 use Prim.Native.Nat.{ℕ, _+_, _-_, _*_, _≤_, _<_}
 use native.Mathlib.Omega.{arith}
 use mathlib.Core.Path.{_≡_, refl, sym, ap, _∙_}
-use mathlib.Core.List.{List, [], _∷_, _++_}
-use lib.ListN.{length, take, drop, set, length-append, length-take, length-drop}
+use mathlib.Core.List.{List, [], _∷_, _++_, map, map-append}
+use lib.ListN.{length, take, drop, set, length-append, length-take, length-drop, length-map}
 use lib.Seq.{take-all}
 use lib.Ieee.{Float}
 use Rattle.float.specs.Answer.{Answer, ok, outcome}
@@ -11,15 +11,16 @@ use Rattle.float.specs.Answer.{refused as no}
 use Rattle.float.specs.Slices.{written}
 use Rattle.float.proofs.Slices.{written-behind, params-join, part-length, front-length}
 use Rattle.plane.specs.declared.Point.{Point}
-use Rattle.plane.specs.declared.Curve.{Curve}
 use Rattle.marks.specs.Marks.{count}
+use Rattle.form.specs.Form.{recordNumbers}
 use Rattle.part.specs.Part.{Part, fits, cuts, fails, partOf}
 use Rattle.part.specs.Answers.{Did}
+use Rattle.part.specs.declared.Solved.{Solved}
 use Rattle.part.specs.declared.Tried.{Tried}
 use Rattle.part.specs.declared.Tried.the-variants.{Good, Cut}
 use Rattle.part.specs.declared.Tried.the-variants.{Refused as TRefused}
 use Rattle.part.proofs.Ends.{Sound, part-sound}
-use Rattle.cut.specs.Run.{Run, refused, done, flat, leftOf, rightOf, join, runOf, cutOf}
+use Rattle.cut.specs.Run.{Run, refused, done, Beside, firstsOf, worstsOf, flat, leftOf, rightOf, join, runOf, cutOf}
 use Rattle.tangents.specs.Ways.{waysAt}
 use Rattle.cut.specs.Lent.{Left, Room}
 use Rattle.tangents.specs.Ways.{turnAnswer}
@@ -32,64 +33,81 @@ use Rattle.cut.proofs.Run.{run-sized, Sized, run-fits, run-fails, run-c
 
 -- ---- a leaf's answer
 
-from-good : (P : Part) (r : Tried) (p : List Float) (k : Curve) → Did P r p → r ≡ Good k → P ≡ fits k p
-from-good (fits c ps) r p k h e = let f : Good c ≡ Good k = sym (h .0) ∙ e in let g : c ≡ k = cc in rw (g, h .1)
+from-good : (P : Part) (r : Tried) (p : List Float) (k : Solved) → Did P r p → r ≡ Good k → P ≡ fits (k .curve) (k .far) p
+from-good (fits c w ps) r p k h e =
+    let f : Good (record { curve = c; far = w }) ≡ Good k = sym (h .0) ∙ e in
+    let g : record { curve = c; far = w } ≡ k = cc in
+    λ i. fits (g i .curve) (g i .far) (sym (h .1) i)
 from-good (cuts j) r p k h e = let z : _≡_ {A = ℕ} 0 1 = cc in absurd (omega arith)
 from-good (fails q) r p k h e = let z : _≡_ {A = ℕ} 0 1 = cc in absurd (omega arith)
 
 from-cut : (P : Part) (r : Tried) (p : List Float) (k : ℕ) → Did P r p → r ≡ Cut k → P ≡ cuts k
-from-cut (fits c ps) r p k h e = let f = h .0 in let z : _≡_ {A = ℕ} 0 1 = cc in absurd (omega arith)
+from-cut (fits c w ps) r p k h e = let f = h .0 in let z : _≡_ {A = ℕ} 0 1 = cc in absurd (omega arith)
 from-cut (cuts j) r p k h e = let g : j ≡ k = cc in ap cuts g
 from-cut (fails q) r p k h e = let z : _≡_ {A = ℕ} 0 1 = cc in absurd (omega arith)
 
 from-refused : (P : Part) (r : Tried) (p : List Float) (k : ℕ) → Did P r p → r ≡ TRefused k → P ≡ fails k
-from-refused (fits c ps) r p k h e = let f = h .0 in let z : _≡_ {A = ℕ} 0 1 = cc in absurd (omega arith)
+from-refused (fits c w ps) r p k h e = let f = h .0 in let z : _≡_ {A = ℕ} 0 1 = cc in absurd (omega arith)
 from-refused (cuts j) r p k h e = let z : _≡_ {A = ℕ} 0 1 = cc in absurd (omega arith)
 from-refused (fails q) r p k h e = let g : q ≡ k = cc in ap fails g
 
 -- ---- a run's answer
 
 -- a run that gave j curves
-pub record Done (R : Run) (j : ℕ) (C C₁ : List Float) (F F₁ : List ℕ) (p : List Float) : Type 0 where
+pub record Done (R : Run) (j : ℕ) (C C₁ : List Float) (F F₁ W W₁ : List ℕ) (p : List Float) : Type 0 where
   pub cs : List Float
-  pub fs : List ℕ
-  pub is : R ≡ done cs fs p
-  pub long : length fs ≡ j
+  pub bs : List Beside
+  pub is : R ≡ done cs bs p
+  pub long : length bs ≡ j
   pub curves : C₁ ≡ written cs C
-  pub firsts : F₁ ≡ written fs F
+  pub firsts : F₁ ≡ written (firstsOf bs) F
+  pub worsts : W₁ ≡ written (worstsOf bs) W
 
-pub is-done : (R : Run) (r : Fitted) (j : ℕ) (C C₁ : List Float) (F F₁ : List ℕ) (p : List Float) → Left R r C C₁ F F₁ p → r ≡ Curves j → Done R j C C₁ F F₁ p
-is-done (refused q) r j C C₁ F F₁ p h e = let z : _≡_ {A = ℕ} 0 1 = cc in absurd (omega arith)
-is-done (done cs fs ps) r j C C₁ F F₁ p h e =
-    let f : Curves (length fs) ≡ Curves j = sym (h .0) ∙ e in
-    record { cs = cs; fs = fs; is = rw (h .3); long = cc; curves = h .1; firsts = h .2 }
+pub is-done : (R : Run) (r : Fitted) (j : ℕ) (C C₁ : List Float) (F F₁ W W₁ : List ℕ) (p : List Float) → Left R r C C₁ F F₁ W W₁ p → r ≡ Curves j → Done R j C C₁ F F₁ W W₁ p
+is-done (refused q) r j C C₁ F F₁ W W₁ p h e = let z : _≡_ {A = ℕ} 0 1 = cc in absurd (omega arith)
+is-done (done cs bs ps) r j C C₁ F F₁ W W₁ p h e =
+    let f : Curves (length bs) ≡ Curves j = sym (h .0) ∙ e in
+    record { cs = cs; bs = bs; is = rw (h .4); long = cc; curves = h .1; firsts = h .2; worsts = h .3 }
 
 -- a run that gave a refusal
-pub is-refused : (R : Run) (r : Fitted) (q : ℕ) (C C₁ : List Float) (F F₁ : List ℕ) (p : List Float) → Left R r C C₁ F F₁ p → r ≡ Refused q → R ≡ refused q
-is-refused (refused x) r q C C₁ F F₁ p h e = let f : Refused x ≡ Refused q = sym h ∙ e in let g : x ≡ q = cc in ap refused g
-is-refused (done cs fs ps) r q C C₁ F F₁ p h e = let f = h .0 in let z : _≡_ {A = ℕ} 0 1 = cc in absurd (omega arith)
+pub is-refused : (R : Run) (r : Fitted) (q : ℕ) (C C₁ : List Float) (F F₁ W W₁ : List ℕ) (p : List Float) → Left R r C C₁ F F₁ W W₁ p → r ≡ Refused q → R ≡ refused q
+is-refused (refused x) r q C C₁ F F₁ W W₁ p h e = let f : Refused x ≡ Refused q = sym h ∙ e in let g : x ≡ q = cc in ap refused g
+is-refused (done cs bs ps) r q C C₁ F F₁ W W₁ p h e = let f = h .0 in let z : _≡_ {A = ℕ} 0 1 = cc in absurd (omega arith)
 
 -- both sides are done
-pub both-done : (k : ℕ) (R R′ : Run) (cs cs′ : List Float) (fs fs′ : List ℕ) (p p′ : List Float) (j j′ : ℕ) (C C₂ : List Float) (F F₂ : List ℕ) (p₂ : List Float)
-    → R ≡ done cs fs p → R′ ≡ done cs′ fs′ p′ → length fs ≡ j → length fs′ ≡ j′
-    → C₂ ≡ written (cs ++ cs′) C → F₂ ≡ written (fs ++ fs′) F → p₂ ≡ take k p ++ p′ → Left (join k R R′) (Curves (j + j′)) C C₂ F F₂ p₂
-both-done k R R′ cs cs′ fs fs′ p p′ j j′ C C₂ F F₂ p₂ e e′ l l′ ec ef ep =
-    rw (e, e′) (rw (length-append, l, l′) refl, ec, ef, ep)
+pub both-done : (k : ℕ) (R R′ : Run) (cs cs′ : List Float) (bs bs′ : List Beside) (p p′ : List Float) (j j′ : ℕ) (C C₂ : List Float) (F F₂ W W₂ : List ℕ) (p₂ : List Float)
+    → R ≡ done cs bs p → R′ ≡ done cs′ bs′ p′ → length bs ≡ j → length bs′ ≡ j′
+    → C₂ ≡ written (cs ++ cs′) C → F₂ ≡ written (firstsOf (bs ++ bs′)) F → W₂ ≡ written (worstsOf (bs ++ bs′)) W → p₂ ≡ take k p ++ p′
+    → Left (join k R R′) (Curves (j + j′)) C C₂ F F₂ W W₂ p₂
+both-done k R R′ cs cs′ bs bs′ p p′ j j′ C C₂ F F₂ W W₂ p₂ e e′ l l′ ec ef ew ep =
+    rw (e, e′) (rw (length-append, l, l′) refl, ec, ef, ew, ep)
+
+-- of each curve the one number or the other, of the left side's curves and then of the right's
+pub beside-behind : (f : Beside → ℕ) (bs bs′ : List Beside) (X X₁ E : List ℕ) (j b : ℕ) → X₁ ≡ written (map f bs) X → length bs ≡ j → b ≡ length X₁ - j
+    → E ≡ written (map f bs′) (take b (drop j X₁)) → take j X₁ ++ (E ++ drop b (drop j X₁)) ≡ written (map f (bs ++ bs′)) X
+beside-behind f bs bs′ X X₁ E j b e l lb d =
+    written-behind (map f bs) (map f bs′) X X₁ E j b e (length-map bs f ∙ l) lb d
+    ∙ ap (λ xs. written xs X) (sym (map-append f bs bs′))
 
 -- ---- fit_part's returns
 
 module _ (ms : List Float) (first : ℕ) (s e : Point) (tol : Float) (h : 2 ≤ count ms) (r : Tried) (p : List Float) (did : Did (partOf ms s e tol) r p) where
-  pub fit-good : (k : Curve) (C C₁ : List Float) (F F₁ : List ℕ) → r ≡ Good k → C₁ ≡ written (flat k) C → F₁ ≡ written (first ∷ []) F → Left (runOf ms first s e tol) (Curves 1) C C₁ F F₁ p
-  fit-good k C C₁ F F₁ q ec ef = rw (run-fits ms first s e tol h k p (from-good _ r p k did q)) (refl, ec, ef, refl)
+  pub fit-good : (k : Solved) (C C₁ : List Float) (F F₁ W W₁ : List ℕ) → r ≡ Good k → C₁ ≡ written (flat (k .curve) (k .far .err)) C
+      → F₁ ≡ written (first ∷ []) F → W₁ ≡ written ((first + k .far .at) ∷ []) W → Left (runOf ms first s e tol) (Curves 1) C C₁ F F₁ W W₁ p
+  fit-good k C C₁ F F₁ W W₁ q ec ef ew = rw (run-fits ms first s e tol h (k .curve) (k .far) p (from-good _ r p k did q)) (refl, ec, ef, ew, refl)
 
-  pub fit-cut : (k : ℕ) (r′ : Fitted) (C C₁ : List Float) (F F₁ : List ℕ) (p₁ : List Float) → r ≡ Cut k → Left (cutOf ms k first s e tol) r′ C C₁ F F₁ p₁ → Left (runOf ms first s e tol) r′ C C₁ F F₁ p₁
-  fit-cut k r′ C C₁ F F₁ p₁ q g = rw (run-cuts ms first s e tol h k (from-cut _ r p k did q)) g
+  -- the worst mark is a mark of the part
+  pub worst-within : (k : Solved) → r ≡ Good k → k .far .at < count ms
+  worst-within k q = let sound : Sound ms (fits (k .curve) (k .far) p) = rw (from-good (partOf ms s e tol) r p k did q) at (part-sound ms s e tol h) in sound .3
 
-  pub fit-refused : (k : ℕ) (C C₁ : List Float) (F F₁ : List ℕ) (p₁ : List Float) → r ≡ TRefused k → Left (runOf ms first s e tol) (Refused k) C C₁ F F₁ p₁
-  fit-refused k C C₁ F F₁ p₁ q = rw (run-fails ms first s e tol h k (from-refused _ r p k did q)) refl
+  pub fit-cut : (k : ℕ) (r′ : Fitted) (C C₁ : List Float) (F F₁ W W₁ : List ℕ) (p₁ : List Float) → r ≡ Cut k → Left (cutOf ms k first s e tol) r′ C C₁ F F₁ W W₁ p₁ → Left (runOf ms first s e tol) r′ C C₁ F F₁ W W₁ p₁
+  fit-cut k r′ C C₁ F F₁ W W₁ p₁ q g = rw (run-cuts ms first s e tol h k (from-cut _ r p k did q)) g
 
-pub sizes : (ms : List Float) (first : ℕ) (s e : Point) (tol : Float) (cs : List Float) (fs : List ℕ) (p : List Float) → 2 ≤ count ms → runOf ms first s e tol ≡ done cs fs p → Sized ms first (done cs fs p)
-sizes ms first s e tol cs fs p h q = rw q at (run-sized ms first s e tol h)
+  pub fit-refused : (k : ℕ) (C C₁ : List Float) (F F₁ W W₁ : List ℕ) (p₁ : List Float) → r ≡ TRefused k → Left (runOf ms first s e tol) (Refused k) C C₁ F F₁ W W₁ p₁
+  fit-refused k C C₁ F F₁ W W₁ p₁ q = rw (run-fails ms first s e tol h k (from-refused _ r p k did q)) refl
+
+pub sizes : (ms : List Float) (first : ℕ) (s e : Point) (tol : Float) (cs : List Float) (bs : List Beside) (p : List Float) → 2 ≤ count ms → runOf ms first s e tol ≡ done cs bs p → Sized ms first (done cs bs p)
+sizes ms first s e tol cs bs p h q = rw q at (run-sized ms first s e tol h)
 
 pub set-first : (a : ℕ) (F : List ℕ) → 0 < length F → set F 0 a ≡ written (a ∷ []) F
 set-first a [] h = absurd (omega arith)
@@ -97,12 +115,12 @@ set-first a (x ∷ F) h = refl
 
 -- ---- fit_part calls cut_part
 
-pub cut-asks : (ms : List Float) (first : ℕ) (s e : Point) (tol : Float) (C : List Float) (F : List ℕ) (P p : List Float) (r : Tried) (k : ℕ)
-    → Room ms first C F P → length p ≡ length P → Did (partOf ms s e tol) r p → r ≡ Cut k → Room ms first C F p × ((0 < k) × (k + 1 < length p))
-cut-asks ms first s e tol C F P p r k room l did q =
+pub cut-asks : (ms : List Float) (first : ℕ) (s e : Point) (tol : Float) (C : List Float) (F W : List ℕ) (P p : List Float) (r : Tried) (k : ℕ)
+    → Room ms first C F W P → length p ≡ length P → Did (partOf ms s e tol) r p → r ≡ Cut k → Room ms first C F W p × ((0 < k) × (k + 1 < length p))
+cut-asks ms first s e tol C F W P p r k room l did q =
     let n : count ms ≡ length P = omega arith in
     let sound : Sound ms (cuts k) = rw (from-cut (partOf ms s e tol) r p k did q) at (part-sound ms s e tol (omega arith)) in
-    (record { even = omega arith; two = omega arith; near = omega arith; curves = omega arith; firsts = omega arith }, (sound .0, omega (arith, sound .1)))
+    (record { even = omega arith; two = omega arith; near = omega arith; curves = omega arith; firsts = omega arith; worsts = omega arith }, (sound .0, omega (arith, sound .1)))
 
 -- ---- cut_part calls fit_part at the left, and at the right
 
@@ -116,8 +134,9 @@ pub record Call : Type 0 where
   pub tol : Float
   pub C : List Float
   pub F : List ℕ
+  pub W : List ℕ
   pub P : List Float
-  pub room : Room ms first C F P
+  pub room : Room ms first C F W P
   pub low : 0 < at
   pub high : at + 1 < length P
 
@@ -130,11 +149,11 @@ pub ways-lost : (r : Turn) (A : Answer Ways) → turnAnswer r ≡ A → r ≡ tu
 unfolding turnAnswer
 ways-lost r A h e = sym h ∙ ap turnAnswer e
 
-pub cut-refused : (K : Call) (q : ℕ) (C₂ : List Float) (F₂ : List ℕ) (p₂ : List Float) → outcome (waysAt (K .ms) (K .at)) ≡ no q
-    → Left (cutOf (K .ms) (K .at) (K .first) (K .s) (K .e) (K .tol)) (Refused q) (K .C) C₂ (K .F) F₂ p₂
-cut-refused K q C₂ F₂ p₂ e = rw e refl
+pub cut-refused : (K : Call) (q : ℕ) (C₂ : List Float) (F₂ W₂ : List ℕ) (p₂ : List Float) → outcome (waysAt (K .ms) (K .at)) ≡ no q
+    → Left (cutOf (K .ms) (K .at) (K .first) (K .s) (K .e) (K .tol)) (Refused q) (K .C) C₂ (K .F) F₂ (K .W) W₂ p₂
+cut-refused K q C₂ F₂ W₂ p₂ e = rw e refl
 
-pub room-left : (K : Call) → Room (leftOf (K .at) (K .ms)) (K .first) (K .C) (K .F) (take (K .at + 1) (K .P))
+pub room-left : (K : Call) → Room (leftOf (K .at) (K .ms)) (K .first) (K .C) (K .F) (K .W) (take (K .at + 1) (K .P))
 room-left K =
     let room = K .room in
     record {
@@ -143,6 +162,7 @@ room-left K =
       near = simp length-take (omega arith);
       curves = simp length-take (omega arith);
       firsts = simp length-take (omega arith);
+      worsts = simp length-take (omega arith);
     }
 
 pub less-left : (K : Call) → length (leftOf (K .at) (K .ms)) + 1 < length (K .ms)
@@ -158,11 +178,11 @@ rightRun K T = runOf (rightOf (K .at) (K .ms)) (K .first + K .at) (T .start) (K 
 pub cut-is : (K : Call) (T : Ways) → outcome (waysAt (K .ms) (K .at)) ≡ ok T → cutOf (K .ms) (K .at) (K .first) (K .s) (K .e) (K .tol) ≡ join (K .at) (leftRun K T) (rightRun K T)
 cut-is K T e = rw e
 
-pub cut-stops-left : (K : Call) (T : Ways) (r : Fitted) (q : ℕ) (C₁ C₂ : List Float) (F₁ F₂ : List ℕ) (p p₂ : List Float)
-    → outcome (waysAt (K .ms) (K .at)) ≡ ok T → Left (leftRun K T) r (K .C) C₁ (K .F) F₁ p → r ≡ Refused q
-    → Left (cutOf (K .ms) (K .at) (K .first) (K .s) (K .e) (K .tol)) r (K .C) C₂ (K .F) F₂ p₂
-cut-stops-left K T r q C₁ C₂ F₁ F₂ p p₂ e h n =
-    rw (cut-is K T e, is-refused (leftRun K T) r q (K .C) C₁ (K .F) F₁ p h n) n
+pub cut-stops-left : (K : Call) (T : Ways) (r : Fitted) (q : ℕ) (C₁ C₂ : List Float) (F₁ F₂ W₁ W₂ : List ℕ) (p p₂ : List Float)
+    → outcome (waysAt (K .ms) (K .at)) ≡ ok T → Left (leftRun K T) r (K .C) C₁ (K .F) F₁ (K .W) W₁ p → r ≡ Refused q
+    → Left (cutOf (K .ms) (K .at) (K .first) (K .s) (K .e) (K .tol)) r (K .C) C₂ (K .F) F₂ (K .W) W₂ p₂
+cut-stops-left K T r q C₁ C₂ F₁ F₂ W₁ W₂ p p₂ e h n =
+    rw (cut-is K T e, is-refused (leftRun K T) r q (K .C) C₁ (K .F) F₁ (K .W) W₁ p h n) n
 
 -- what is known once the left side has given j curves
 pub record Half (K : Call) : Type 0 where
@@ -171,22 +191,25 @@ pub record Half (K : Call) : Type 0 where
   pub j : ℕ
   pub C₁ : List Float
   pub F₁ : List ℕ
+  pub W₁ : List ℕ
   pub p : List Float
-  pub side : Done (leftRun K T) j (K .C) C₁ (K .F) F₁ p
+  pub side : Done (leftRun K T) j (K .C) C₁ (K .F) F₁ (K .W) W₁ p
   pub lc : length C₁ ≡ length (K .C)
   pub lf : length F₁ ≡ length (K .F)
+  pub lw : length W₁ ≡ length (K .W)
   pub each : length p ≡ length (take (K .at + 1) (K .P))
 
 module _ (K : Call) (H : Half K) where
   -- the numbers that the needs of the second call are worked out from
   pub record Numbers : Type 0 where
-    pub room : Room (K .ms) (K .first) (K .C) (K .F) (K .P)
+    pub room : Room (K .ms) (K .first) (K .C) (K .F) (K .W) (K .P)
     pub low : 0 < K .at
     pub high : K .at + 1 < length (K .P)
     pub few : H .j ≤ K .at
-    pub eight : length (H .side .cs) ≡ 8 * H .j
+    pub nine : length (H .side .cs) ≡ recordNumbers * H .j
     pub lc : length (H .C₁) ≡ length (K .C)
     pub lf : length (H .F₁) ≡ length (K .F)
+    pub lw : length (H .W₁) ≡ length (K .W)
     pub le : length (H .p) ≡ K .at + 1
     pub lp : length (H .p ++ drop (K .at + 1) (K .P)) ≡ length (K .P)
 
@@ -195,16 +218,17 @@ module _ (K : Call) (H : Half K) where
       let room = K .room in
       let high = K .high in
       let n : count (leftOf (K .at) (K .ms)) ≡ K .at + 1 = left-count (K .at) (K .ms) (omega arith) in
-      let z = sizes (leftOf (K .at) (K .ms)) (K .first) (K .s) (H .T .end) (K .tol) (H .side .cs) (H .side .fs) (H .p) (omega arith) (H .side .is) in
+      let z = sizes (leftOf (K .at) (K .ms)) (K .first) (K .s) (H .T .end) (K .tol) (H .side .cs) (H .side .bs) (H .p) (omega arith) (H .side .is) in
       let l = H .side .long in
       record {
         room = room;
         low = K .low;
         high = high;
         few = omega (arith, z .1);
-        eight = omega (arith, z .2);
+        nine = omega (arith, z .2);
         lc = H .lc;
         lf = H .lf;
+        lw = H .lw;
         le = omega (arith, z .3);
         lp = front-length (K .at + 1) (K .P) (H .p) (omega arith) (H .each);
       }
@@ -213,7 +237,7 @@ module _ (K : Call) (H : Half K) where
   abbrev pub P₁ : List Float
   P₁ = H .p ++ drop (K .at + 1) (K .P)
 
-  pub room-right : Room (take (length (K .ms) - 2 * K .at) (drop (2 * K .at) (K .ms))) (K .first + K .at) (take (length (H .C₁) - 8 * H .j) (drop (8 * H .j) (H .C₁))) (take (length (H .F₁) - H .j) (drop (H .j) (H .F₁))) (take (length P₁ - K .at) (drop (K .at) P₁))
+  pub room-right : Room (take (length (K .ms) - 2 * K .at) (drop (2 * K .at) (K .ms))) (K .first + K .at) (take (length (H .C₁) - recordNumbers * H .j) (drop (recordNumbers * H .j) (H .C₁))) (take (length (H .F₁) - H .j) (drop (H .j) (H .F₁))) (take (length (H .W₁) - H .j) (drop (H .j) (H .W₁))) (take (length P₁ - K .at) (drop (K .at) P₁))
   room-right =
       let n = numbers in
       let room = n .room in
@@ -224,6 +248,7 @@ module _ (K : Call) (H : Half K) where
         near = simp (length-take, length-drop) (omega (arith, n));
         curves = simp (length-take, length-drop) (omega (arith, n));
         firsts = simp (length-take, length-drop) (omega (arith, n));
+        worsts = simp (length-take, length-drop) (omega (arith, n));
       }
 
   pub less-right : length (take (length (K .ms) - 2 * K .at) (drop (2 * K .at) (K .ms))) + 1 < length (K .ms)
@@ -234,51 +259,60 @@ module _ (K : Call) (H : Half K) where
     pub r : Fitted
     pub D₁ : List Float
     pub E₁ : List ℕ
+    pub V₁ : List ℕ
     pub p′ : List Float
-    pub left : Left (runOf (take (length (K .ms) - 2 * K .at) (drop (2 * K .at) (K .ms))) (K .first + K .at) (H .T .start) (K .e) (K .tol)) r (take (length (H .C₁) - 8 * H .j) (drop (8 * H .j) (H .C₁))) D₁ (take (length (H .F₁) - H .j) (drop (H .j) (H .F₁))) E₁ p′
-    pub ld : length D₁ ≡ length (take (length (H .C₁) - 8 * H .j) (drop (8 * H .j) (H .C₁)))
+    pub left : Left (runOf (take (length (K .ms) - 2 * K .at) (drop (2 * K .at) (K .ms))) (K .first + K .at) (H .T .start) (K .e) (K .tol)) r (take (length (H .C₁) - recordNumbers * H .j) (drop (recordNumbers * H .j) (H .C₁))) D₁ (take (length (H .F₁) - H .j) (drop (H .j) (H .F₁))) E₁ (take (length (H .W₁) - H .j) (drop (H .j) (H .W₁))) V₁ p′
+    pub ld : length D₁ ≡ length (take (length (H .C₁) - recordNumbers * H .j) (drop (recordNumbers * H .j) (H .C₁)))
     pub le : length E₁ ≡ length (take (length (H .F₁) - H .j) (drop (H .j) (H .F₁)))
+    pub lv : length V₁ ≡ length (take (length (H .W₁) - H .j) (drop (H .j) (H .W₁)))
     pub lp : length p′ ≡ length (take (length P₁ - K .at) (drop (K .at) P₁))
 
   module _ (R : Right) where
-    -- the three lent slices when their parts are back
+    -- the four lent slices when their parts are back
     abbrev pub C₂ : List Float
-    C₂ = take (8 * H .j) (H .C₁) ++ (R .D₁ ++ drop (length (H .C₁) - 8 * H .j) (drop (8 * H .j) (H .C₁)))
+    C₂ = take (recordNumbers * H .j) (H .C₁) ++ (R .D₁ ++ drop (length (H .C₁) - recordNumbers * H .j) (drop (recordNumbers * H .j) (H .C₁)))
 
     abbrev pub F₂ : List ℕ
     F₂ = take (H .j) (H .F₁) ++ (R .E₁ ++ drop (length (H .F₁) - H .j) (drop (H .j) (H .F₁)))
+
+    abbrev pub W₂ : List ℕ
+    W₂ = take (H .j) (H .W₁) ++ (R .V₁ ++ drop (length (H .W₁) - H .j) (drop (H .j) (H .W₁)))
 
     abbrev pub P₂ : List Float
     P₂ = take (K .at) P₁ ++ (R .p′ ++ drop (length P₁ - K .at) (drop (K .at) P₁))
 
     pub as-long-curves : length C₂ ≡ length (K .C)
-    as-long-curves = let n = numbers in part-length (8 * H .j) (length (H .C₁) - 8 * H .j) (H .C₁) (R .D₁) (omega (arith, n)) refl (R .ld) ∙ H .lc
+    as-long-curves = let n = numbers in part-length (recordNumbers * H .j) (length (H .C₁) - recordNumbers * H .j) (H .C₁) (R .D₁) (omega (arith, n)) refl (R .ld) ∙ H .lc
 
     pub as-long-firsts : length F₂ ≡ length (K .F)
     as-long-firsts = let n = numbers in part-length (H .j) (length (H .F₁) - H .j) (H .F₁) (R .E₁) (omega (arith, n)) refl (R .le) ∙ H .lf
+
+    pub as-long-worsts : length W₂ ≡ length (K .W)
+    as-long-worsts = let n = numbers in part-length (H .j) (length (H .W₁) - H .j) (H .W₁) (R .V₁) (omega (arith, n)) refl (R .lv) ∙ H .lw
 
     pub as-long-params : length P₂ ≡ length (K .P)
     as-long-params = let n = numbers in part-length (K .at) (length P₁ - K .at) P₁ (R .p′) (omega (arith, n)) refl (R .lp) ∙ n .lp
 
     -- the right side's run, of the marks as the definition has them
-    ran : Left (rightRun K (H .T)) (R .r) (take (length (H .C₁) - 8 * H .j) (drop (8 * H .j) (H .C₁))) (R .D₁) (take (length (H .F₁) - H .j) (drop (H .j) (H .F₁))) (R .E₁) (R .p′)
+    ran : Left (rightRun K (H .T)) (R .r) (take (length (H .C₁) - recordNumbers * H .j) (drop (recordNumbers * H .j) (H .C₁))) (R .D₁) (take (length (H .F₁) - H .j) (drop (H .j) (H .F₁))) (R .E₁) (take (length (H .W₁) - H .j) (drop (H .j) (H .W₁))) (R .V₁) (R .p′)
     ran = rw (take-all (length (K .ms) - 2 * K .at) (drop (2 * K .at) (K .ms)) (simp length-drop (omega arith))) at (R .left)
 
-    abbrev did : (k : ℕ) → R .r ≡ Curves k → Done (rightRun K (H .T)) k (take (length (H .C₁) - 8 * H .j) (drop (8 * H .j) (H .C₁))) (R .D₁) (take (length (H .F₁) - H .j) (drop (H .j) (H .F₁))) (R .E₁) (R .p′)
-    did k q = is-done (rightRun K (H .T)) (R .r) k _ (R .D₁) _ (R .E₁) (R .p′) ran q
+    abbrev did : (k : ℕ) → R .r ≡ Curves k → Done (rightRun K (H .T)) k (take (length (H .C₁) - recordNumbers * H .j) (drop (recordNumbers * H .j) (H .C₁))) (R .D₁) (take (length (H .F₁) - H .j) (drop (H .j) (H .F₁))) (R .E₁) (take (length (H .W₁) - H .j) (drop (H .j) (H .W₁))) (R .V₁) (R .p′)
+    did k q = is-done (rightRun K (H .T)) (R .r) k _ (R .D₁) _ (R .E₁) _ (R .V₁) (R .p′) ran q
 
-    pub cut-stops-right : (q : ℕ) (C₂ : List Float) (F₂ : List ℕ) (p₂ : List Float) → R .r ≡ Refused q → Left (cutOf (K .ms) (K .at) (K .first) (K .s) (K .e) (K .tol)) (R .r) (K .C) C₂ (K .F) F₂ p₂
-    cut-stops-right q C₂ F₂ p₂ n =
-        rw (H .is, H .side .is, is-refused (rightRun K (H .T)) (R .r) q _ (R .D₁) _ (R .E₁) (R .p′) ran n) n
+    pub cut-stops-right : (q : ℕ) (C₂ : List Float) (F₂ W₂ : List ℕ) (p₂ : List Float) → R .r ≡ Refused q → Left (cutOf (K .ms) (K .at) (K .first) (K .s) (K .e) (K .tol)) (R .r) (K .C) C₂ (K .F) F₂ (K .W) W₂ p₂
+    cut-stops-right q C₂ F₂ W₂ p₂ n =
+        rw (H .is, H .side .is, is-refused (rightRun K (H .T)) (R .r) q _ (R .D₁) _ (R .E₁) _ (R .V₁) (R .p′) ran n) n
 
     -- all is done
-    pub cut-done : (k : ℕ) → R .r ≡ Curves k → Left (cutOf (K .ms) (K .at) (K .first) (K .s) (K .e) (K .tol)) (Curves (H .j + k)) (K .C) C₂ (K .F) F₂ P₂
+    pub cut-done : (k : ℕ) → R .r ≡ Curves k → Left (cutOf (K .ms) (K .at) (K .first) (K .s) (K .e) (K .tol)) (Curves (H .j + k)) (K .C) C₂ (K .F) F₂ (K .W) W₂ P₂
     cut-done k q =
         let right = did k q in
         let n = numbers in
-        rw (H .is) (both-done (K .at) (leftRun K (H .T)) (rightRun K (H .T)) (H .side .cs) (right .cs) (H .side .fs) (right .fs) (H .p) (R .p′) (H .j) k (K .C) _ (K .F) _ _ (H .side .is) (right .is) (H .side .long) (right .long)
-        (written-behind (H .side .cs) (right .cs) (K .C) (H .C₁) (R .D₁) (8 * H .j) (length (H .C₁) - 8 * H .j) (H .side .curves) (n .eight) refl (right .curves))
-        (written-behind (H .side .fs) (right .fs) (K .F) (H .F₁) (R .E₁) (H .j) (length (H .F₁) - H .j) (H .side .firsts) (H .side .long) refl (right .firsts))
+        rw (H .is) (both-done (K .at) (leftRun K (H .T)) (rightRun K (H .T)) (H .side .cs) (right .cs) (H .side .bs) (right .bs) (H .p) (R .p′) (H .j) k (K .C) _ (K .F) _ (K .W) _ _ (H .side .is) (right .is) (H .side .long) (right .long)
+        (written-behind (H .side .cs) (right .cs) (K .C) (H .C₁) (R .D₁) (recordNumbers * H .j) (length (H .C₁) - recordNumbers * H .j) (H .side .curves) (n .nine) refl (right .curves))
+        (beside-behind (λ b. b .first) (H .side .bs) (right .bs) (K .F) (H .F₁) (R .E₁) (H .j) (length (H .F₁) - H .j) (H .side .firsts) (H .side .long) refl (right .firsts))
+        (beside-behind (λ b. b .worst) (H .side .bs) (right .bs) (K .W) (H .W₁) (R .V₁) (H .j) (length (H .W₁) - H .j) (H .side .worsts) (H .side .long) refl (right .worsts))
         (params-join (K .at) (length P₁ - K .at) (H .p) (R .p′) (K .P) P₁ refl (omega (arith, n)) refl))
 
     pub right-few : (k : ℕ) → R .r ≡ Curves k → k + K .at < length (K .P)
@@ -286,5 +320,5 @@ module _ (K : Call) (H : Half K) where
         let right = did k q in
         let n = numbers in
         let m : count (rightOf (K .at) (K .ms)) ≡ count (K .ms) - K .at = right-count (K .at) (K .ms) (omega (arith, n)) in
-        let z = sizes (rightOf (K .at) (K .ms)) (K .first + K .at) (H .T .start) (K .e) (K .tol) (right .cs) (right .fs) (R .p′) (omega (arith, n)) (right .is) in
+        let z = sizes (rightOf (K .at) (K .ms)) (K .first + K .at) (H .T .start) (K .e) (K .tol) (right .cs) (right .bs) (R .p′) (omega (arith, n)) (right .is) in
         omega (arith, n, z .1, right .long)

@@ -11,9 +11,11 @@ use Rattle.float.specs.Answer.{refused as no}
 use Rattle.plane.specs.declared.Point.{Point}
 use Rattle.plane.specs.declared.Curve.{Curve}
 use Rattle.marks.specs.Marks.{count}
+use Rattle.form.specs.Form.{recordNumbers}
+use Rattle.stages.specs.declared.worst.Worst.{Worst}
 use Rattle.part.specs.Part.{Part, fits, cuts, fails, partOf}
 use Rattle.part.proofs.Ends.{Stops, Sound, part-sound}
-use Rattle.cut.specs.Run.{Run, refused, done, flat, leftOf, rightOf, join, turned, run, runOf, cutOf}
+use Rattle.cut.specs.Run.{Run, refused, done, Beside, beside, flat, leftOf, rightOf, join, turned, run, runOf, cutOf}
 use Rattle.tangents.specs.Ways.{waysAt}
 use Rattle.tangents.specs.declared.Ways.{Ways}
 
@@ -43,18 +45,18 @@ run-fuel (suc d) (suc d′) ms first s e tol h l l′ =
         → ((k : ℕ) (t : Ways) → 0 < k → k + 1 < count ms → run d (partOf (leftOf k ms) s (t .end) tol) (leftOf k ms) first s (t .end) tol ≡ run d′ (partOf (leftOf k ms) s (t .end) tol) (leftOf k ms) first s (t .end) tol)
         → ((k : ℕ) (t : Ways) → 0 < k → k + 1 < count ms → run d (partOf (rightOf k ms) (t .start) e tol) (rightOf k ms) (first + k) (t .start) e tol ≡ run d′ (partOf (rightOf k ms) (t .start) e tol) (rightOf k ms) (first + k) (t .start) e tol)
         → run (suc d) P ms first s e tol ≡ run (suc d′) P ms first s e tol
-    go (fits c ps) sd L R = refl
+    go (fits c w ps) sd L R = refl
     go (fails q) sd L R = refl
     go (cuts k) sd L R = turned-ext (outcome (waysAt ms k)) _ _ (λ t. rw (L k t (sd .0) (sd .1), R k t (sd .0) (sd .1)))
 
 -- ---- the run by cases of the leaf: proofs unfold it by these three, and never see the fuel
 
 module _ (ms : List Float) (first : ℕ) (s e : Point) (tol : Float) (h : 2 ≤ count ms) where
-  pub run-fits : (c : Curve) (ps : List Float) → partOf ms s e tol ≡ fits c ps → runOf ms first s e tol ≡ done (flat c) (first ∷ []) ps
+  pub run-fits : (c : Curve) (w : Worst) (ps : List Float) → partOf ms s e tol ≡ fits c w ps → runOf ms first s e tol ≡ done (flat c (w .err)) (beside first (first + w .at) ∷ []) ps
   unfolding runOf run
-  run-fits c ps q = rw q (go (count ms) (omega arith))
+  run-fits c w ps q = rw q (go (count ms) (omega arith))
     where
-      go : (d : ℕ) → 0 < d → run d (fits c ps) ms first s e tol ≡ done (flat c) (first ∷ []) ps
+      go : (d : ℕ) → 0 < d → run d (fits c w ps) ms first s e tol ≡ done (flat c (w .err)) (beside first (first + w .at) ∷ []) ps
       go zero l = absurd (omega arith)
       go (suc d) l = refl
 
@@ -87,7 +89,7 @@ module _ (ms : List Float) (first : ℕ) (s e : Point) (tol : Float) (h : 2 ≤ 
 -- ---- induction: what holds of one curve and of a run's refusals, and is kept by a join, holds of every run. P is a law of every part
 
 module _ (tol : Float) (P : List Float → Part → Type 0) (part-law : (ms : List Float) (s e : Point) → 2 ≤ count ms → P ms (partOf ms s e tol)) (Q : List Float → ℕ → Run → Type 0)
-    (one : (ms : List Float) (first : ℕ) (c : Curve) (ps : List Float) → 2 ≤ count ms → Sound ms (fits c ps) → P ms (fits c ps) → Q ms first (done (flat c) (first ∷ []) ps))
+    (one : (ms : List Float) (first : ℕ) (c : Curve) (w : Worst) (ps : List Float) → 2 ≤ count ms → Sound ms (fits c w ps) → P ms (fits c w ps) → Q ms first (done (flat c (w .err)) (beside first (first + w .at) ∷ []) ps))
     (none : (ms : List Float) (first q : ℕ) → Stops q → Q ms first (refused q))
     (both : (ms : List Float) (first k : ℕ) (R R′ : Run) → 0 < k → k + 1 < count ms → Q (leftOf k ms) first R → Q (rightOf k ms) (first + k) R′ → Q ms first (join k R R′)) where
   ind : (d : ℕ) (ms : List Float) (first : ℕ) (s e : Point) → 2 ≤ count ms → count ms ≤ d → Q ms first (run d (partOf ms s e tol) ms first s e tol)
@@ -106,7 +108,7 @@ module _ (tol : Float) (P : List Float → Part → Type 0) (part-law : (ms : Li
           → ((k : ℕ) (t : Ways) → 0 < k → k + 1 < count ms → Q (leftOf k ms) first (run d (partOf (leftOf k ms) s (t .end) tol) (leftOf k ms) first s (t .end) tol))
           → ((k : ℕ) (t : Ways) → 0 < k → k + 1 < count ms → Q (rightOf k ms) (first + k) (run d (partOf (rightOf k ms) (t .start) e tol) (rightOf k ms) (first + k) (t .start) e tol))
           → Q ms first (run (suc d) X ms first s e tol)
-      go (fits c ps) sd p L R = one ms first c ps h sd p
+      go (fits c w ps) sd p L R = one ms first c w ps h sd p
       go (fails q) sd p L R = none ms first q sd
       go (cuts k) sd p L R = let t = waysAt ms k .val in turn (waysAt ms k .fine) t _ (both ms first k _ _ (sd .0) (sd .1) (L k t (sd .0) (sd .1)) (R k t (sd .0) (sd .1)))
 
@@ -116,25 +118,25 @@ module _ (tol : Float) (P : List Float → Part → Type 0) (part-law : (ms : Li
 
 -- the same, where `Sound` is all that is needed of a part
 module _ (Q : List Float → ℕ → Run → Type 0)
-    (one : (ms : List Float) (first : ℕ) (c : Curve) (ps : List Float) → 2 ≤ count ms → Sound ms (fits c ps) → Q ms first (done (flat c) (first ∷ []) ps))
+    (one : (ms : List Float) (first : ℕ) (c : Curve) (w : Worst) (ps : List Float) → 2 ≤ count ms → Sound ms (fits c w ps) → Q ms first (done (flat c (w .err)) (beside first (first + w .at) ∷ []) ps))
     (none : (ms : List Float) (first q : ℕ) → Stops q → Q ms first (refused q))
     (both : (ms : List Float) (first k : ℕ) (R R′ : Run) → 0 < k → k + 1 < count ms → Q (leftOf k ms) first R → Q (rightOf k ms) (first + k) R′ → Q ms first (join k R R′)) where
   pub run-ind : (ms : List Float) (first : ℕ) (s e : Point) (tol : Float) → 2 ≤ count ms → Q ms first (runOf ms first s e tol)
-  run-ind ms first s e tol h = run-by tol (λ ms p. Unit {0}) (λ ms s e h. tt) Q (λ ms first c ps h sd u. one ms first c ps h sd) none both ms first s e h
+  run-ind ms first s e tol h = run-by tol (λ ms p. Unit {0}) (λ ms s e h. tt) Q (λ ms first c w ps h sd u. one ms first c w ps h sd) none both ms first s e h
 
--- ---- sizes: from 1 to n - 1 curves, eight numbers for each, and n parameters
+-- ---- sizes: from 1 to n - 1 curves, nine numbers for each, and n parameters
 
-abbrev pub Sizes : ℕ → List Float → List ℕ → List Float → Type 0
-Sizes n cs fs ps = (0 < length fs) × (length fs < n) × (length cs ≡ 8 * length fs) × (length ps ≡ n)
+abbrev pub Sizes : ℕ → List Float → List Beside → List Float → Type 0
+Sizes n cs bs ps = (0 < length bs) × (length bs < n) × (length cs ≡ recordNumbers * length bs) × (length ps ≡ n)
 
 abbrev pub Sized : List Float → ℕ → Run → Type 0
 Sized ms first (refused q) = Unit {0}
-Sized ms first (done cs fs ps) = Sizes (count ms) cs fs ps
+Sized ms first (done cs bs ps) = Sizes (count ms) cs bs ps
 
 pub sized-join : (ms : List Float) (first k : ℕ) (R R′ : Run) → 0 < k → k + 1 < count ms → Sized (leftOf k ms) first R → Sized (rightOf k ms) (first + k) R′ → Sized ms first (join k R R′)
 sized-join ms first k (refused q) R′ i j l r = tt
-sized-join ms first k (done c f p) (refused q) i j l r = tt
-sized-join ms first k (done c f p) (done c′ f′ p′) i j l r =
+sized-join ms first k (done c b p) (refused q) i j l r = tt
+sized-join ms first k (done c b p) (done c′ b′ p′) i j l r =
     let lc = left-count k ms j in
     let rc = right-count k ms j in
     let la = l .1 in let ld = l .3 in
@@ -144,6 +146,6 @@ sized-join ms first k (done c f p) (done c′ f′ p′) i j l r =
 pub run-sized : (ms : List Float) (first : ℕ) (s e : Point) (tol : Float) → 2 ≤ count ms → Sized ms first (runOf ms first s e tol)
 run-sized =
     run-ind Sized
-    (λ ms first c ps h sd. (omega arith, omega arith, refl, sd .2))
+    (λ ms first c w ps h sd. (omega arith, omega arith, refl, sd .2))
     (λ ms first q s. tt)
     sized-join

@@ -5,19 +5,21 @@ use mathlib.Core.List.{List}
 use lib.ListN.{length}
 use lib.Ieee.{Float}
 use Rattle.float.specs.Slices.{written}
-use Rattle.cut.specs.Run.{Run, refused, done}
+use Rattle.form.specs.Form.{recordNumbers}
+use Rattle.cut.specs.Run.{Run, refused, done, firstsOf, worstsOf}
 use Rattle.cut.specs.declared.Fitted.{Fitted}
 use Rattle.cut.specs.declared.Fitted.the-variants.{Curves, Refused}
 
 -- the answer r, and of each lent slice what it held and holds (of a refused run, the answer alone)
-abbrev pub Left : Run → Fitted → List Float → List Float → List ℕ → List ℕ → List Float → Type 0
-Left (refused q) r C C′ F F′ P′ = r ≡ Refused q
-Left (done cs fs ps) r C C′ F F′ P′ = (r ≡ Curves (length fs)) × (C′ ≡ written cs C) × (F′ ≡ written fs F) × (P′ ≡ ps)
+abbrev pub Left : Run → Fitted → List Float → List Float → List ℕ → List ℕ → List ℕ → List ℕ → List Float → Type 0
+Left (refused q) r C C′ F F′ W W′ P′ = r ≡ Refused q
+Left (done cs bs ps) r C C′ F F′ W W′ P′ = (r ≡ Curves (length bs)) × (C′ ≡ written cs C) × (F′ ≡ written (firstsOf bs) F) × (W′ ≡ written (worstsOf bs) W) × (P′ ≡ ps)
 
 -- two marks or more, a parameter for each, and room
-pub record Room (ms : List Float) (first : ℕ) (C : List Float) (F : List ℕ) (P : List Float) : Type 0 where
+pub record Room (ms : List Float) (first : ℕ) (C : List Float) (F W : List ℕ) (P : List Float) : Type 0 where
   pub even : length ms ≡ 2 * length P
   pub two : 2 ≤ length P
   pub near : first + length P ≤ 65536
-  pub curves : 8 * length P ≤ length C + 8
+  pub curves : recordNumbers * length P ≤ length C + recordNumbers
   pub firsts : length P ≤ length F + 1
+  pub worsts : length P ≤ length W + 1

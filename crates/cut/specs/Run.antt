@@ -1,6 +1,6 @@
 -- The run of a part: one curve, or the run of its left side and then of its right. Definitions only.
 use Prim.Native.Nat.{ℕ, zero, suc, _+_, _*_}
-use mathlib.Core.List.{List, [], _∷_, _++_}
+use mathlib.Core.List.{List, [], _∷_, _++_, map}
 use lib.ListN.{take, drop}
 use lib.Ieee.{Float}
 use Rattle.float.specs.Answer.{Answer, ok, outcome}
@@ -12,14 +12,29 @@ use Rattle.part.specs.Part.{Part, fits, cuts, fails, partOf}
 use Rattle.tangents.specs.declared.Ways.{Ways}
 use Rattle.tangents.specs.Ways.{waysAt}
 
--- refused with a number; or the curves' numbers, each curve's first mark, and each mark's parameter
+-- what stands beside a curve: the number of its first mark, and of its worst mark
+pub record Beside : Type 0 where
+  pub first : ℕ
+  pub worst : ℕ
+
+abbrev pub beside : ℕ → ℕ → Beside
+beside first worst = record { first = first; worst = worst }
+
+-- what the two slices of mark numbers hold of it
+abbrev pub firstsOf : List Beside → List ℕ
+firstsOf bs = map (λ b. b .first) bs
+
+abbrev pub worstsOf : List Beside → List ℕ
+worstsOf bs = map (λ b. b .worst) bs
+
+-- refused with a number; or the curves' numbers, what stands beside each curve, and each mark's parameter
 pub data Run : Type 0 where
   refused : ℕ → Run
-  done : List Float → List ℕ → List Float → Run
+  done : List Float → List Beside → List Float → Run
 
--- a curve's eight numbers: start, first control, second control, end, each x then y
-abbrev pub flat : Curve → List Float
-flat c = c .start .x ∷ c .start .y ∷ c .cp1 .x ∷ c .cp1 .y ∷ c .cp2 .x ∷ c .cp2 .y ∷ c .end .x ∷ c .end .y ∷ []
+-- the nine numbers of a curve and its largest distance: start, first control, second control, end, each x then y, and the distance
+abbrev pub flat : Curve → Float → List Float
+flat c far = c .start .x ∷ c .start .y ∷ c .cp1 .x ∷ c .cp1 .y ∷ c .cp2 .x ∷ c .cp2 .y ∷ c .end .x ∷ c .end .y ∷ far ∷ []
 
 -- the marks left of a cut at k, and right of it: mark k is in both
 abbrev pub leftOf : ℕ → List Float → List Float
@@ -31,8 +46,8 @@ rightOf k ms = drop (2 * k) ms
 -- left, then right: the first refusal, or all curves. Mark k has the right side's parameter
 abbrev pub join : ℕ → Run → Run → Run
 join k (refused q) r = refused q
-join k (done c f p) (refused q) = refused q
-join k (done c f p) (done c′ f′ p′) = done (c ++ c′) (f ++ f′) (take k p ++ p′)
+join k (done c b p) (refused q) = refused q
+join k (done c b p) (done c′ b′ p′) = done (c ++ c′) (b ++ b′) (take k p ++ p′)
 
 -- on with the tangents, or their refusal
 abbrev pub turned : Answer Ways → (Ways → Run) → Run
@@ -42,7 +57,7 @@ turned (no q) f = refused q
 -- The run of a part that comes to P. The number bounds how deep the cuts go: as many as there are marks is enough.
 unfoldable pub run : ℕ → Part → List Float → ℕ → Point → Point → Float → Run
 run zero P ms first s e tol = refused 0
-run (suc d) (fits c ps) ms first s e tol = done (flat c) (first ∷ []) ps
+run (suc d) (fits c w ps) ms first s e tol = done (flat c (w .err)) (beside first (first + w .at) ∷ []) ps
 run (suc d) (fails q) ms first s e tol = refused q
 run (suc d) (cuts k) ms first s e tol =
     turned (outcome (waysAt ms k))

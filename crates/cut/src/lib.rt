@@ -4,9 +4,11 @@ ghost use mathlib.Core.Path.{_≡_};
 ghost use Prim.Native.Nat.{_+_, _*_, _≤_, _<_};
 ghost use lib.ListN.{length};
 ghost use Rattle.float.specs.Slices.{written};
+ghost use Rattle.form.specs.Form.{recordNumbers};
 ghost use Rattle.cut.specs.Run.{flat, runOf, cutOf};
 ghost use Rattle.cut.specs.Lent.{Left, Room};
 use float::refusal::NOT_FINITE;
+use form::RECORD_NUMBERS;
 use part::Tried;
 use plane::Curve;
 use plane::Point;
@@ -18,10 +20,10 @@ pub enum Fitted {
     Refused(u32),
 }
 
-// The eight numbers of a curve, at the front of the slice.
-fn put_curve(curves: &mut [f64], c: Curve)
-    requires { ⌜ 8 ≤ length (now curves) ⌝ }
-    ensures { λ _. ⌜ now (curves .exit) ≡ written (flat c) (now (curves .entry)) ⌝ }
+// The nine numbers of a curve and its largest distance, at the front of the slice.
+fn put_record(curves: &mut [f64], c: Curve, far: f64)
+    requires { ⌜ recordNumbers ≤ length (now curves) ⌝ }
+    ensures { λ _. ⌜ now (curves .exit) ≡ written (flat c far) (now (curves .entry)) ⌝ }
 {
     curves[0] = c.start.x;
     curves[1] = c.start.y;
@@ -31,6 +33,7 @@ fn put_curve(curves: &mut [f64], c: Curve)
     curves[5] = c.cp2.y;
     curves[6] = c.end.x;
     curves[7] = c.end.y;
+    curves[8] = far;
 }
 
 // The curves of a part whose first mark has the number `first`, with the tangents at its ends.
@@ -42,16 +45,19 @@ pub fn fit_part(
     tolerance: f64,
     curves: &mut [f64],
     firsts: &mut [u32],
+    worsts: &mut [u32],
     params: &mut [f64],
 ) -> Fitted
-    requires { ⌜ Room (now marks) first (now curves) (now firsts) (now params) ⌝ }
-    ensures { λ r. ⌜ Left (runOf (now (marks .entry)) first start end tolerance) r (now (curves .entry)) (now (curves .exit)) (now (firsts .entry)) (now (firsts .exit)) (now (params .exit)) ⌝ }
+    requires { ⌜ Room (now marks) first (now curves) (now firsts) (now worsts) (now params) ⌝ }
+    ensures { λ r. ⌜ Left (runOf (now (marks .entry)) first start end tolerance) r (now (curves .entry)) (now (curves .exit)) (now (firsts .entry)) (now (firsts .exit)) (now (worsts .entry)) (now (worsts .exit)) (now (params .exit)) ⌝ }
 {
     let tried = part::try_part(marks, start, end, tolerance, params);
     match tried {
-        Tried::Good(c) => {
-            put_curve(curves, c);
+        Tried::Good(s) => {
+            let worst = first + s.far.at;
+            put_record(curves, s.curve, s.far.err);
             firsts[0] = first as u32;
+            worsts[0] = worst as u32;
             Fitted::Curves(1)
         }
         Tried::Cut(at) => cut_part(
@@ -63,6 +69,7 @@ pub fn fit_part(
             tolerance,
             curves,
             firsts,
+            worsts,
             params,
         ),
         Tried::Refused(q) => Fitted::Refused(q),
@@ -79,11 +86,12 @@ fn cut_part(
     tolerance: f64,
     curves: &mut [f64],
     firsts: &mut [u32],
+    worsts: &mut [u32],
     params: &mut [f64],
 ) -> Fitted
-    requires { ⌜ Room (now marks) first (now curves) (now firsts) (now params) ⌝ }
+    requires { ⌜ Room (now marks) first (now curves) (now firsts) (now worsts) (now params) ⌝ }
     requires { ⌜ (0 < at) × (at + 1 < length (now params)) ⌝ }
-    ensures { λ r. ⌜ Left (cutOf (now (marks .entry)) at first start end tolerance) r (now (curves .entry)) (now (curves .exit)) (now (firsts .entry)) (now (firsts .exit)) (now (params .exit)) ⌝ }
+    ensures { λ r. ⌜ Left (cutOf (now (marks .entry)) at first start end tolerance) r (now (curves .entry)) (now (curves .exit)) (now (firsts .entry)) (now (firsts .exit)) (now (worsts .entry)) (now (worsts .exit)) (now (params .exit)) ⌝ }
 {
     let Turn::At(ways) = tangents::ways_at(marks, at) else {
         return Fitted::Refused(NOT_FINITE);
@@ -99,6 +107,7 @@ fn cut_part(
         tolerance,
         curves,
         firsts,
+        worsts,
         &mut params[..shared],
     );
     let Fitted::Curves(j) = left else {
@@ -106,7 +115,7 @@ fn cut_part(
     };
     let turned = ways.start;
     let back = 2 * at;
-    let behind = 8 * j;
+    let behind = RECORD_NUMBERS * j;
     let right = fit_part(
         &marks[back..],
         first + at,
@@ -115,6 +124,7 @@ fn cut_part(
         tolerance,
         &mut curves[behind..],
         &mut firsts[j..],
+        &mut worsts[j..],
         &mut params[at..],
     );
     let Fitted::Curves(k) = right else {

@@ -11,6 +11,9 @@ use denote.Enum.Declared.{tagOf}
 use lib.ListN.{length, take, length-take}
 use Rattle.float.specs.Answer.{Answer, ok, refused, unless, _>>=_}
 use Rattle.float.specs.Slices.{written}
+use Rattle.form.specs.Form.{width, worstsFor}
+use Rattle.form.specs.declared.Form.{Form}
+use Rattle.form.specs.declared.Form.the-variants.{Eight, Nine}
 use Rattle.house.specs.File.{File, Holds, marksIn, curvesIn, paramsFor}
 use Rattle.house.specs.Held.{fileOf}
 use Rattle.house.specs.Slices.{room}
@@ -27,13 +30,13 @@ use Rattle.desk.proofs.Numbers.{front}
 
 -- ---- the call
 
-pub too-long : (b : List ℕ) {M P C Q : List ℕ} → 393170 < length b → outcome (refused 9) M P C Q ≡ settled (fileIn b) M P C Q
+pub too-long : (b : List ℕ) {M P W C Q : List ℕ} → 434120 < length b → outcome (refused 9) M P W C Q ≡ settled (fileIn b) M P W C Q
 unfolding fileIn
-too-long b h = rw (lt-leb (length b) 393170 h)
+too-long b h = rw (lt-leb (length b) 434120 h)
 
-pub as-read : (b M P C Q : List ℕ) {o : Outcome} → length b ≤ 393170 → Roomy M P C Q → o ≡ readOf b M P C Q → o ≡ settled (fileIn b) M P C Q
+pub as-read : (b M P W C Q : List ℕ) {o : Outcome} → length b ≤ 434120 → Roomy M P W C Q → o ≡ readOf b M P W C Q → o ≡ settled (fileIn b) M P W C Q
 unfolding fileIn readOf
-as-read b M P C Q h r e = e ∙ rw (le-leb (length b) 393170 h, r .marks, r .firsts, r .curves, r .params)
+as-read b M P W C Q h r e = e ∙ rw (le-leb (length b) 434120 h, r .marks, r .firsts, r .worsts, r .curves, r .params)
 
 -- ---- what it tells
 
@@ -42,15 +45,15 @@ record Within (b : List ℕ) (F : File) : Type 0 where
   few : marksIn F ≤ 4096
 
 module _ {b : List ℕ} {F : File} where
-  judged-ok : (m p c q : ℕ) → judged b m p c q ≡ ok F → Within b F
+  judged-ok : (m p w c q : ℕ) → judged b m p w c q ≡ ok F → Within b F
   unfolding judged
-  judged-ok m p c q e = go (fileOf b) refl e
+  judged-ok m p w c q e = go (fileOf b) refl e
     where
-      go : (a : Answer File) → fileOf b ≡ a → judged b m p c q ≡ ok F → Within b F
+      go : (a : Answer File) → fileOf b ≡ a → judged b m p w c q ≡ ok F → Within b F
       go (ok G) x y =
           let y′ = rw x at y in
           let u = unless-ok 2 (leb (marksIn G) 4096) _ y′ in
-          let v = unless-ok 4 (leb (length (G .marks)) m && room (marksIn G) (curvesIn G) p c q) (ok G) (u .1) in
+          let v = unless-ok 4 (leb (length (G .marks)) m && room (G .form) (marksIn G) (curvesIn G) p w c q) (ok G) (u .1) in
           let g : G ≡ F = cc in
           let n : marksIn G ≤ 4096 = leb-true _ _ (u .0) in
           let w : Within b G = record { holds = file-holds x; few = n } in
@@ -59,71 +62,75 @@ module _ {b : List ℕ} {F : File} where
 
   within-file : fileIn b ≡ ok F → Within b F
   unfolding fileIn
-  within-file e = let u = unless-ok 9 (leb (length b) 393170) (judged b 8192 4095 32760 4096) e in judged-ok 8192 4095 32760 4096 (u .1)
+  within-file e = let u = unless-ok 9 (leb (length b) 434120) (judged b 8192 4095 4095 36855 4096) e in judged-ok 8192 4095 4095 36855 4096 (u .1)
 
 -- a file that is taken is well formed, and has at most 4,096 marks
 pub file-formed : (b : List ℕ) {F : File} → fileIn b ≡ ok F → Formed F (marksIn F) (curvesIn F) × (marksIn F ≤ 4096)
 file-formed b {F} e = let w = within-file e in (formed F (w .holds .formed), w .few)
 
 -- a file's numbers stand in the first places
-pub record Opened (b : List ℕ) (t n k : ℕ) (M′ P′ C′ Q′ : List ℕ) : Type 0 where
+pub record Opened (b : List ℕ) (form : Form) (t n k : ℕ) (M′ P′ W′ C′ Q′ : List ℕ) : Type 0 where
   pub file : File
   pub read : fileIn b ≡ ok file
+  pub shape : form ≡ file .form
   pub tolerance : t ≡ file .tolerance
   pub many : marksIn file ≡ n
   pub formed : Formed file n k
   pub few : n ≤ 4096
   pub marks : take (2 * n) M′ ≡ file .marks
   pub firsts : take k P′ ≡ file .firsts
-  pub curves : take (8 * k) C′ ≡ file .curves
+  pub worsts : take (worstsFor form k) W′ ≡ file .worsts
+  pub curves : take (width form * k) C′ ≡ file .curves
   pub params : take (paramsFor n k) Q′ ≡ file .params
 
-same-counts : {b : List ℕ} {t n k t′ n′ k′ : ℕ} {M′ P′ C′ Q′ : List ℕ} → t ≡ t′ → n ≡ n′ → k ≡ k′ → Opened b t′ n′ k′ M′ P′ C′ Q′ → Opened b t n k M′ P′ C′ Q′
-same-counts a e i o = rw (a, e, i) o
+same-counts : {b : List ℕ} {form form′ : Form} {t n k t′ n′ k′ : ℕ} {M′ P′ W′ C′ Q′ : List ℕ} → form ≡ form′ → t ≡ t′ → n ≡ n′ → k ≡ k′ → Opened b form′ t′ n′ k′ M′ P′ W′ C′ Q′ → Opened b form t n k M′ P′ W′ C′ Q′
+same-counts f a e i o = rw (f, a, e, i) o
 
-module _ (b M P C Q : List ℕ) {M′ P′ C′ Q′ : List ℕ} where
-  whole : (F : File) → fileIn b ≡ ok F → M′ ≡ written (F .marks) M → P′ ≡ written (F .firsts) P → C′ ≡ written (F .curves) C → Q′ ≡ written (F .params) Q
-      → Opened b (F .tolerance) (marksIn F) (curvesIn F) M′ P′ C′ Q′
-  whole F x eM eP eC eQ =
+module _ (b M P W C Q : List ℕ) {M′ P′ W′ C′ Q′ : List ℕ} where
+  whole : (F : File) → fileIn b ≡ ok F → M′ ≡ written (F .marks) M → P′ ≡ written (F .firsts) P → W′ ≡ written (F .worsts) W → C′ ≡ written (F .curves) C → Q′ ≡ written (F .params) Q
+      → Opened b (F .form) (F .tolerance) (marksIn F) (curvesIn F) M′ P′ W′ C′ Q′
+  whole F x eM eP eW eC eQ =
       let w = file-formed b x in
       let f = w .0 in
       record {
         file = F;
         read = x;
+        shape = refl;
         tolerance = refl;
         many = refl;
         formed = f;
         few = w .1;
         marks = front _ _ _ eM (f .sized .marks);
         firsts = front _ _ _ eP (f .sized .firsts);
+        worsts = front _ _ _ eW (f .sized .worsts);
         curves = front _ _ _ eC (f .sized .curves);
         params = front _ _ _ eQ (f .sized .params);
       }
 
-  pub opened : (r : Read) {t n k : ℕ} → r ≡ read.File t n k → outcome (readAnswer r) M′ P′ C′ Q′ ≡ settled (fileIn b) M P C Q → Opened b t n k M′ P′ C′ Q′
-  opened r {t} {n} {k} i e = go (fileIn b) refl (rw i at e)
+  pub opened : (r : Read) {form : Form} {t n k : ℕ} → r ≡ read.File form t n k → outcome (readAnswer r) M′ P′ W′ C′ Q′ ≡ settled (fileIn b) M P W C Q → Opened b form t n k M′ P′ W′ C′ Q′
+  opened r {form} {t} {n} {k} i e = go (fileIn b) refl (rw i at e)
     where
       f : Found
-      f = record { tolerance = t; marks = n; curves = k }
+      f = record { form = form; tolerance = t; marks = n; curves = k }
 
-      go : (a : Answer File) → fileIn b ≡ a → outcome (ok f) M′ P′ C′ Q′ ≡ settled a M P C Q → Opened b t n k M′ P′ C′ Q′
+      go : (a : Answer File) → fileIn b ≡ a → outcome (ok f) M′ P′ W′ C′ Q′ ≡ settled a M P W C Q → Opened b form t n k M′ P′ W′ C′ Q′
       go (ok F) x y =
           let a : _≡_ {A = Answer Found} (ok f) (ok (foundIn F)) = ap (λ (o : Outcome). o .answer) y in
           let i : f ≡ foundIn F = cc in
-          same-counts (ap (λ (f : Found). f .tolerance) i) (ap (λ (f : Found). f .marks) i) (ap (λ (f : Found). f .curves) i)
-          (whole F x (ap (λ (o : Outcome). o .marks) y) (ap (λ (o : Outcome). o .firsts) y) (ap (λ (o : Outcome). o .curves) y) (ap (λ (o : Outcome). o .params) y))
+          same-counts (ap (λ (f : Found). f .form) i) (ap (λ (f : Found). f .tolerance) i) (ap (λ (f : Found). f .marks) i) (ap (λ (f : Found). f .curves) i)
+          (whole F x (ap (λ (o : Outcome). o .marks) y) (ap (λ (o : Outcome). o .firsts) y) (ap (λ (o : Outcome). o .worsts) y) (ap (λ (o : Outcome). o .curves) y) (ap (λ (o : Outcome). o .params) y))
       go (refused q) x y = not-refused q (ap (λ (o : Outcome). o .answer) y)
 
-  refusal : (q : ℕ) → outcome (refused q) M′ P′ C′ Q′ ≡ settled (fileIn b) M P C Q → fileIn b ≡ refused q
+  refusal : (q : ℕ) → outcome (refused q) M′ P′ W′ C′ Q′ ≡ settled (fileIn b) M P W C Q → fileIn b ≡ refused q
   refusal q e = go (fileIn b) refl e
     where
-      go : (a : Answer File) → fileIn b ≡ a → outcome (refused q) M′ P′ C′ Q′ ≡ settled a M P C Q → fileIn b ≡ refused q
+      go : (a : Answer File) → fileIn b ≡ a → outcome (refused q) M′ P′ W′ C′ Q′ ≡ settled a M P W C Q → fileIn b ≡ refused q
       go (ok F) x y = not-refused q (sym (ap (λ (o : Outcome). o .answer) y))
       go (refused p) x y = let z : _≡_ {A = Answer Found} (refused q) (refused p) = ap (λ (o : Outcome). o .answer) y in let s : q ≡ p = cc in rw s x
 
   -- in the arm of a file that was not read
-  pub unopened : (r : Read) → OneOf (1 ∷ []) (tagOf the-type r) → outcome (readAnswer r) M′ P′ C′ Q′ ≡ settled (fileIn b) M P C Q → fileIn b ≡ refused (refusalIn r)
-  unopened (read.File t n k) o e = absurd (omega arith)
+  pub unopened : (r : Read) → OneOf (1 ∷ []) (tagOf the-type r) → outcome (readAnswer r) M′ P′ W′ C′ Q′ ≡ settled (fileIn b) M P W C Q → fileIn b ≡ refused (refusalIn r)
+  unopened (read.File form t n k) o e = absurd (omega arith)
   unopened (read.Refused q) o e = refusal q e
 
 -- the front of a list is no longer than the list
@@ -131,22 +138,24 @@ front-within : (i : ℕ) (l : List ℕ) {m : List ℕ} → take i l ≡ m → le
 front-within i l e h = let f = rw (← e, length-take) at h in omega arith
 
 -- the marks are within their slice; and so is a list, if there is one
-pub record Bounds (n k : ℕ) (P C Q : List ℕ) : Type 0 where
+pub record Bounds (form : Form) (n k : ℕ) (P W C Q : List ℕ) : Type 0 where
   pub firsts : k ≤ length P
-  pub curves : 8 * k ≤ length C
+  pub worsts : worstsFor form k ≤ length W
+  pub curves : width form * k ≤ length C
   pub params : n ≤ length Q
 
-module _ {b : List ℕ} {t n k : ℕ} {M P C Q : List ℕ} (o : Opened b t n k M P C Q) where
+module _ {b : List ℕ} {form : Form} {t n k : ℕ} {M P W C Q : List ℕ} (o : Opened b form t n k M P W C Q) where
   pub marks-within : 2 * n ≤ length M
   marks-within = front-within (2 * n) M (o .marks) (o .formed .sized .marks)
 
   pub params-at : 0 < k → take n Q ≡ o .file .params
   params-at h = rw (params-some n h) at (o .params)
 
-  pub bounds : 0 < k → Bounds n k P C Q
+  pub bounds : 0 < k → Bounds form n k P W C Q
   bounds h = record {
     firsts = front-within k P (o .firsts) (o .formed .sized .firsts);
-    curves = front-within (8 * k) C (o .curves) (o .formed .sized .curves);
+    worsts = front-within (worstsFor form k) W (o .worsts) (o .formed .sized .worsts ∙ ap (λ (f : Form). worstsFor f k) (sym (o .shape)));
+    curves = front-within (width form * k) C (o .curves) (o .formed .sized .curves ∙ ap (λ (f : Form). width f * k) (sym (o .shape)));
     params = front-within n Q (params-at h) (rw (params-some n h) at (o .formed .sized .params));
   }
 
@@ -156,14 +165,24 @@ module _ {b : List ℕ} {t n k : ℕ} {M P C Q : List ℕ} (o : Opened b t n k M
 abbrev pub few : File → Answer File
 few F = unless 2 (leb (marksIn F) 4096) (ok F)
 
-places-for : (F : File) → Sized F (marksIn F) (curvesIn F) → Turn (marksIn F) (curvesIn F) → marksIn F ≤ 4096 → Places (marksIn F) (curvesIn F) 4095 32760 4096
-places-for F s (plain z) h = record { firsts = omega arith; curves = omega arith; params = rw z (omega arith) }
-places-for F s (full some less) h = record { firsts = omega arith; curves = omega arith; params = rw (params-some (marksIn F) some) h }
+-- a list of up to 4,095 curves, in either form
+list-within : (form : Form) (k : ℕ) → k ≤ 4095 → (worstsFor form k ≤ 4095) × (width form * k ≤ 36855)
+list-within Eight k h = (omega arith, omega arith)
+list-within Nine k h = (omega arith, omega arith)
 
-held : (F : File) → Sized F (marksIn F) (curvesIn F) → Turn (marksIn F) (curvesIn F) → within F 8192 4095 32760 4096 ≡ few F
+none-within : (form : Form) {k : ℕ} → k ≡ 0 → (worstsFor form k ≤ 4095) × (width form * k ≤ 36855)
+none-within form {k} z = list-within form k (omega arith)
+
+places-for : (F : File) → Sized F (marksIn F) (curvesIn F) → Turn (F .form) (marksIn F) (curvesIn F) → marksIn F ≤ 4096 → Places (F .form) (marksIn F) (curvesIn F) 4095 4095 36855 4096
+places-for F s (plain e z) h = record { firsts = omega arith; worsts = none-within (F .form) z .0; curves = none-within (F .form) z .1; params = rw z (omega arith) }
+places-for F s (full some less) h =
+    let b = list-within (F .form) (curvesIn F) (omega arith) in
+    record { firsts = omega arith; worsts = b .0; curves = b .1; params = rw (params-some (marksIn F) some) h }
+
+held : (F : File) → Sized F (marksIn F) (curvesIn F) → Turn (F .form) (marksIn F) (curvesIn F) → within F 8192 4095 4095 36855 4096 ≡ few F
 held F s w = go (leb (marksIn F) 4096) refl
   where
-    go : (b : Bool) → leb (marksIn F) 4096 ≡ b → within F 8192 4095 32760 4096 ≡ few F
+    go : (b : Bool) → leb (marksIn F) 4096 ≡ b → within F 8192 4095 4095 36855 4096 ≡ few F
     go true e =
         let h : marksIn F ≤ 4096 = leb-true _ _ e in
         let m : length (F .marks) ≤ 8192 = omega (arith, s .marks) in
@@ -171,11 +190,11 @@ held F s w = go (leb (marksIn F) 4096) refl
     go false e = rw e
 
 -- it is never 4: a file of up to 4,096 marks has its places
-pub roomy : (b : List ℕ) → fileIn b ≡ unless 9 (leb (length b) 393170) (_>>=_ (fileOf b) few)
+pub roomy : (b : List ℕ) → fileIn b ≡ unless 9 (leb (length b) 434120) (_>>=_ (fileOf b) few)
 unfolding fileIn judged
-roomy b = ap (unless 9 (leb (length b) 393170)) (go (fileOf b) refl)
+roomy b = ap (unless 9 (leb (length b) 434120)) (go (fileOf b) refl)
   where
-    go : (a : Answer File) → fileOf b ≡ a → judged b 8192 4095 32760 4096 ≡ _>>=_ a few
+    go : (a : Answer File) → fileOf b ≡ a → judged b 8192 4095 4095 36855 4096 ≡ _>>=_ a few
     go (ok F) x =
         let f = formed F (file-holds x .formed) in
         rw x (held F (f .sized) (f .way))

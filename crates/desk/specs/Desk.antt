@@ -27,28 +27,29 @@ patterns xs = map (toBits binary64) xs
 unfoldable pub zeros : ℕ → List Float
 zeros n = replicate n f0
 
--- so many zeros, for first marks
+-- so many zeros, for first marks and for worst marks
 unfoldable pub noMarks : ℕ → List ℕ
 noMarks n = replicate n 0
 
 -- ---- the file
 
--- the longest file: 4,096 marks, 4,095 curves and the parameters
+-- the longest file: 4,096 marks, 4,095 curves with their worst marks, and the parameters
 abbrev pub mostBytes : ℕ
-mostBytes = 393170
+mostBytes = 434120
 
 -- slices with room for that
-pub record Roomy (M P C Q : List ℕ) : Type 0 where
+pub record Roomy (M P W C Q : List ℕ) : Type 0 where
   pub marks : length M ≡ 8192
   pub firsts : length P ≡ 4095
-  pub curves : length C ≡ 32760
+  pub worsts : length W ≡ 4095
+  pub curves : length C ≡ 36855
   pub params : length Q ≡ 4096
 
 -- 9 or 2, or the file, as the reader has it of slices with that room. (proofs/Opened: it is never 4.)
 unfoldable pub fileIn : List ℕ → Answer File
-fileIn b = unless badlyFormed (leb (length b) mostBytes) (judged b 8192 4095 32760 4096)
+fileIn b = unless badlyFormed (leb (length b) mostBytes) (judged b 8192 4095 4095 36855 4096)
 
 -- the number of a reader's refusal, and 0 where there is none
 abbrev pub refusalIn : Read → ℕ
-refusalIn (read.File t n k) = 0
+refusalIn (read.File form t n k) = 0
 refusalIn (read.Refused q) = q

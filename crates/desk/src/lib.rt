@@ -11,8 +11,8 @@ use float::to_bits;
 use reader::Read;
 use reader::read_file;
 
-// The longest house file: 4,096 marks, 4,095 curves and the parameters.
-const MOST_BYTES: usize = 393170;
+// The longest house file: 4,096 marks, 4,095 curves with their worst marks, and the parameters.
+const MOST_BYTES: usize = 434120;
 
 // ---- numbers and patterns
 
@@ -50,10 +50,10 @@ pub fn mark_patterns() -> [u64; 8192]
 }
 
 // The patterns of the curves.
-pub fn curve_patterns() -> [u64; 32760]
-    ensures { λ r. ⌜ 32760 ≡ length r ⌝ }
+pub fn curve_patterns() -> [u64; 36855]
+    ensures { λ r. ⌜ 36855 ≡ length r ⌝ }
 {
-    [0; 32760]
+    [0; 36855]
 }
 
 // The patterns of the parameters.
@@ -63,7 +63,7 @@ pub fn param_patterns() -> [u64; 4096]
     [0; 4096]
 }
 
-// The first marks.
+// The first marks; and the worst marks, which are as many.
 pub fn first_marks() -> [u32; 4095]
     ensures { λ r. ⌜ (4095 ≡ length r) × (r ≡ noMarks 4095) ⌝ }
 {
@@ -78,10 +78,10 @@ pub fn mark_floats() -> [f64; 8192]
 }
 
 // The curves.
-pub fn curve_floats() -> [f64; 32760]
-    ensures { λ r. ⌜ (32760 ≡ length r) × (r ≡ zeros 32760) ⌝ }
+pub fn curve_floats() -> [f64; 36855]
+    ensures { λ r. ⌜ (36855 ≡ length r) × (r ≡ zeros 36855) ⌝ }
 {
-    [0.0; 32760]
+    [0.0; 36855]
 }
 
 // The parameters.
@@ -98,16 +98,17 @@ pub fn open_file(
     file: &[u8],
     marks: &mut [u64],
     firsts: &mut [u32],
+    worsts: &mut [u32],
     curves: &mut [u64],
     params: &mut [u64],
 ) -> Read
-    requires { ⌜ Roomy (now marks) (now firsts) (now curves) (now params) ⌝ }
-    ensures { λ r. ⌜ outcome (readAnswer r) (now (marks .exit)) (now (firsts .exit)) (now (curves .exit)) (now (params .exit)) ≡ settled (fileIn (now (file .entry))) (now (marks .entry)) (now (firsts .entry)) (now (curves .entry)) (now (params .entry)) ⌝ }
+    requires { ⌜ Roomy (now marks) (now firsts) (now worsts) (now curves) (now params) ⌝ }
+    ensures { λ r. ⌜ outcome (readAnswer r) (now (marks .exit)) (now (firsts .exit)) (now (worsts .exit)) (now (curves .exit)) (now (params .exit)) ≡ settled (fileIn (now (file .entry))) (now (marks .entry)) (now (firsts .entry)) (now (worsts .entry)) (now (curves .entry)) (now (params .entry)) ⌝ }
 {
     if file.len() > MOST_BYTES {
         return Read::Refused(BADLY_FORMED);
     }
-    read_file(file, marks, firsts, curves, params)
+    read_file(file, marks, firsts, worsts, curves, params)
 }
 
 // The number of a refusal, and 0 where a file was read.
@@ -116,6 +117,7 @@ pub fn refusal_of(read: Read) -> u32
 {
     match read {
         Read::File {
+            form: _,
             tolerance: _,
             marks: _,
             curves: _,

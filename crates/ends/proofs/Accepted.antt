@@ -20,17 +20,20 @@ use Rattle.marks.specs.Marks.{count, markAt}
 use Rattle.marks.specs.Line.{lineOf}
 use Rattle.stages.specs.Chords.{chordsOf}
 use Rattle.stages.specs.Newton.{reparam}
-use Rattle.stages.specs.Worst.{maxError}
+use Rattle.stages.specs.Worst.{errorOf, maxError}
+use Rattle.stages.specs.declared.worst.Worst.{Worst}
 use Rattle.squares.specs.Squares.{generateOf}
 use Rattle.squares.proofs.Controls.{GoodCurve}
 use Rattle.squares.proofs.Least.{generate-ends, generate-good}
 use Rattle.part.specs.Trial.{Trial, attempt, enough, improve, tried}
 use Rattle.part.specs.Part.{Part, fits, cuts, fails, pick, lined, judged, partOf}
-use Rattle.ends.specs.Ends.{Params, FitsP, EndsAt, Near}
+use Rattle.numbers.specs.Words.{zer}
+use Rattle.ends.specs.Ends.{Params, FitsP, EndsAt, Near, worstOf, rooted}
 use Rattle.ends.proofs.Chords.{chords-length, chords-params}
 use Rattle.ends.proofs.Rounds.{reparam-length, reparam-keeps}
-use Rattle.ends.proofs.Worst.{within}
-use Rattle.ends.proofs.Lines.{WP, line-near, line-good, line-params}
+use Rattle.ends.proofs.Basis.{error-end}
+use Rattle.ends.proofs.Worst.{within, max-is, max-less, last-fin}
+use Rattle.ends.proofs.Lines.{WP, line-near, line-far, line-far-less, line-good, line-params}
 
 -- every mark is a pair of f64 within the range of coordinates
 abbrev pub Marked : List Float → Type 0
@@ -99,14 +102,17 @@ module _ (ms : List Float) (n : ℕ) (st et : Point) (fits-first : FitsP (markAt
         go false t s h = s
 
 -- ---- the law
-pub record Fits (ms : List Float) (tol : Float) (c : Curve) (ps : List Float) : Type 0 where
+pub record Fits (ms : List Float) (tol : Float) (c : Curve) (w : Worst) (ps : List Float) : Type 0 where
   pub good : GoodCurve c
   pub many : length ps ≡ count ms
   pub params : Params ps
   pub near : (k : ℕ) → k < count ms → Near tol (markAt ms k) c (getD ps k nan)
+  -- what is kept is the worst of all marks, and of all but the last, which is off by nothing
+  pub far : w ≡ rooted (worstOf ms c ps (count ms))
+  pub far-less : w ≡ rooted (worstOf ms c ps (count ms - 1))
 
 abbrev pub Accepted : List Float → Float → Part → Type 0
-Accepted ms tol (fits c ps) = Fits ms tol c ps
+Accepted ms tol (fits c w ps) = Fits ms tol c w ps
 Accepted ms tol (cuts k) = Unit {0}
 Accepted ms tol (fails q) = Unit {0}
 
@@ -121,21 +127,32 @@ module _ (ms : List Float) (tol : Float) (t : Le f0 tol) (two : 2 ≤ count ms) 
         many = sym n;
         params = line-params;
         near = λ k l. line-near ms tol t (m0 .1) (m1 .1) (m0 .0) (m1 .0) k (omega arith);
+        far = rw n (line-far ms tol t (m0 .1) (m1 .1) (m0 .0) (m1 .0));
+        far-less = rw n (line-far-less ms tol t (m0 .1) (m1 .1) (m0 .0) (m1 .0));
       }
 
-  kept-fits : (a : Trial) → Kept ms (count ms) a → Le (a .far .err) tol → Fits ms tol (a .curve) (a .params)
+  -- the last mark is off by nothing
+  last-none : (a : Trial) → Kept ms (count ms) a → errorOf (markAt ms (count ms - 1)) (a .curve) (getD (a .params) (count ms - 1) nan) .val ≡ zer false
+  last-none a k =
+      let many = k .many in
+      error-end (markAt ms (count ms - 1)) (a .curve) (getD (a .params) (count ms - 1) nan) (k .ends .fits-last)
+      (last-fin ms (a .curve) (a .params) (count ms - 1) (omega arith) (k .fine)) (k .ends .last) (rw many at (k .params .last))
+
+  kept-fits : (a : Trial) → Kept ms (count ms) a → Le (a .far .err) tol → Fits ms tol (a .curve) (a .far) (a .params)
   kept-fits a k l = record {
     good = k .good;
     many = k .many;
     params = k .params;
     near = λ i b. within ms (a .curve) (a .params) tol (k .fine) (rw (k .far) at l) i (subst (λ (n : ℕ). i < n) (sym (k .many)) b);
+    far = k .far ∙ max-is ms (a .curve) (a .params) ∙ ap (λ (n : ℕ). rooted (worstOf ms (a .curve) (a .params) n)) (k .many);
+    far-less = k .far ∙ max-less ms (a .curve) (a .params) (count ms - 1) (let many = k .many in omega arith) (k .fine) (last-none a k);
   }
 
   judged-fits : (a : Trial) (b : Bool) → (b ≡ true → Kept ms (count ms) a) → Accepted ms tol (judged (count ms) tol (unless 6 b (ok a)))
   judged-fits a false k = tt
   judged-fits a true k = go (le (a .far .err) tol) refl (eqb (a .far .at) 0 || eqb (a .far .at) (count ms - 1))
     where
-      go : (b : Bool) → le (a .far .err) tol ≡ b → (c : Bool) → Accepted ms tol (pick b (fits (a .curve) (a .params)) (pick c (fails 7) (cuts (a .far .at))))
+      go : (b : Bool) → le (a .far .err) tol ≡ b → (c : Bool) → Accepted ms tol (pick b (fits (a .curve) (a .far) (a .params)) (pick c (fails 7) (cuts (a .far .at))))
       go true e c = kept-fits a (k refl) e
       go false e true = tt
       go false e false = tt

@@ -1,5 +1,5 @@
 -- A part of two marks is a line, and no distance is measured: that the checker's distances there are finite is a fact about the ranges, not about a run.
-use mathlib.Core.Path.{_≡_, refl, sym, _∙_, subst}
+use mathlib.Core.Path.{_≡_, refl, sym, ap, _∙_, subst}
 use mathlib.Core.Bool.{true, false}
 use mathlib.Core.List.{List, [], _∷_}
 use Prim.Native.Nat.{ℕ, suc, _*_, _^_, _≤_, _<_}
@@ -22,13 +22,16 @@ use Rattle.plane.proofs.Fine.{Good}
 use Rattle.cubic.specs.Basis.{basis, pointAt}
 use Rattle.marks.specs.Marks.{markAt}
 use Rattle.marks.specs.Line.{f033, f066, lineOf}
-use Rattle.stages.specs.Worst.{errorOf}
+use Rattle.float.specs.Folds.{upto}
+use Rattle.stages.specs.Worst.{errorOf, larger, worstAt, noWorst}
+use Rattle.stages.specs.declared.worst.Worst.{Worst}
 use Rattle.squares.proofs.Controls.{GoodCurve}
 use Rattle.numbers.specs.Words.{zer, InUnit}
 use Rattle.faults.specs.Tests.{distanceAt}
-use Rattle.ends.specs.Ends.{FitsP, Near, Params}
+use Rattle.ends.specs.Ends.{FitsP, Near, Params, worstOf, rooted}
 use Rattle.numbers.proofs.Zeros.{f0-is, f1-is}
 use Rattle.ends.proofs.Basis.{part, om, error-start, error-end}
+use Rattle.ends.proofs.Worst.{larger-none}
 use Rattle.numbers.proofs.Order.{zero-in, one-in}
 use Rattle.numbers.proofs.Bounds.{W, w-fin, w-up, mul-w, add-w, sub-w}
 
@@ -156,6 +159,28 @@ module _ (ms : List Float) (tol : Float) (t : Le f0 tol) (w0 : WP 20 (markAt ms 
   pub line-near : (k : ℕ) → k < 2 → Near tol (markAt ms k) c (getD ends k nan)
   unfolding Passes distanceAt
   line-near = below-more Passes 1 (below-more Passes 0 (below-none Passes) (near-zero _ off0)) (near-zero _ off1)
+
+  -- neither mark is off: the worst of the first n is none
+  none-off : (k : ℕ) (e : Float) → e ≡ zer false → larger noWorst e k ≡ noWorst
+  none-off k e z = larger-none noWorst e k (unfold ofBits in tt) z
+
+  one-off : worstOf ms c ends 1 ≡ noWorst
+  unfolding upto worstAt
+  one-off = none-off 0 _ off0
+
+  two-off : worstOf ms c ends 2 ≡ noWorst
+  unfolding upto worstAt
+  two-off = ap (λ (w : Worst). larger w (errorOf (markAt ms 1) c f1 .val) 1) one-off ∙ none-off 1 _ off1
+
+  root-none : noWorst ≡ rooted noWorst
+  unfolding ofBits sqrt
+  root-none = refl
+
+  pub line-far : noWorst ≡ rooted (worstOf ms c ends 2)
+  line-far = root-none ∙ ap rooted (sym two-off)
+
+  pub line-far-less : noWorst ≡ rooted (worstOf ms c ends 1)
+  line-far-less = root-none ∙ ap rooted (sym one-off)
 
   pub line-good : GoodCurve c
   line-good = let w = line-w (markAt ms 0) (markAt ms 1) w0 w1 in (good 22 _ (w .0), good 22 _ (w .1), good 22 _ (w .2), good 22 _ (w .3))

@@ -1,5 +1,5 @@
--- The worst mark: if the root of the largest squared distance is within a tolerance, so is each mark's.
-use mathlib.Core.Path.{_≡_, refl}
+-- The worst mark: if the root of the largest squared distance is within a tolerance, so is each mark's; and a last mark that is off by nothing does not count.
+use mathlib.Core.Path.{_≡_, refl, ap, _∙_, subst}
 use mathlib.Core.Bool.{Bool, true, false, cond}
 use mathlib.Core.List.{List}
 use Prim.Native.Nat.{ℕ, zero, suc, _+_, _<_}
@@ -24,9 +24,10 @@ use Rattle.stages.specs.declared.worst.Worst.{Worst}
 use Rattle.stages.proofs.Errors.{error-bad}
 use Rattle.root.specs.Root.{sqrt, plain}
 use Rattle.faults.specs.Tests.{distanceAt}
-use Rattle.ends.specs.Ends.{Near}
+use Rattle.ends.specs.Ends.{Near, rooted}
 use Rattle.numbers.proofs.Order.{le-tr, le-self, lt-is-le, not-lt}
-use Rattle.numbers.proofs.Plain.{plain-fin, sqrt-plain, sqrt-le}
+use Rattle.numbers.specs.Words.{zer}
+use Rattle.numbers.proofs.Plain.{plain-fin, plain-not-below, sqrt-plain, sqrt-le}
 use Rattle.ends.proofs.Squares.{dot-plain, dot-fits}
 
 -- ---- a squared distance
@@ -40,6 +41,11 @@ error-plain m c t h = dot-plain _ h
 pub error-fits : (m : Point) (c : Curve) (t : Float) → T (fits binary64 (errorOf m c t .val))
 unfolding errorOf
 error-fits m c t = dot-fits _ _
+
+-- a mark that is off by nothing leaves the worst so far as it is
+pub larger-none : (w : Worst) (e : Float) (k : ℕ) → T (plain (w .err)) → e ≡ zer false → larger w e k ≡ w
+unfolding larger
+larger-none w e k p z = ap (λ (b : Bool). cond {A = Worst} b (record { err = e; at = k }) w) (ap (lt (w .err)) z ∙ plain-not-below (w .err) p)
 
 module _ (ms : List Float) (c : Curve) (ts : List Float) where
   -- the squared distance of mark k
@@ -94,3 +100,20 @@ module _ (ms : List Float) (c : Curve) (ts : List Float) where
         plain-fin (sqrt binary64 (off k)) (sqrt-plain (off k) (error-fits _ c _) p),
         le-tr (sqrt binary64 (off k)) (sqrt binary64 (upTo (length ts) .val .err)) tol (sqrt-le (off k) (upTo (length ts) .val .err) (error-fits _ c _) (t .held) p (t .most k b)) l,
       )
+
+  -- the distance of the worst is kept with it
+  pub max-is : maxError ms c ts .val ≡ rooted (upTo (length ts) .val)
+  unfolding maxError worst
+  max-is = refl
+
+  -- a last mark that is off by nothing is not the worst
+  pub max-less : (n : ℕ) → length ts ≡ suc n → Fine (maxError ms c ts) → off n ≡ zer false → maxError ms c ts .val ≡ rooted (upTo n .val)
+  unfolding maxError worst upto worstAt
+  max-less n l h z =
+      let f : Fine (upTo (length ts)) = and-left (upTo (length ts) .fine) _ h in
+      let g : Fine (upTo n) = and-left (upTo n .fine) _ (subst (λ (k : ℕ). Fine (upTo k)) l f) in
+      max-is ∙ ap (λ (k : ℕ). rooted (upTo k .val)) l ∙ ap rooted (larger-none (upTo n .val) (off n) n (top n g .sign) z)
+
+  pub last-fin : (k : ℕ) → k < length ts → Fine (maxError ms c ts) → Fin (off k)
+  unfolding maxError worst
+  last-fin k l h = each-fin (length ts) (and-left (upTo (length ts) .fine) _ h) k l

@@ -7,9 +7,13 @@ use lib.Dec.{T}
 use lib.ListN.{length, getD}
 use lib.Ieee.{Float, nan, binary64, fits, le}
 use Rattle.float.specs.Number.{finite}
+use Rattle.float.specs.Folds.{upto}
+use Rattle.root.specs.Root.{sqrt}
 use Rattle.plane.specs.declared.Point.{Point}
 use Rattle.plane.specs.declared.Curve.{Curve}
 use Rattle.marks.specs.Marks.{markAt}
+use Rattle.stages.specs.Worst.{worstAt, noWorst}
+use Rattle.stages.specs.declared.worst.Worst.{Worst}
 use Rattle.faults.specs.Tests.{distanceAt}
 use Rattle.numbers.specs.Words.{one, Zero, InUnit}
 
@@ -30,6 +34,14 @@ pub record EndsAt (ms : List Float) (n : ℕ) (c : Curve) : Type 0 where
   pub last : markAt ms (n - 1) ≡ c .end
   pub fits-first : FitsP (markAt ms 0)
   pub fits-last : FitsP (markAt ms (n - 1))
+
+-- the largest squared distance of the first n marks from the curve, with the first mark that has it
+abbrev pub worstOf : List Float → Curve → List Float → ℕ → Worst
+worstOf ms c ts n = upto n noWorst (worstAt ms c ts) .val
+
+-- the same with the distance
+abbrev pub rooted : Worst → Worst
+rooted w = record { err = sqrt binary64 (w .err); at = w .at }
 
 -- a mark's distance from the curve's point at t is finite and within the tolerance
 abbrev pub Near : Float → Point → Curve → Float → Type 0

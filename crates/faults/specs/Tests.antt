@@ -1,27 +1,42 @@
--- The tests of the list checker, each of one first mark (A), one curve (B) or one mark (C and D), and what they read of a list. In which order they come,
+-- The tests of the list checker, each of one first mark (A), one curve (B, E) or one mark (C and D), and what they read of a list. In which order they come,
 -- and which fault is the answer, is `Check` in `checker`. Definitions only.
 use Prim.Native.Nat.{ℕ, zero, suc, _+_, _-_, _*_}
-use mathlib.Core.Bool.{Bool, _&&_, cond}
+use mathlib.Core.Bool.{Bool, true, _&&_, cond}
 use mathlib.Core.List.{List}
-use lib.ListN.{getD}
+use lib.ListN.{drop, getD}
 use lib.Dec.{ltb, eqb}
-use lib.Ieee.{Float, binary64, toBits, eq, le}
+use lib.Ieee.{Float, nan, binary64, toBits, eq, le}
 use Rattle.float.specs.Number.{f0, f1, finite}
 use Rattle.root.specs.Root.{sqrt}
 use Rattle.plane.specs.Range.{pointFinite}
 use Rattle.plane.specs.declared.Point.{Point}
 use Rattle.plane.specs.declared.Curve.{Curve}
 use Rattle.marks.specs.Marks.{markAt}
-use Rattle.stages.specs.Worst.{errorOf}
+use Rattle.form.specs.Form.{curveNumbers, recordNumbers, width}
+use Rattle.form.specs.declared.Form.{Form}
+use Rattle.form.specs.declared.Form.the-variants.{Eight, Nine}
+use Rattle.stages.specs.Worst.{errorOf, larger}
+use Rattle.stages.specs.declared.worst.Worst.{Worst}
 
 -- ---- what a list holds
 
 abbrev pub firstAt : List ℕ → ℕ → ℕ
 firstAt fs j = getD fs j 0
 
+abbrev pub worstMarkAt : List ℕ → ℕ → ℕ
+worstMarkAt ws j = getD ws j 0
+
 -- a curve's eight numbers are four points, x and y in turn
-unfoldable pub curveAt : List Float → ℕ → Curve
-curveAt cs j = record { start = markAt cs (4 * j); cp1 = markAt cs (4 * j + 1); cp2 = markAt cs (4 * j + 2); end = markAt cs (4 * j + 3) }
+unfoldable pub curveOf : List Float → Curve
+curveOf xs = record { start = markAt xs 0; cp1 = markAt xs 1; cp2 = markAt xs 2; end = markAt xs 3 }
+
+-- curve j, behind the numbers of those before it
+unfoldable pub curveAt : Form → List Float → ℕ → Curve
+curveAt form cs j = curveOf (drop (width form * j) cs)
+
+-- the ninth number of record j: how far off the marks under its curve are
+abbrev pub farAt : List Float → ℕ → Float
+farAt cs j = getD cs (recordNumbers * j + curveNumbers) nan
 
 -- of n marks and k curves, where curve j ends: at the next one's first mark, or at the last mark
 unfoldable pub lastAt : ℕ → ℕ → List ℕ → ℕ → ℕ
@@ -61,5 +76,33 @@ timed n first i t = cond (eqb i first) (eq t f0) (cond (eqb (suc i) n) (eq t f1)
 unfoldable pub distanceAt : Point → Curve → Float → Float
 distanceAt m c t = sqrt binary64 (errorOf m c t .val)
 
+-- a distance that is finite and no more than the tolerance
+abbrev pub within : Float → Float → Bool
+within tol d = finite d && le d tol
+
 unfoldable pub near : Float → Point → Curve → Float → Bool
-near tol m c t = finite (distanceAt m c t) && le (distanceAt m c t) tol
+near tol m c t = within tol (distanceAt m c t)
+
+-- ---- E
+
+-- the square of mark i's distance
+unfoldable pub squareAt : List Float → Curve → List Float → ℕ → Float
+squareAt ms c ps i = errorOf (markAt ms i) c (getD ps i nan) .val
+
+-- the worst so far, or one of m marks from mark `from` on whose square is larger: the largest, and the first mark that has it
+unfoldable pub farther : Worst → (ℕ → Float) → ℕ → ℕ → Worst
+farther w square from zero = w
+farther w square from (suc i) = larger (farther w square from i) (square i) (from + i)
+
+-- no distance yet, at a curve's first mark
+abbrev pub unmeasured : ℕ → Worst
+unmeasured first = record { err = f0; at = first }
+
+-- the largest square under a curve c, over m marks from mark `first` on, and the first mark that has it; mark `first` if all are zero
+abbrev pub farthest : List Float → Curve → List Float → ℕ → ℕ → Worst
+farthest ms c ps first m = farther (unmeasured first) (λ i. squareAt ms c ps (first + i)) first m
+
+-- record j keeps the farthest mark under its curve: its distance, equal bit for bit, and its number; eight numbers keep none
+unfoldable pub kept : Form → List Float → List ℕ → ℕ → Worst → Bool
+kept Eight cs ws j w = true
+kept Nine cs ws j w = eqb (toBits binary64 (farAt cs j)) (toBits binary64 (sqrt binary64 (w .err))) && eqb (worstMarkAt ws j) (w .at)

@@ -1,11 +1,17 @@
-// The tests of the list checker, each of one first mark (A), one curve (B) or one mark (C and D), and what they read of a list.
+// The tests of the list checker, each of one first mark (A), one curve (B, E) or one mark (C and D), and what they read of a list.
 ghost use mathlib.Core.Path.{_≡_};
 ghost use Prim.Native.Nat.{_+_, _-_, _*_, _≤_, _<_};
 ghost use lib.ListN.{length, take, drop};
 ghost use Rattle.marks.specs.Marks.{markAt};
-ghost use Rattle.faults.specs.Tests.{firstAt, curveAt, lastAt, stopAt, rises, same, curveFinite, runs, timed, distanceAt, near};
+ghost use lib.Ieee.{binary64};
+ghost use Rattle.root.specs.Root.{sqrt};
+ghost use Rattle.form.specs.Form.{curveNumbers, recordNumbers, width, worstsFor};
+ghost use Rattle.form.specs.declared.Form.the-variants as forms;
+ghost use Rattle.faults.specs.Tests.{firstAt, curveOf, curveAt, farAt, lastAt, stopAt, rises, same, curveFinite, runs, timed, distanceAt, within, kept};
+use form::Form;
 use plane::Curve;
 use plane::Point;
+use stages::Worst;
 
 // ---- what a list holds
 
@@ -24,18 +30,35 @@ pub fn first_at(firsts: &[u32], j: usize) -> usize
     wide(firsts[j])
 }
 
-// Curve j of the list.
-pub fn curve_at(curves: &[f64], j: usize) -> Curve
-    requires { ⌜ 8 * j + 8 ≤ length (now curves) ⌝ }
-    ensures { λ r. ⌜ r ≡ curveAt (now (curves .entry)) j ⌝ }
+// The curve at the front of these numbers.
+fn curve_of(own: &[f64]) -> Curve
+    requires { ⌜ curveNumbers ≤ length (now own) ⌝ }
+    ensures { λ r. ⌜ r ≡ curveOf (now (own .entry)) ⌝ }
 {
-    let at = 4 * j;
     Curve {
-        start: marks::mark_at(curves, at),
-        cp1: marks::mark_at(curves, at + 1),
-        cp2: marks::mark_at(curves, at + 2),
-        end: marks::mark_at(curves, at + 3),
+        start: marks::mark_at(own, 0),
+        cp1: marks::mark_at(own, 1),
+        cp2: marks::mark_at(own, 2),
+        end: marks::mark_at(own, 3),
     }
+}
+
+// Curve j of the list.
+pub fn curve_at(form: Form, curves: &[f64], j: usize) -> Curve
+    requires { ⌜ width form * j + width form ≤ length (now curves) ⌝ }
+    ensures { λ r. ⌜ r ≡ curveAt form (now (curves .entry)) j ⌝ }
+{
+    let from = form::width(form) * j;
+    curve_of(&curves[from..])
+}
+
+// The ninth number of record j.
+fn far_at(curves: &[f64], j: usize) -> f64
+    requires { ⌜ recordNumbers * j + recordNumbers ≤ length (now curves) ⌝ }
+    ensures { λ r. ⌜ r ≡ farAt (now (curves .entry)) j ⌝ }
+{
+    let at = form::RECORD_NUMBERS * j + form::CURVE_NUMBERS;
+    curves[at]
 }
 
 // Where curve j ends: on the next one's first mark, or on the last of n marks.
@@ -132,11 +155,32 @@ pub fn distance_at(under: &[f64], c: Curve, i: usize, t: f64) -> f64
     root::sqrt(stages::error_at(under, c, i, t))
 }
 
-// Whether mark i of a part is within the tolerance. A distance that is NaN or an infinity is not.
-pub fn is_near(under: &[f64], c: Curve, i: usize, t: f64, tolerance: f64) -> bool
-    requires { ⌜ 2 * i + 1 < length (now under) ⌝ }
-    ensures { λ r. ⌜ r ≡ near tolerance (markAt (now (under .entry)) i) c t ⌝ }
+// Whether a mark with this square is within the tolerance. A distance that is NaN or an infinity is not.
+pub fn is_near(square: f64, tolerance: f64) -> bool
+    ensures { λ r. ⌜ r ≡ within tolerance (sqrt binary64 square) ⌝ }
 {
-    let d = distance_at(under, c, i, t);
+    let d = root::sqrt(square);
     float::finite(d) & (d <= tolerance)
+}
+
+// ---- E: the worst mark
+
+// Whether record j keeps the distance and the number of the farthest mark.
+fn is_kept_in(curves: &[f64], worsts: &[u32], j: usize, far: Worst) -> bool
+    requires { ⌜ (recordNumbers * j + recordNumbers ≤ length (now curves)) × (j < length (now worsts)) ⌝ }
+    ensures { λ r. ⌜ r ≡ kept forms.Nine (now (curves .entry)) (now (worsts .entry)) j far ⌝ }
+{
+    let d = root::sqrt(far.err);
+    (float::to_bits(far_at(curves, j)) == float::to_bits(d)) & (first_at(worsts, j) == far.at)
+}
+
+// The same of a list in either form: one of eight numbers keeps nothing that could be wrong.
+pub fn is_kept(form: Form, curves: &[f64], worsts: &[u32], j: usize, far: Worst) -> bool
+    requires { ⌜ (width form * j + width form ≤ length (now curves)) × (worstsFor form (j + 1) ≤ length (now worsts)) ⌝ }
+    ensures { λ r. ⌜ r ≡ kept form (now (curves .entry)) (now (worsts .entry)) j far ⌝ }
+{
+    match form {
+        Form::Eight => true,
+        Form::Nine => is_kept_in(curves, worsts, j, far),
+    }
 }

@@ -14,7 +14,8 @@ use Rattle.house.specs.Bytes.{num, words}
 use Rattle.house.specs.Held.{fileAt}
 use Rattle.house.proofs.Rows.{length-words, words-suc}
 use Rattle.house.proofs.Turns.{front-suc}
-use Rattle.desk.specs.Desk.{zeros, floats}
+use Rattle.form.specs.declared.Form.the-variants.{Eight}
+use Rattle.desk.specs.Desk.{zeros, noMarks, floats}
 use Rattle.file_fit.specs.FileFit.{fileFit, Left}
 
 pub length-floats : (n : ℕ) (b : List ℕ) → length (floats (words n b)) ≡ n
@@ -34,15 +35,16 @@ pub floats-front : (n : ℕ) (b : List ℕ) (l : List Float) → take n (written
 floats-front n b l = take-at (floats (words n b)) (drop (length (floats (words n b))) l) n (length-floats n b)
 
 -- what the fit left, in the definition's words
-pub fit-left : (b : List ℕ) (n : ℕ) (C : List Float) (P : List ℕ) (l M Q : List Float) (w : ℕ) (t : Float) (X : Answer ℕ) (C′ : List Float) (P′ : List ℕ) (Q′ : List Float)
+pub fit-left : (b : List ℕ) (n : ℕ) (C : List Float) (P : List ℕ) (l M : List Float) (W : List ℕ) (Q : List Float) (w : ℕ) (t : Float) (X : Answer ℕ) (C′ : List Float) (P′ W′ : List ℕ) (Q′ : List Float)
     → M ≡ written (floats (words (2 * n) (drop 20 b))) l
     → w ≡ num 8 b 6
     → t ≡ ofBits binary64 w
+    → W ≡ noMarks 511
     → Q ≡ zeros 512
-    → ending X C′ P′ Q′ ≡ fitOf Joined (take (2 * n) M) t C P Q
-    → Left (fileFit (fileAt b n 0) C P (zeros 512)) X C′ P′
+    → ending X C′ P′ W′ Q′ ≡ fitOf Joined (take (2 * n) M) t C P W Q
+    → Left (fileFit (fileAt b Eight n 0) C P (noMarks 511) (zeros 512)) X C′ P′
 unfolding fileFit
-fit-left b n C P l M Q w t X C′ P′ Q′ eM ew et eQ h =
+fit-left b n C P l M W Q w t X C′ P′ W′ Q′ eM ew et eW eQ h =
     let m : take (2 * n) M ≡ floats (words (2 * n) (drop 20 b)) = rw eM (floats-front (2 * n) (drop 20 b) l) in
-    let q : ending X C′ P′ Q′ ≡ fitOf Joined (floats (words (2 * n) (drop 20 b))) (ofBits binary64 (num 8 b 6)) C P (zeros 512) = h ∙ rw (m, et, ew, eQ) in
+    let q : ending X C′ P′ W′ Q′ ≡ fitOf Joined (floats (words (2 * n) (drop 20 b))) (ofBits binary64 (num 8 b 6)) C P (noMarks 511) (zeros 512) = h ∙ rw (m, et, ew, eW, eQ) in
     record { answer = ap (λ (E : Ending). E .answer) q; curves = ap (λ (E : Ending). E .curves) q; firsts = ap (λ (E : Ending). E .firsts) q }

@@ -7,7 +7,8 @@ ghost use Rattle.fit.specs.Fit.{fittedAnswer};
 ghost use Rattle.house.specs.Limits.{numberField, markBytes, marksAt};
 ghost use Rattle.house.specs.Bytes.{words};
 ghost use Rattle.house.specs.Held.{fileAt};
-ghost use Rattle.desk.specs.Desk.{zeros, floats};
+ghost use Rattle.form.specs.declared.Form.the-variants as form;
+ghost use Rattle.desk.specs.Desk.{zeros, noMarks, floats};
 ghost use Rattle.file_fit.specs.FileFit.{fileFit, Left, refusalIn};
 use cut::Fitted;
 use float::of_bits;
@@ -33,6 +34,13 @@ fn mark_room() -> [f64; 1024]
     [0.0; 1024]
 }
 
+// Zeros for 511 worst marks.
+fn worst_room() -> [u32; 511]
+    ensures { λ r. ⌜ (511 ≡ length r) × (r ≡ noMarks 511) ⌝ }
+{
+    [0; 511]
+}
+
 // Zeros for 512 parameters.
 fn param_room() -> [f64; 512]
     ensures { λ r. ⌜ (512 ≡ length r) × (r ≡ zeros 512) ⌝ }
@@ -40,17 +48,25 @@ fn param_room() -> [f64; 512]
     [0.0; 512]
 }
 
-// Fits the outline of a file of n marks, at most 512. The parameters are not asked for.
+// Fits the outline of a file of n marks, at most 512. The worst marks and the parameters are not asked for.
 pub fn fit_file(file: &[u8], n: usize, curves: &mut [f64], firsts: &mut [u32]) -> Fitted
     requires { ⌜ (marksAt + markBytes * n ≤ length (now file)) × (n ≤ 512) ⌝ }
-    ensures { λ r. ⌜ Left (fileFit (fileAt (now (file .entry)) n 0) (now (curves .entry)) (now (firsts .entry)) (zeros 512)) (fittedAnswer r) (now (curves .exit)) (now (firsts .exit)) ⌝ }
+    ensures { λ r. ⌜ Left (fileFit (fileAt (now (file .entry)) form.Eight n 0) (now (curves .entry)) (now (firsts .entry)) (noMarks 511) (zeros 512)) (fittedAnswer r) (now (curves .exit)) (now (firsts .exit)) ⌝ }
 {
     let mut marks = mark_room();
+    let mut worsts = worst_room();
     let mut params = param_room();
     let m = sizes::MARK_NUMBERS * n;
     copy_numbers(file, sizes::MARKS_AT, m, &mut marks);
     let tolerance = of_bits(eight(file, sizes::HEAD_BYTES));
-    fit::fit_joined(&marks[..m], tolerance, curves, firsts, &mut params)
+    fit::fit_joined(
+        &marks[..m],
+        tolerance,
+        curves,
+        firsts,
+        &mut worsts,
+        &mut params,
+    )
 }
 
 // The number of a fit's refusal, and 0 where there is none.

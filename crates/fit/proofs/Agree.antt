@@ -15,8 +15,8 @@ same-fitted (Curves n) (Refused q) e = let z : _≡_ {A = ℕ} 0 1 = cc in absur
 same-fitted (Refused q) (Curves n) e = let z : _≡_ {A = ℕ} 0 1 = cc in absurd (omega arith)
 same-fitted (Refused q) (Refused p) e = let f : q ≡ p = cc in ap Refused f
 
-pub agree : (X : Ending) (r r′ : Fitted) (C C′ : List Float) (F F′ : List ℕ) (P P′ : List Float) → ending (fittedAnswer r) C F P ≡ X → ending (fittedAnswer r′) C′ F′ P′ ≡ X
-    → (r ≡ r′) × (C ≡ C′) × (F ≡ F′) × (P ≡ P′)
-agree X r r′ C C′ F F′ P P′ h g =
+pub agree : (X : Ending) (r r′ : Fitted) (C C′ : List Float) (F F′ W W′ : List ℕ) (P P′ : List Float) → ending (fittedAnswer r) C F W P ≡ X → ending (fittedAnswer r′) C′ F′ W′ P′ ≡ X
+    → (r ≡ r′) × (C ≡ C′) × (F ≡ F′) × (W ≡ W′) × (P ≡ P′)
+agree X r r′ C C′ F F′ W W′ P P′ h g =
     let e = h ∙ sym g in
-    (same-fitted r r′ (ap (λ (x : Ending). x .answer) e), ap (λ (x : Ending). x .curves) e, ap (λ (x : Ending). x .firsts) e, ap (λ (x : Ending). x .params) e)
+    (same-fitted r r′ (ap (λ (x : Ending). x .answer) e), ap (λ (x : Ending). x .curves) e, ap (λ (x : Ending). x .firsts) e, ap (λ (x : Ending). x .worsts) e, ap (λ (x : Ending). x .params) e)

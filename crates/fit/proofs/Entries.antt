@@ -50,31 +50,31 @@ size-within n s e = subst (λ (i : ℕ). (2 ≤ i) × (i ≤ 200)) (sym e) (go (
     go false = let s = size-from 150 n in (omega arith, omega arith)
 
 -- a run by blocks of s marks is one of t, where s is t
-pub of-size : (k : Cutting) (ms : List Float) (tol : Float) (s t : ℕ) (r : Fitted) (C C₁ : List Float) (F F₁ : List ℕ) (p : List Float) → s ≡ t → Left (blocksOf k ms s tol) r C C₁ F F₁ p → Left (blocksOf k ms t tol) r C C₁ F F₁ p
-of-size k ms tol s t r C C₁ F F₁ p e h = subst (λ (i : ℕ). Left (blocksOf k ms i tol) r C C₁ F F₁ p) e h
+pub of-size : (k : Cutting) (ms : List Float) (tol : Float) (s t : ℕ) (r : Fitted) (C C₁ : List Float) (F F₁ W W₁ : List ℕ) (p : List Float) → s ≡ t → Left (blocksOf k ms s tol) r C C₁ F F₁ W W₁ p → Left (blocksOf k ms t tol) r C C₁ F F₁ W W₁ p
+of-size k ms tol s t r C C₁ F F₁ W W₁ p e h = subst (λ (i : ℕ). Left (blocksOf k ms i tol) r C C₁ F F₁ W W₁ p) e h
 
 -- ---- a passed gate
 
-pub passed-room : (top : ℕ) (o : Outline) (ms : List Float) (tol : Float) (C : List Float) (F : List ℕ) (P : List Float) → top < 65536 → Passed top o ms tol (length C) (length F) (length P) → Room (whole o ms) 0 C F (take (again o + count ms) P)
-passed-room top o ms tol C F P t g =
+pub passed-room : (top : ℕ) (o : Outline) (ms : List Float) (tol : Float) (C : List Float) (F W : List ℕ) (P : List Float) → top < 65536 → Passed top o ms tol (length C) (length F) (length W) (length P) → Room (whole o ms) 0 C F W (take (again o + count ms) P)
+passed-room top o ms tol C F W P t g =
     let n : length (take (again o + count ms) P) ≡ again o + count ms = simp length-take (let r = g .params in omega arith) in
     let l = whole-length o ms (passed-even g) in
     let s = again-small o in
-    record { even = omega arith; two = omega arith; near = omega arith; curves = omega arith; firsts = omega arith }
+    record { even = omega arith; two = omega arith; near = omega arith; curves = omega arith; firsts = omega arith; worsts = omega arith }
 
 -- the same test and the same room, by equal outlines and equal counts
-pub of-outline : (top : ℕ) (o o′ : Outline) (ms : List Float) (tol : Float) (c f p q : ℕ) → o ≡ o′ → q ≡ gateOf top o ms tol c f p → q ≡ gateOf top o′ ms tol c f p
-of-outline top o o′ ms tol c f p q e h = subst (λ (o : Outline). q ≡ gateOf top o ms tol c f p) e h
+pub of-outline : (top : ℕ) (o o′ : Outline) (ms : List Float) (tol : Float) (c f w p q : ℕ) → o ≡ o′ → q ≡ gateOf top o ms tol c f w p → q ≡ gateOf top o′ ms tol c f w p
+of-outline top o o′ ms tol c f w p q e h = subst (λ (o : Outline). q ≡ gateOf top o ms tol c f w p) e h
 
-pub of-count : (ms C : List Float) (F : List ℕ) (P : List Float) (m n : ℕ) → n ≡ m → Room ms 0 C F (take m P) → Room ms 0 C F (take n P)
-of-count ms C F P m n e h = subst (λ (i : ℕ). Room ms 0 C F (take i P)) (sym e) h
+pub of-count : (ms C : List Float) (F W : List ℕ) (P : List Float) (m n : ℕ) → n ≡ m → Room ms 0 C F W (take m P) → Room ms 0 C F W (take n P)
+of-count ms C F W P m n e h = subst (λ (i : ℕ). Room ms 0 C F W (take i P)) (sym e) h
 
-pub cubic-passed : (ms : List Float) (s e : Point) (tol : Float) (c f p q : ℕ) → q ≡ cubicGate ms s e tol c f p → q ≡ 0 → Passed 512 Open ms tol c f p
+pub cubic-passed : (ms : List Float) (s e : Point) (tol : Float) (c f w p q : ℕ) → q ≡ cubicGate ms s e tol c f w p → q ≡ 0 → Passed 512 Open ms tol c f w p
 unfolding cubicGate
-cubic-passed ms s e tol c f p q h z = passed 512 Open ms tol c f p (go (eqb (gateOf 512 Open ms tol c f p) 0) refl (sym h ∙ z))
+cubic-passed ms s e tol c f w p q h z = passed 512 Open ms tol c f w p (go (eqb (gateOf 512 Open ms tol c f w p) 0) refl (sym h ∙ z))
   where
-    go : (b : Bool) → eqb (gateOf 512 Open ms tol c f p) 0 ≡ b → cond b (refuse (not (areTangents s e)) 5 0) (gateOf 512 Open ms tol c f p) ≡ 0 → gateOf 512 Open ms tol c f p ≡ 0
-    go true t h = eqb-true (gateOf 512 Open ms tol c f p) 0 t
+    go : (b : Bool) → eqb (gateOf 512 Open ms tol c f w p) 0 ≡ b → cond b (refuse (not (areTangents s e)) 5 0) (gateOf 512 Open ms tol c f w p) ≡ 0 → gateOf 512 Open ms tol c f w p ≡ 0
+    go true t h = eqb-true (gateOf 512 Open ms tol c f w p) 0 t
     go false t h = h
 
 -- ---- the ends of a fit, of any run
@@ -85,12 +85,13 @@ pub record Fit : Type 0 where
   pub R : Run
   pub C : List Float
   pub F : List ℕ
+  pub W : List ℕ
   pub P : List Float
   pub g : ℕ
   pub q : ℕ
   pub tested : q ≡ g
 
-pub end-gate : (K : Fit) → (K .q ≡ 0 → ⊥) → ending (no (K .q)) (K .C) (K .F) (K .P) ≡ entered (K .g) (K .R) (K .C) (K .F) (K .P)
+pub end-gate : (K : Fit) → (K .q ≡ 0 → ⊥) → ending (no (K .q)) (K .C) (K .F) (K .W) (K .P) ≡ entered (K .g) (K .R) (K .C) (K .F) (K .W) (K .P)
 end-gate K h = rw (← K .tested, ne-eqb (K .q) 0 h)
 
 -- the run of one that its gate let through
@@ -100,10 +101,12 @@ pub record Ran (K : Fit) : Type 0 where
   pub out : Fitted
   pub C₁ : List Float
   pub F₁ : List ℕ
+  pub W₁ : List ℕ
   pub p : List Float
-  pub left : Left (K .R) out (K .C) C₁ (K .F) F₁ p
+  pub left : Left (K .R) out (K .C) C₁ (K .F) F₁ (K .W) W₁ p
   pub lc : length C₁ ≡ length (K .C)
   pub lf : length F₁ ≡ length (K .F)
+  pub lw : length W₁ ≡ length (K .W)
   pub lp : length p ≡ length (take (K .n) (K .P))
 
 module _ (K : Fit) (D : Ran K) where
@@ -114,23 +117,23 @@ module _ (K : Fit) (D : Ran K) where
   pub as-long : length P₁ ≡ length (K .P)
   as-long = front-length (K .n) (K .P) (D .p) (D .room) (D .lp)
 
-  ran : entered (K .g) (K .R) (K .C) (K .F) (K .P) ≡ ended (K .R) (K .C) (K .F) (K .P)
+  ran : entered (K .g) (K .R) (K .C) (K .F) (K .W) (K .P) ≡ ended (K .R) (K .C) (K .F) (K .W) (K .P)
   ran = rw (← K .tested, eq-eqb (K .q) 0 (D .passed))
 
   -- refused: what zero_all leaves is as long as before
-  pub end-refused : (k : ℕ) (C₂ : List Float) (F₂ : List ℕ) (P₂ : List Float) → D .out ≡ Refused k → C₂ ≡ replicate (length (D .C₁)) f0 → F₂ ≡ replicate (length (D .F₁)) 0 → P₂ ≡ replicate (length P₁) f0
-      → ending (fittedAnswer (D .out)) C₂ F₂ P₂ ≡ entered (K .g) (K .R) (K .C) (K .F) (K .P)
+  pub end-refused : (k : ℕ) (C₂ : List Float) (F₂ W₂ : List ℕ) (P₂ : List Float) → D .out ≡ Refused k → C₂ ≡ replicate (length (D .C₁)) f0 → F₂ ≡ replicate (length (D .F₁)) 0 → W₂ ≡ replicate (length (D .W₁)) 0 → P₂ ≡ replicate (length P₁) f0
+      → ending (fittedAnswer (D .out)) C₂ F₂ W₂ P₂ ≡ entered (K .g) (K .R) (K .C) (K .F) (K .W) (K .P)
   unfolding fittedAnswer
-  end-refused k C₂ F₂ P₂ o ec ef ep = go (K .R) (is-refused (K .R) (D .out) k (K .C) (D .C₁) (K .F) (D .F₁) (D .p) (D .left) o) ∙ sym ran
+  end-refused k C₂ F₂ W₂ P₂ o ec ef ew ep = go (K .R) (is-refused (K .R) (D .out) k (K .C) (D .C₁) (K .F) (D .F₁) (K .W) (D .W₁) (D .p) (D .left) o) ∙ sym ran
     where
-      go : (S : Run) → S ≡ refused k → ending (fittedAnswer (D .out)) C₂ F₂ P₂ ≡ ended S (K .C) (K .F) (K .P)
-      go S is = rw (is, o, ec, ef, ep, D .lc, D .lf, as-long)
+      go : (S : Run) → S ≡ refused k → ending (fittedAnswer (D .out)) C₂ F₂ W₂ P₂ ≡ ended S (K .C) (K .F) (K .W) (K .P)
+      go S is = rw (is, o, ec, ef, ew, ep, D .lc, D .lf, D .lw, as-long)
 
-  pub end-done : (k : ℕ) → D .out ≡ Curves k → ending (ok k) (D .C₁) (D .F₁) P₁ ≡ entered (K .g) (K .R) (K .C) (K .F) (K .P)
-  end-done k o = go (K .R) (is-done (K .R) (D .out) k (K .C) (D .C₁) (K .F) (D .F₁) (D .p) (D .left) o) ∙ sym ran
+  pub end-done : (k : ℕ) → D .out ≡ Curves k → ending (ok k) (D .C₁) (D .F₁) (D .W₁) P₁ ≡ entered (K .g) (K .R) (K .C) (K .F) (K .W) (K .P)
+  end-done k o = go (K .R) (is-done (K .R) (D .out) k (K .C) (D .C₁) (K .F) (D .F₁) (K .W) (D .W₁) (D .p) (D .left) o) ∙ sym ran
     where
       long : length (D .p) ≡ K .n
       long = let r = D .room in D .lp ∙ simp length-take (omega arith)
 
-      go : (S : Run) → Done S k (K .C) (D .C₁) (K .F) (D .F₁) (D .p) → ending (ok k) (D .C₁) (D .F₁) P₁ ≡ ended S (K .C) (K .F) (K .P)
-      go S E = rw (E .is, E .curves, E .firsts, E .long, long)
+      go : (S : Run) → Done S k (K .C) (D .C₁) (K .F) (D .F₁) (K .W) (D .W₁) (D .p) → ending (ok k) (D .C₁) (D .F₁) (D .W₁) P₁ ≡ ended S (K .C) (K .F) (K .W) (K .P)
+      go S E = rw (E .is, E .curves, E .firsts, E .worsts, E .long, long)

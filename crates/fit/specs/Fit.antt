@@ -1,4 +1,4 @@
--- The five fits: what each answers, and what the three lent slices hold after it. Definitions only.
+-- The five fits: what each answers, and what the four lent slices hold after it. Definitions only.
 use Prim.Native.Nat.{ℕ}
 use mathlib.Core.Bool.{Bool, not, _&&_, cond}
 use mathlib.Core.List.{List}
@@ -14,7 +14,7 @@ use Rattle.plane.specs.declared.Point.{Point}
 use Rattle.marks.specs.Marks.{count}
 use Rattle.marks.specs.Block.{blockSize}
 use Rattle.gate.specs.Gate.{refuse, gateOf}
-use Rattle.cut.specs.Run.{Run, refused, done, runOf}
+use Rattle.cut.specs.Run.{Run, refused, done, firstsOf, worstsOf, runOf}
 use Rattle.cut.specs.declared.Fitted.{Fitted}
 use Rattle.cut.specs.declared.Fitted.the-variants as fitted
 use Rattle.ring.specs.declared.Outline.the-variants.{Open}
@@ -32,25 +32,26 @@ pub record Ending : Type 0 where
   pub answer : Answer ℕ
   pub curves : List Float
   pub firsts : List ℕ
+  pub worsts : List ℕ
   pub params : List Float
 
-abbrev pub ending : Answer ℕ → List Float → List ℕ → List Float → Ending
-ending r C F P = record { answer = r; curves = C; firsts = F; params = P }
+abbrev pub ending : Answer ℕ → List Float → List ℕ → List ℕ → List Float → Ending
+ending r C F W P = record { answer = r; curves = C; firsts = F; worsts = W; params = P }
 
--- A run that is refused leaves zeros. One that is done leaves eight numbers a curve, its first mark and every mark's parameter; the places
--- beyond stay.
-abbrev pub ended : Run → List Float → List ℕ → List Float → Ending
-ended (refused q) C F P = ending (no q) (replicate (length C) f0) (replicate (length F) 0) (replicate (length P) f0)
-ended (done cs fs ps) C F P = ending (ok (length fs)) (written cs C) (written fs F) (written ps P)
+-- A run that is refused leaves zeros. One that is done leaves nine numbers a curve, its first mark, its worst mark and every mark's parameter; the
+-- places beyond stay.
+abbrev pub ended : Run → List Float → List ℕ → List ℕ → List Float → Ending
+ended (refused q) C F W P = ending (no q) (replicate (length C) f0) (replicate (length F) 0) (replicate (length W) 0) (replicate (length P) f0)
+ended (done cs bs ps) C F W P = ending (ok (length bs)) (written cs C) (written (firstsOf bs) F) (written (worstsOf bs) W) (written ps P)
 
 -- a call that its gate refuses leaves the slices as they were; else it ends as its run
-abbrev pub entered : ℕ → Run → List Float → List ℕ → List Float → Ending
-entered g R C F P = cond (eqb g 0) (ended R C F P) (ending (no g) C F P)
+abbrev pub entered : ℕ → Run → List Float → List ℕ → List ℕ → List Float → Ending
+entered g R C F W P = cond (eqb g 0) (ended R C F W P) (ending (no g) C F W P)
 
 -- by blocks, at most 4,096 marks given; the size of a block is by the marks that are cut, a ring's with mark 0 once more
-unfoldable pub fitOf : Cutting → List Float → Float → List Float → List ℕ → List Float → Ending
-fitOf k ms tol C F P =
-    entered (gateOf 4096 (outlineOf k) ms tol (length C) (length F) (length P)) (blocksOf k (marksOf k ms) (blockSize (count (marksOf k ms))) tol) C F P
+unfoldable pub fitOf : Cutting → List Float → Float → List Float → List ℕ → List ℕ → List Float → Ending
+fitOf k ms tol C F W P =
+    entered (gateOf 4096 (outlineOf k) ms tol (length C) (length F) (length W) (length P)) (blocksOf k (marksOf k ms) (blockSize (count (marksOf k ms))) tol) C F W P
 
 -- a tangent's components: finite and of magnitude at most 2
 unfoldable pub component : Float → Bool
@@ -60,9 +61,9 @@ unfoldable pub areTangents : Point → Point → Bool
 areTangents v w = component (v .x) && component (v .y) && (component (w .x) && component (w .y))
 
 -- the direct fit tests the tangents last
-unfoldable pub cubicGate : List Float → Point → Point → Float → ℕ → ℕ → ℕ → ℕ
-cubicGate ms s e tol c f p = cond (eqb (gateOf 512 Open ms tol c f p) 0) (refuse (not (areTangents s e)) 5 0) (gateOf 512 Open ms tol c f p)
+unfoldable pub cubicGate : List Float → Point → Point → Float → ℕ → ℕ → ℕ → ℕ → ℕ
+cubicGate ms s e tol c f w p = cond (eqb (gateOf 512 Open ms tol c f w p) 0) (refuse (not (areTangents s e)) 5 0) (gateOf 512 Open ms tol c f w p)
 
 -- direct, with the tangents given, at most 512 marks
-unfoldable pub cubicOf : List Float → Point → Point → Float → List Float → List ℕ → List Float → Ending
-cubicOf ms s e tol C F P = entered (cubicGate ms s e tol (length C) (length F) (length P)) (runOf ms 0 s e tol) C F P
+unfoldable pub cubicOf : List Float → Point → Point → Float → List Float → List ℕ → List ℕ → List Float → Ending
+cubicOf ms s e tol C F W P = entered (cubicGate ms s e tol (length C) (length F) (length W) (length P)) (runOf ms 0 s e tol) C F W P

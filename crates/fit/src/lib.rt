@@ -29,12 +29,13 @@ fn are_tangents(v: Point, w: Point) -> bool
     is_component(v.x) & is_component(v.y) & (is_component(w.x) & is_component(w.y))
 }
 
-// Every number of the three lent slices zero.
-fn zero_all(curves: &mut [f64], firsts: &mut [u32], params: &mut [f64])
-    ensures { λ _. ⌜ (now (curves .exit) ≡ replicate (length (now (curves .entry))) f0) × (now (firsts .exit) ≡ replicate (length (now (firsts .entry))) 0) × (now (params .exit) ≡ replicate (length (now (params .entry))) f0) ⌝ }
+// Every number of the four lent slices zero.
+fn zero_all(curves: &mut [f64], firsts: &mut [u32], worsts: &mut [u32], params: &mut [f64])
+    ensures { λ _. ⌜ (now (curves .exit) ≡ replicate (length (now (curves .entry))) f0) × (now (firsts .exit) ≡ replicate (length (now (firsts .entry))) 0) × (now (worsts .exit) ≡ replicate (length (now (worsts .entry))) 0) × (now (params .exit) ≡ replicate (length (now (params .entry))) f0) ⌝ }
 {
     gate::zero_floats(curves);
     gate::zero_numbers(firsts);
+    gate::zero_numbers(worsts);
     gate::zero_floats(params);
 }
 
@@ -46,9 +47,10 @@ fn gate_cubic(
     tolerance: f64,
     curves: usize,
     firsts: usize,
+    worsts: usize,
     params: usize,
 ) -> u32
-    ensures { λ r. ⌜ r ≡ cubicGate (now (marks .entry)) start end tolerance «curves» «firsts» «params» ⌝ }
+    ensures { λ r. ⌜ r ≡ cubicGate (now (marks .entry)) start end tolerance «curves» «firsts» «worsts» «params» ⌝ }
 {
     let refusal = gate::gate(
         Outline::Open,
@@ -57,6 +59,7 @@ fn gate_cubic(
         MOST_DIRECT,
         curves,
         firsts,
+        worsts,
         params,
     );
     if refusal != 0 {
@@ -76,9 +79,10 @@ pub fn fit_curve_cubic(
     tolerance: f64,
     curves: &mut [f64],
     firsts: &mut [u32],
+    worsts: &mut [u32],
     params: &mut [f64],
 ) -> Fitted
-    ensures { λ r. ⌜ ending (fittedAnswer r) (now (curves .exit)) (now (firsts .exit)) (now (params .exit)) ≡ cubicOf (now (marks .entry)) start end tolerance (now (curves .entry)) (now (firsts .entry)) (now (params .entry)) ⌝ }
+    ensures { λ r. ⌜ ending (fittedAnswer r) (now (curves .exit)) (now (firsts .exit)) (now (worsts .exit)) (now (params .exit)) ≡ cubicOf (now (marks .entry)) start end tolerance (now (curves .entry)) (now (firsts .entry)) (now (worsts .entry)) (now (params .entry)) ⌝ }
 {
     let refusal = gate_cubic(
         marks,
@@ -87,6 +91,7 @@ pub fn fit_curve_cubic(
         tolerance,
         curves.len(),
         firsts.len(),
+        worsts.len(),
         params.len(),
     );
     if refusal != 0 {
@@ -101,10 +106,11 @@ pub fn fit_curve_cubic(
         tolerance,
         curves,
         firsts,
+        worsts,
         &mut params[..n],
     );
     let Fitted::Curves(made) = out else {
-        zero_all(curves, firsts, params);
+        zero_all(curves, firsts, worsts, params);
         return out;
     };
     Fitted::Curves(made)
@@ -117,9 +123,10 @@ fn fit_cut(
     tolerance: f64,
     curves: &mut [f64],
     firsts: &mut [u32],
+    worsts: &mut [u32],
     params: &mut [f64],
 ) -> Fitted
-    ensures { λ r. ⌜ ending (fittedAnswer r) (now (curves .exit)) (now (firsts .exit)) (now (params .exit)) ≡ fitOf cutting (now (marks .entry)) tolerance (now (curves .entry)) (now (firsts .entry)) (now (params .entry)) ⌝ }
+    ensures { λ r. ⌜ ending (fittedAnswer r) (now (curves .exit)) (now (firsts .exit)) (now (worsts .exit)) (now (params .exit)) ≡ fitOf cutting (now (marks .entry)) tolerance (now (curves .entry)) (now (firsts .entry)) (now (worsts .entry)) (now (params .entry)) ⌝ }
 {
     let outline = tangents::outline_of(cutting);
     let refusal = gate::gate(
@@ -129,6 +136,7 @@ fn fit_cut(
         MOST,
         curves.len(),
         firsts.len(),
+        worsts.len(),
         params.len(),
     );
     if refusal != 0 {
@@ -143,10 +151,11 @@ fn fit_cut(
         tolerance,
         curves,
         firsts,
+        worsts,
         &mut params[..n],
     );
     let Fitted::Curves(total) = out else {
-        zero_all(curves, firsts, params);
+        zero_all(curves, firsts, worsts, params);
         return out;
     };
     Fitted::Curves(total)
@@ -158,11 +167,20 @@ pub fn fit_curve(
     tolerance: f64,
     curves: &mut [f64],
     firsts: &mut [u32],
+    worsts: &mut [u32],
     params: &mut [f64],
 ) -> Fitted
-    ensures { λ r. ⌜ ending (fittedAnswer r) (now (curves .exit)) (now (firsts .exit)) (now (params .exit)) ≡ fitOf variants.Source (now (marks .entry)) tolerance (now (curves .entry)) (now (firsts .entry)) (now (params .entry)) ⌝ }
+    ensures { λ r. ⌜ ending (fittedAnswer r) (now (curves .exit)) (now (firsts .exit)) (now (worsts .exit)) (now (params .exit)) ≡ fitOf variants.Source (now (marks .entry)) tolerance (now (curves .entry)) (now (firsts .entry)) (now (worsts .entry)) (now (params .entry)) ⌝ }
 {
-    fit_cut(Cutting::Source, marks, tolerance, curves, firsts, params)
+    fit_cut(
+        Cutting::Source,
+        marks,
+        tolerance,
+        curves,
+        firsts,
+        worsts,
+        params,
+    )
 }
 
 // The same of an outline whose last mark is followed by its first: the tangents at a block's ends come from beyond it.
@@ -171,11 +189,20 @@ pub fn fit_curve_loop(
     tolerance: f64,
     curves: &mut [f64],
     firsts: &mut [u32],
+    worsts: &mut [u32],
     params: &mut [f64],
 ) -> Fitted
-    ensures { λ r. ⌜ ending (fittedAnswer r) (now (curves .exit)) (now (firsts .exit)) (now (params .exit)) ≡ fitOf variants.Loop (now (marks .entry)) tolerance (now (curves .entry)) (now (firsts .entry)) (now (params .entry)) ⌝ }
+    ensures { λ r. ⌜ ending (fittedAnswer r) (now (curves .exit)) (now (firsts .exit)) (now (worsts .exit)) (now (params .exit)) ≡ fitOf variants.Loop (now (marks .entry)) tolerance (now (curves .entry)) (now (firsts .entry)) (now (worsts .entry)) (now (params .entry)) ⌝ }
 {
-    fit_cut(Cutting::Loop, marks, tolerance, curves, firsts, params)
+    fit_cut(
+        Cutting::Loop,
+        marks,
+        tolerance,
+        curves,
+        firsts,
+        worsts,
+        params,
+    )
 }
 
 // The joined fit: each block starts on the mark at which the last one ended, so that the curves leave no gap, and along the tangent there, so that they leave no kink.
@@ -184,11 +211,20 @@ pub fn fit_joined(
     tolerance: f64,
     curves: &mut [f64],
     firsts: &mut [u32],
+    worsts: &mut [u32],
     params: &mut [f64],
 ) -> Fitted
-    ensures { λ r. ⌜ ending (fittedAnswer r) (now (curves .exit)) (now (firsts .exit)) (now (params .exit)) ≡ fitOf variants.Joined (now (marks .entry)) tolerance (now (curves .entry)) (now (firsts .entry)) (now (params .entry)) ⌝ }
+    ensures { λ r. ⌜ ending (fittedAnswer r) (now (curves .exit)) (now (firsts .exit)) (now (worsts .exit)) (now (params .exit)) ≡ fitOf variants.Joined (now (marks .entry)) tolerance (now (curves .entry)) (now (firsts .entry)) (now (worsts .entry)) (now (params .entry)) ⌝ }
 {
-    fit_cut(Cutting::Joined, marks, tolerance, curves, firsts, params)
+    fit_cut(
+        Cutting::Joined,
+        marks,
+        tolerance,
+        curves,
+        firsts,
+        worsts,
+        params,
+    )
 }
 
 // The ring fit: the joined fit of a closed outline. Mark 0 counts again behind the last, so that the last curve ends on the very mark where the first
@@ -198,9 +234,18 @@ pub fn fit_ring(
     tolerance: f64,
     curves: &mut [f64],
     firsts: &mut [u32],
+    worsts: &mut [u32],
     params: &mut [f64],
 ) -> Fitted
-    ensures { λ r. ⌜ ending (fittedAnswer r) (now (curves .exit)) (now (firsts .exit)) (now (params .exit)) ≡ fitOf variants.Ring (now (marks .entry)) tolerance (now (curves .entry)) (now (firsts .entry)) (now (params .entry)) ⌝ }
+    ensures { λ r. ⌜ ending (fittedAnswer r) (now (curves .exit)) (now (firsts .exit)) (now (worsts .exit)) (now (params .exit)) ≡ fitOf variants.Ring (now (marks .entry)) tolerance (now (curves .entry)) (now (firsts .entry)) (now (worsts .entry)) (now (params .entry)) ⌝ }
 {
-    fit_cut(Cutting::Ring, marks, tolerance, curves, firsts, params)
+    fit_cut(
+        Cutting::Ring,
+        marks,
+        tolerance,
+        curves,
+        firsts,
+        worsts,
+        params,
+    )
 }

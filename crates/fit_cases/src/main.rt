@@ -1,15 +1,16 @@
-// The fits over kept outlines. A record on standard input is eleven words of eight bytes and then the numbers of the marks:
-// which fit, how many numbers, the room for curves, first marks and parameters, whether the lists are printed, the tolerance, and the
+// The fits over kept outlines. A record on standard input is twelve words of eight bytes and then the numbers of the marks:
+// which fit, how many numbers, the room for curves, first marks, worst marks and parameters, whether the lists are printed, the tolerance, and the
 // tangents for the direct fit. What is lent is 7.5 and 7 everywhere before the call.
 //
 // A record's first line is 0 and the number of curves, or the refusal's number; then, for each of the lent slices, how many places are as
 // before, how many are plus zero, and a digest of all of them. Lists follow where the record asks for them: a line for each curve, its
-// first mark and eight numbers, and one line with the parameters.
+// first mark, worst mark and nine numbers, and one line with the parameters.
 ghost use Prim.Native.Nat.{_≤_};
 use cases::parts::front_floats;
 use cases::parts::lent_firsts;
 use cases::parts::lent_floats;
 use cut::Fitted;
+use form::RECORD_NUMBERS;
 use libc::STDIN_FILENO;
 use libc::STDOUT_FILENO;
 use plane::Point;
@@ -17,12 +18,12 @@ use plane::Point;
 // The bit pattern of 7.5.
 const BEFORE: u64 = 0x401E_0000_0000_0000;
 
-const BEFORE_FIRST: u64 = 7;
+const BEFORE_MARK: u64 = 7;
 
-// The room for the numbers of the marks, for curves, first marks and parameters.
+// The room for the numbers of the marks, for curves, first marks and worst marks, and parameters.
 const NUMBERS: usize = 8194;
 
-const CURVES: usize = 32768;
+const CURVES: usize = 36864;
 
 const FIRSTS: usize = 4096;
 
@@ -62,15 +63,15 @@ fn wide(x: u32) -> u64 {
     x as u64
 }
 
-// What a call left in the slice of first marks.
-fn print_firsts_left(xs: &[u32]) {
+// What a call left in a slice of mark numbers.
+fn print_marks_left(xs: &[u32]) {
     let mut before: u64 = 0;
     let mut zeros: u64 = 0;
     let mut digest: u64 = 0;
     let mut i: usize = 0;
     while i < xs.len() {
         let w = wide(xs[i]);
-        before += same(w, BEFORE_FIRST);
+        before += same(w, BEFORE_MARK);
         zeros += same(w, 0);
         digest = cases::mix(digest, w);
         i += 1;
@@ -87,19 +88,27 @@ fn print_floats(xs: &[f64]) {
     }
 }
 
+// The worst mark of curve i.
+fn print_worst(worsts: &[u32], i: usize) {
+    if i < worsts.len() {
+        cases::print_next_count(wide(worsts[i]));
+    }
+}
+
 // A line for each of the first n curves.
-fn print_curves(n: usize, curves: &[f64], firsts: &[u32]) {
+fn print_curves(n: usize, curves: &[f64], firsts: &[u32], worsts: &[u32]) {
     let mut i: usize = 0;
     while i < firsts.len() {
         if i >= n {
             return;
         }
-        let from = 8 * i;
-        if curves.len() < from + 8 {
+        if i >= curves.len() / RECORD_NUMBERS {
             return;
         }
-        let to = from + 8;
+        let from = RECORD_NUMBERS * i;
+        let to = from + RECORD_NUMBERS;
         cases::print_count(wide(firsts[i]));
+        print_worst(worsts, i);
         print_floats(&curves[from..to]);
         cases::end_line();
         i += 1;
@@ -107,8 +116,8 @@ fn print_curves(n: usize, curves: &[f64], firsts: &[u32]) {
 }
 
 // The point in the two words that begin at `at`.
-fn point_at(head: &[u8; 88], at: usize) -> Point
-    requires { ⌜ at ≤ 72 ⌝ }
+fn point_at(head: &[u8; 96], at: usize) -> Point
+    requires { ⌜ at ≤ 80 ⌝ }
 {
     Point {
         x: cases::number(head, at),
@@ -118,38 +127,40 @@ fn point_at(head: &[u8; 88], at: usize) -> Point
 
 // The direct fit, by the tangents of the record.
 fn fit_direct(
-    head: &[u8; 88],
+    head: &[u8; 96],
     marks: &[f64],
     curves: &mut [f64],
     firsts: &mut [u32],
+    worsts: &mut [u32],
     params: &mut [f64],
 ) -> Fitted {
-    let start = point_at(head, 56);
-    let end = point_at(head, 72);
-    let tolerance = cases::number(head, 48);
-    fit::fit_curve_cubic(marks, start, end, tolerance, curves, firsts, params)
+    let start = point_at(head, 64);
+    let end = point_at(head, 80);
+    let tolerance = cases::number(head, 56);
+    fit::fit_curve_cubic(marks, start, end, tolerance, curves, firsts, worsts, params)
 }
 
 // The fits by their numbers: 0 as the source cuts, 1 the same of a loop, 2 direct, 3 joined, 4 of a ring.
 fn fit_by_kind(
-    head: &[u8; 88],
+    head: &[u8; 96],
     marks: &[f64],
     curves: &mut [f64],
     firsts: &mut [u32],
+    worsts: &mut [u32],
     params: &mut [f64],
 ) -> Fitted {
-    let tolerance = cases::number(head, 48);
+    let tolerance = cases::number(head, 56);
     match cases::word(head, 0) {
-        0 => fit::fit_curve(marks, tolerance, curves, firsts, params),
-        1 => fit::fit_curve_loop(marks, tolerance, curves, firsts, params),
-        2 => fit_direct(head, marks, curves, firsts, params),
-        3 => fit::fit_joined(marks, tolerance, curves, firsts, params),
-        _ => fit::fit_ring(marks, tolerance, curves, firsts, params),
+        0 => fit::fit_curve(marks, tolerance, curves, firsts, worsts, params),
+        1 => fit::fit_curve_loop(marks, tolerance, curves, firsts, worsts, params),
+        2 => fit_direct(head, marks, curves, firsts, worsts, params),
+        3 => fit::fit_joined(marks, tolerance, curves, firsts, worsts, params),
+        _ => fit::fit_ring(marks, tolerance, curves, firsts, worsts, params),
     }
 }
 
 // How many parameters a fit of these marks has: a ring comes back to its first mark.
-fn params_of(head: &[u8; 88], marks: &[f64]) -> usize {
+fn params_of(head: &[u8; 96], marks: &[f64]) -> usize {
     let n = marks.len() / 2;
     if cases::word(head, 0) == 4 { n + 1 } else { n }
 }
@@ -172,47 +183,58 @@ fn print_answer(
     times: usize,
     curves: &[f64],
     firsts: &[u32],
+    worsts: &[u32],
     params: &[f64],
 ) {
     print_fitted(fitted);
-    print_left(curves, firsts, params);
+    print_left(curves, firsts, worsts, params);
     if lists != 1 {
         return;
     }
     let Fitted::Curves(n) = fitted else {
         return;
     };
-    print_lists(n, curves, firsts, params, times);
+    print_lists(n, curves, firsts, worsts, params, times);
 }
 
 // The lines of one answer.
 fn answer(
-    head: &[u8; 88],
+    head: &[u8; 96],
     marks: &[f64],
     curves: &mut [f64],
     firsts: &mut [u32],
+    worsts: &mut [u32],
     params: &mut [f64],
 ) {
-    let fitted = fit_by_kind(head, marks, curves, firsts, params);
+    let fitted = fit_by_kind(head, marks, curves, firsts, worsts, params);
     print_answer(
-        cases::word(head, 40),
+        cases::word(head, 48),
         fitted,
         params_of(head, marks),
         curves,
         firsts,
+        worsts,
         params,
     );
 }
 
-fn print_left(curves: &[f64], firsts: &[u32], params: &[f64]) {
+fn print_left(curves: &[f64], firsts: &[u32], worsts: &[u32], params: &[f64]) {
     print_floats_left(curves);
-    print_firsts_left(firsts);
+    print_marks_left(firsts);
+    print_marks_left(worsts);
     print_floats_left(params);
     cases::end_line();
 }
 
-fn print_lists(n: usize, curves: &[f64], firsts: &[u32], params: &[f64], times: usize) {
-    print_curves(n, curves, firsts);
+fn print_lists(
+    n: usize,
+    curves: &[f64],
+    firsts: &[u32],
+    worsts: &[u32],
+    params: &[f64],
+    times: usize,
+) {
+    print_curves(n, curves, firsts, worsts);
     if times > params.len() {
         return;
     }
@@ -222,36 +244,39 @@ fn print_lists(n: usize, curves: &[f64], firsts: &[u32], params: &[f64], times: 
 }
 
 // The word of a record's head that says a length.
-fn length_at(head: &[u8; 88], at: usize) -> usize {
+fn length_at(head: &[u8; 96], at: usize) -> usize {
     cases::word(head, at) as usize
 }
 
 // Whether there is as much room as a head asks for: 4,096 marks have room, and 4,097 can be asked for.
-fn fits(head: &[u8; 88]) -> bool {
+fn fits(head: &[u8; 96]) -> bool {
     (length_at(head, 8) <= NUMBERS)
         & (length_at(head, 16) <= CURVES)
         & (length_at(head, 24) <= FIRSTS)
-        & (length_at(head, 32) <= PARAMS)
+        & (length_at(head, 32) <= FIRSTS)
+        & (length_at(head, 40) <= PARAMS)
 }
 
 // A record after its head, with the slices cut to the lengths that the head names.
-fn record(head: &[u8; 88], marks: &[f64]) {
+fn record(head: &[u8; 96], marks: &[f64]) {
     let mut curves = [7.5; CURVES];
     let mut firsts = [7u32; FIRSTS];
+    let mut worsts = [7u32; FIRSTS];
     let mut params = [7.5; PARAMS];
     answer(
         head,
         marks,
         lent_floats(&mut curves, length_at(head, 16)),
         lent_firsts(&mut firsts, length_at(head, 24)),
-        lent_floats(&mut params, length_at(head, 32)),
+        lent_firsts(&mut worsts, length_at(head, 32)),
+        lent_floats(&mut params, length_at(head, 40)),
     );
 }
 
 // One record, if there is one with no more than there is room for.
 fn step() -> bool {
-    let mut head = [0u8; 88];
-    if io::read_full(STDIN_FILENO, &mut head) < 88 {
+    let mut head = [0u8; 96];
+    if io::read_full(STDIN_FILENO, &mut head) < 96 {
         return false;
     }
     if !fits(&head) {

@@ -1,21 +1,25 @@
 -- The bytes of a well formed file are laid out as one, and what they hold is the file. Assumes nothing.
 use mathlib.Core.Path.{_≡_, refl, sym, ap, _∙_}
 use mathlib.Core.Bool.{true}
-use mathlib.Core.List.{List, [], _∷_, _++_, append-nil}
+use mathlib.Core.List.{List, [], _++_, append-nil}
 use Prim.Native.Nat.{ℕ, zero, suc, _+_, _*_, _<_, _^_}
 use native.Mathlib.Omega.{arith}
 use lib.ListN.{length, drop, length-append}
 use lib.Seq.{drop-drop, drop-at}
-use Rattle.house.specs.Bytes.{le, num, words, les, allFit}
+use Rattle.form.specs.declared.Form.the-variants.{Eight}
+use Rattle.form.specs.Form.{width}
+use Rattle.house.specs.Limits.{worstMarks, curveBytes}
+use Rattle.house.specs.Bytes.{le, num, row, words, les, allFit}
 use Rattle.house.specs.File.{File, rec, framed, flat, curveRecords, fitRecords, bytesOf, paramsFor}
-use Rattle.house.specs.Held.{firstsOf, curvesOf, fileAt}
+use Rattle.house.specs.Held.{inEach, firstsOf, worstsOf, curvesOf, fileAt}
+use Rattle.house.proofs.Forms.{worsts-each}
 use Rattle.house.proofs.Numbers.{length-le, val-front, drop-front}
-use Rattle.house.proofs.Rows.{length-les, words-les}
+use Rattle.house.proofs.Rows.{length-les, row-back}
 use Rattle.grammar.proofs.Records.{Head, length-framed, framed-head, framed-body}
-use Rattle.grammar.proofs.Curves.{Opened, opened, length-flat}
+use Rattle.grammar.proofs.Curves.{Opened, opened, empty}
 use Rattle.grammar.proofs.Formed.{Turn, Sized, Fit, Formed, params-some}
 use Rattle.grammar.proofs.Laid.{Started, Laid, plain, full}
-use Rattle.grammar.proofs.Whole.{bytes-are, rest-none, rest-some}
+use Rattle.grammar.proofs.Whole.{bytes-are, rest-none, rest-some, length-records}
 
 -- kinds 1 and 2, read off
 record Fronted (b : List ℕ) (n t : ℕ) (M r : List ℕ) : Type 0 where
@@ -44,7 +48,7 @@ fronted n t M r hn ht g l =
     let j20 : drop 6 (drop 14 b) ≡ drop 20 b = drop-drop 6 14 b in
     let d20 : drop 20 b ≡ les M ++ r = sym j20 ∙ rw d14 (framed-body 2 (2 + 16 * n) (les M) r s2 hn k2) in
     let f2 = framed-head 2 (2 + 16 * n) (les M) r s2 hn k2 in
-    let w : words (2 * n) (les M ++ r) ≡ M = rw l at (words-les M r g) in
+    let w : words (2 * n) (les M ++ r) ≡ M = rw l at (row-back 8 M r g) in
     let je : drop (16 * n) (drop 20 b) ≡ drop (20 + 16 * n) b = drop-drop (16 * n) 20 b in
     let de : drop (20 + 16 * n) b ≡ r = sym je ∙ rw d20 (drop-at (les M) r (16 * n) z2) in
     let sz : length b ≡ 20 + 16 * n + length r = simp (length-append, length-le, z2) (omega arith) in
@@ -58,74 +62,77 @@ fronted n t M r hn ht g l =
 
 -- where bytes are laid out for n marks and k curves, and hold the file there
 pub record Read-back (b : List ℕ) (F : File) (n k : ℕ) : Type 0 where
-  pub laid : Laid b n k
-  pub file : fileAt b n k ≡ F
+  pub laid : Laid b (F .form) n k
+  pub file : fileAt b (F .form) n k ≡ F
 
-same-file : (b : List ℕ) (n k : ℕ) (F : File) → num 8 b 6 ≡ F .tolerance → words (2 * n) (drop 20 b) ≡ F .marks → firstsOf k (drop (20 + 16 * n) b) ≡ F .firsts
-    → curvesOf k (drop (20 + 16 * n) b) ≡ F .curves → words (paramsFor n k) (drop (20 + 16 * n + 72 * k + 6) b) ≡ F .params → fileAt b n k ≡ F
-same-file b n k F e1 e2 e3 e4 e5 = simp (e1, e2, e3, e4, e5)
+same-file : (b : List ℕ) (n k : ℕ) (F : File) → num 8 b 6 ≡ F .tolerance → words (2 * n) (drop 20 b) ≡ F .marks → firstsOf (F .form) k (drop (20 + 16 * n) b) ≡ F .firsts
+    → worstsOf (F .form) k (drop (20 + 16 * n) b) ≡ F .worsts → curvesOf (F .form) k (drop (20 + 16 * n) b) ≡ F .curves
+    → words (paramsFor n k) (drop (20 + 16 * n + curveBytes (F .form) * k + 6) b) ≡ F .params → fileAt b (F .form) n k ≡ F
+same-file b n k F e1 e2 e3 e4 e5 e6 = simp (e1, e2, e3, e4, e5, e6)
 
-empty : (xs : List ℕ) → length xs ≡ 0 → xs ≡ []
-empty [] h = refl
-empty (x ∷ xs) h = absurd (omega arith)
+-- what follows the marks
+abbrev rest : File → List ℕ
+rest F = flat (fitRecords (F .form) (F .firsts) (F .worsts) (F .curves) (F .params))
 
-module _ (F : File) (b : List ℕ) (n : ℕ) (f : Fronted b n (F .tolerance) (F .marks) (flat (fitRecords (F .firsts) (F .curves) (F .params)))) where
-  back-plain : Sized F n 0 → Read-back b F n 0
-  unfolding firstsOf curvesOf words
-  back-plain s =
-      let xp : F .params ≡ [] = empty (F .params) (s .params) in
-      let r : length (flat (fitRecords (F .firsts) (F .curves) (F .params))) ≡ 0 = ap length (rest-none (F .firsts) (F .curves) (F .params) (s .firsts)) in
+module _ (F : File) (b : List ℕ) (n : ℕ) (f : Fronted b n (F .tolerance) (F .marks) (rest F)) where
+  back-plain : F .form ≡ Eight → Sized F n 0 → Read-back b F n 0
+  unfolding inEach row
+  back-plain ef s =
+      let r : length (rest F) ≡ 0 = ap length (rest-none (F .form) (F .firsts) (F .worsts) (F .curves) (F .params) (s .firsts)) in
+      let w : length (F .worsts) ≡ 0 = s .worsts ∙ rw ef in
+      let c : length (F .curves) ≡ 0 = omega (arith, s .curves) in
       record {
-        laid = plain (f .starts) (omega (arith, f .size)) refl;
-        file = same-file b n 0 F (f .tolerance) (f .marks) (sym (empty (F .firsts) (s .firsts))) (sym (empty (F .curves) (s .curves))) (sym (empty (F .params) (s .params)));
+        laid = plain (f .starts) (omega (arith, f .size)) ef refl;
+        file = same-file b n 0 F (f .tolerance) (f .marks) (sym (empty (F .firsts) (s .firsts))) (sym (empty (F .worsts) w)) (sym (empty (F .curves) c)) (sym (empty (F .params) (s .params)));
       }
 
   back-full : (k : ℕ) → 0 < k → k < n → 2 + 16 * n < 256 ^ 4 → Fit F → Sized F n k → Read-back b F n k
   back-full k some few hn g s =
+      let S : ℕ = curveBytes (F .form) in
       let last : List ℕ = framed (rec 4 (les (F .params))) in
-      let d : List ℕ = flat (curveRecords (F .firsts) (F .curves)) in
-      let h8 : length (F .curves) ≡ 8 * length (F .firsts) = rw (s .firsts) (s .curves) in
+      let d : List ℕ = flat (curveRecords (F .form) (F .firsts) (F .worsts) (F .curves)) in
+      let hw : length (F .worsts) ≡ worstMarks (F .form) * length (F .firsts) = rw (s .firsts) (s .worsts ∙ worsts-each (F .form) k) in
+      let hc : length (F .curves) ≡ width (F .form) * length (F .firsts) = rw (s .firsts) (s .curves) in
       let eq : paramsFor n k ≡ n = params-some n some in
       let ep : length (F .params) ≡ n = s .params ∙ eq in
-      let er : flat (fitRecords (F .firsts) (F .curves) (F .params)) ≡ d ++ last = rest-some (F .firsts) (F .curves) (F .params) (rw (s .firsts) some) in
+      let er : rest F ≡ d ++ last = rest-some (F .form) (F .firsts) (F .worsts) (F .curves) (F .params) (rw (s .firsts) some) in
       let et : drop (20 + 16 * n) b ≡ d ++ last = f .behind ∙ er in
-      let o : Opened k (d ++ last) (F .firsts) (F .curves) = rw (s .firsts) at (opened (F .firsts) (F .curves) last (g .firsts) (g .curves) h8) in
-      let ld : length d ≡ 72 * k = length-flat (F .firsts) (F .curves) h8 ∙ rw (s .firsts) in
+      let o : Opened (F .form) k (d ++ last) (F .firsts) (F .worsts) (F .curves) =
+      rw (s .firsts) at (opened (F .form) (F .firsts) (F .worsts) (F .curves) last (g .firsts) (g .worsts) (g .curves) hw hc) in
+      let ld : length d ≡ S * k = length-records s in
       let zp : length (les (F .params)) ≡ 8 * n = length-les (F .params) ∙ rw ep in
       let z4 : 2 + length (les (F .params)) ≡ 2 + 8 * n = ap (λ (x : ℕ). 2 + x) zp in
       let ll : length last ≡ 6 + 8 * n = length-framed 4 (les (F .params)) ∙ rw zp in
-      let lr : length (flat (fitRecords (F .firsts) (F .curves) (F .params))) ≡ 72 * k + (6 + 8 * n) = rw (er, length-append, ld, ll) in
-      let sz : length b ≡ 20 + 16 * n + 72 * k + 6 + 8 * n = omega (arith, f .size) in
-      let j : drop (72 * k) (drop (20 + 16 * n) b) ≡ drop (20 + 16 * n + 72 * k) b = drop-drop (72 * k) (20 + 16 * n) b in
-      let dl : drop (20 + 16 * n + 72 * k) b ≡ last = sym j ∙ rw et (drop-at d last (72 * k) ld) in
+      let lr : length (rest F) ≡ S * k + (6 + 8 * n) = rw (er, length-append, ld, ll) in
+      let sz : length b ≡ 20 + 16 * n + S * k + 6 + 8 * n = omega (arith, f .size) in
+      let j : drop (S * k) (drop (20 + 16 * n) b) ≡ drop (20 + 16 * n + S * k) b = drop-drop (S * k) (20 + 16 * n) b in
+      let dl : drop (20 + 16 * n + S * k) b ≡ last = sym j ∙ rw et (drop-at d last (S * k) ld) in
       let en : last ++ [] ≡ last = append-nil last in
       let h4 : 2 + 8 * n < 256 ^ 4 = omega arith in
       let k4 : 4 < 256 ^ 2 = omega arith in
       let f4 : Head last 0 (2 + 8 * n) 4 = rw en at (framed-head 4 (2 + 8 * n) (les (F .params)) [] z4 h4 k4) in
       let b4 : drop 6 last ≡ les (F .params) ++ [] = rw en at (framed-body 4 (2 + 8 * n) (les (F .params)) [] z4 h4 k4) in
-      let j4 : drop 4 (drop (20 + 16 * n + 72 * k) b) ≡ drop (20 + 16 * n + 72 * k + 4) b = drop-drop 4 (20 + 16 * n + 72 * k) b in
-      let j6 : drop 6 (drop (20 + 16 * n + 72 * k) b) ≡ drop (20 + 16 * n + 72 * k + 6) b = drop-drop 6 (20 + 16 * n + 72 * k) b in
-      let dp : drop (20 + 16 * n + 72 * k + 6) b ≡ les (F .params) ++ [] = sym j6 ∙ rw dl b4 in
-      let w : words n (les (F .params) ++ []) ≡ F .params = rw ep at (words-les (F .params) [] (g .params)) in
+      let j4 : drop 4 (drop (20 + 16 * n + S * k) b) ≡ drop (20 + 16 * n + S * k + 4) b = drop-drop 4 (20 + 16 * n + S * k) b in
+      let j6 : drop 6 (drop (20 + 16 * n + S * k) b) ≡ drop (20 + 16 * n + S * k + 6) b = drop-drop 6 (20 + 16 * n + S * k) b in
+      let dp : drop (20 + 16 * n + S * k + 6) b ≡ les (F .params) ++ [] = sym j6 ∙ rw dl b4 in
+      let w : words n (les (F .params) ++ []) ≡ F .params = rw ep at (row-back 8 (F .params) [] (g .params)) in
       record {
         laid = full (f .starts) (record { size = sz; some = some; few = few; heads = rw et (o .heads); head4 = record { size-is = rw dl (f4 .size-is); kind-is = rw (← j4, dl) (f4 .kind-is) } });
-        file = same-file b n k F (f .tolerance) (f .marks) (rw et (o .firsts)) (rw et (o .curves)) (rw (eq, dp) w);
+        file = same-file b n k F (f .tolerance) (f .marks) (rw et (o .firsts)) (rw et (o .worsts)) (rw et (o .curves)) (rw (eq, dp) w);
       }
 
 -- the law
 pub back : {F : File} {n k : ℕ} → Formed F n k → Read-back (bytesOf F) F n k
 back {F} {n} {k} G = rw (bytes-are F) (go k (G .way) (G .sized))
   where
-    R : List ℕ
-    R = flat (fitRecords (F .firsts) (F .curves) (F .params))
-
     b : List ℕ
-    b = framed (rec 1 (le 8 (F .tolerance))) ++ (framed (rec 2 (les (F .marks))) ++ R)
+    b = framed (rec 1 (le 8 (F .tolerance))) ++ (framed (rec 2 (les (F .marks))) ++ rest F)
 
-    f : Fronted b n (F .tolerance) (F .marks) R
-    f = fronted n (F .tolerance) (F .marks) R (G .few) (G .fit .tolerance) (G .fit .marks) (G .sized .marks)
+    f : Fronted b n (F .tolerance) (F .marks) (rest F)
+    f = fronted n (F .tolerance) (F .marks) (rest F) (G .few) (G .fit .tolerance) (G .fit .marks) (G .sized .marks)
 
-    go : (k : ℕ) → Turn n k → Sized F n k → Read-back b F n k
-    go zero w s = back-plain F b n f s
-    go (suc k) (Turn.plain e) s = absurd (omega arith)
+    go : (k : ℕ) → Turn (F .form) n k → Sized F n k → Read-back b F n k
+    go zero (Turn.plain e z) s = back-plain F b n f e s
+    go zero (Turn.full some few) s = absurd (omega arith)
+    go (suc k) (Turn.plain e z) s = absurd (omega arith)
     go (suc k) (Turn.full some few) s = back-full F b n f (suc k) some few (G .few) (G .fit) s

@@ -6,12 +6,13 @@ use Prim.Native.Nat.{ℕ}
 use borrow.Author.Tests.{eqb-true, eq-eqb}
 use lib.Dec.{eqb}
 use Rattle.float.proofs.Truth.{never, both}
+use Rattle.form.specs.declared.Form.{Form}
 use Rattle.house.specs.Bytes.{same, allFit}
 use Rattle.house.specs.File.{File, Holds, bytesOf, marksIn, curvesIn}
-use Rattle.house.specs.Held.{marksHeld, curvesHeld, candidate, isFile}
+use Rattle.house.specs.Held.{marksHeld, formHeld, curvesHeld, candidate, isFile}
 use Rattle.house.proofs.Numbers.{split}
 use Rattle.grammar.proofs.Formed.{formed}
-use Rattle.grammar.proofs.Laid.{Laid, laid-marks, laid-curves, laid-candidate}
+use Rattle.grammar.proofs.Laid.{Laid, laid-marks, laid-form, laid-curves, laid-candidate}
 use Rattle.grammar.proofs.Held.{held}
 use Rattle.grammar.proofs.Back.{Read-back, back}
 
@@ -51,10 +52,10 @@ module _ {b : List ℕ} where
   candidate-is h = let r = read-back h in laid-candidate (r .laid) ∙ r .file
 
   -- the heads at fixed places
-  pub file-laid : isFile b ≡ true → Laid b (marksHeld b) (curvesHeld b (marksHeld b))
+  pub file-laid : isFile b ≡ true → let n = marksHeld b in let form = formHeld b n in Laid b form n (curvesHeld b form n)
   file-laid h =
       let l = read-back (holds-candidate h) .laid in
-      rw (laid-marks l, laid-curves l) l
+      rw (laid-marks l, laid-form l, laid-curves l) l
 
-  pub laid-file : {n k : ℕ} → allFit 1 b ≡ true → Laid b n k → isFile b ≡ true
-  laid-file {n} {k} g l = candidate-holds (rw (laid-candidate l) (held b g n k l))
+  pub laid-file : {form : Form} {n k : ℕ} → allFit 1 b ≡ true → Laid b form n k → isFile b ≡ true
+  laid-file {form} {n} {k} g l = candidate-holds (rw (laid-candidate l) (held b g form n k l))

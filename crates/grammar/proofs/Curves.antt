@@ -1,113 +1,165 @@
--- Laws of the records of kind 3: read off, and put together. Assumes nothing.
+-- Laws of the records of curves: read off, and put together. Assumes nothing.
 use mathlib.Core.Path.{_≡_, refl, sym, ap, _∙_}
 use mathlib.Core.Bool.{true}
 use mathlib.Core.List.{List, [], _∷_, _++_, append-assoc}
 use Prim.Native.Nat.{ℕ, zero, suc, _+_, _*_, _<_, _≤_, _^_}
+use native.Mathlib.Nat.{mul-zero}
 use native.Mathlib.Omega.{arith}
 use lib.ListN.{length, take, drop, length-append, length-drop, take-append-drop}
 use lib.Seq.{drop-drop, take-at, drop-at, length-take-le}
 use Rattle.float.proofs.Truth.{and-left, and-right}
-use Rattle.house.specs.Bytes.{le, num, words, les, allFit}
-use Rattle.house.specs.File.{rec, framed, flat, curveRecords}
-use Rattle.house.specs.Held.{firstsOf, curvesOf}
-use Rattle.house.specs.Layout.{headAt, curvesLead}
-use Rattle.house.proofs.Numbers.{fit-head, fit-tail, fit-cons, fit-append, fit-take, fit-drop, length-le, val-front, drop-front, le-front}
-use Rattle.house.proofs.Rows.{length-words, length-les, fit-num, fit-words, les-front, words-les}
-use Rattle.grammar.proofs.Records.{Head, head-out, head-in, framed-front, framed-head, framed-body}
+use Rattle.form.specs.declared.Form.{Form}
+use Rattle.form.specs.Form.{width, worstsFor}
+use Rattle.house.specs.Limits.{worstMarks, curveKind, bodyBytes, curveBytes, numbersAt}
+use Rattle.house.specs.Bytes.{val, le, num, row, rowBytes, les, allFit}
+use Rattle.house.specs.File.{rec, framed, flat, bodyOf, curveRecords}
+use Rattle.house.specs.Held.{inEach, firstsOf, worstsOf, curvesOf}
+use Rattle.house.specs.Layout.{headAt, recordsLead, curvesLead}
+use Rattle.house.proofs.Forms.{body-few, worsts-each, kind-few}
+use Rattle.house.proofs.Numbers.{fit-head, fit-tail, fit-append, fit-take, fit-drop, length-le, val-front, drop-front, le-front}
+use Rattle.house.proofs.Rows.{length-row, length-bytes, fit-row, row-front, row-back}
+use Rattle.grammar.proofs.Records.{Head, length-framed, head-out, head-in, framed-front, framed-head, framed-body}
 
-pub length-firsts : (k : ℕ) (b : List ℕ) → length (firstsOf k b) ≡ k
-unfolding firstsOf
-length-firsts zero b = refl
-length-firsts (suc k) b = ap suc (length-firsts k (drop 72 b))
+pub empty : (xs : List ℕ) → length xs ≡ 0 → xs ≡ []
+empty [] h = refl
+empty (x ∷ xs) h = absurd (omega arith)
 
-pub length-curves : (k : ℕ) (b : List ℕ) → length (curvesOf k b) ≡ 8 * k
-unfolding curvesOf
-length-curves zero b = refl
-length-curves (suc k) b = simp (length-append, length-words, length-curves k (drop 72 b)) (omega arith)
+-- ---- what stands in each record
 
-pub length-flat : (P C : List ℕ) → length C ≡ 8 * length P → length (flat (curveRecords P C)) ≡ 72 * length P
-unfolding flat curveRecords
-length-flat [] C h = refl
-length-flat (p ∷ P) C h =
-    let l : length (take 8 C) ≡ 8 = length-take-le 8 C (omega arith) in
-    let i : length (flat (curveRecords P (drop 8 C))) ≡ 72 * length P = length-flat P (drop 8 C) (simp length-drop (omega arith)) in
-    simp (length-append, length-le, length-les, l, i) (omega arith)
+pub row-one : (f : ℕ) (b : List ℕ) → row f 1 b ≡ val (take f b) ∷ []
+unfolding row
+row-one f b = refl
 
-pub fit-firsts : (k : ℕ) (b : List ℕ) → allFit 1 b ≡ true → allFit 2 (firstsOf k b) ≡ true
-unfolding firstsOf allFit
-fit-firsts zero b g = refl
-fit-firsts (suc k) b g = fit-cons 2 (num 2 b 6) (firstsOf k (drop 72 b)) (fit-num 2 6 b g) (fit-firsts k (drop 72 b) (fit-drop 1 72 b g))
+module _ (f n p bytes : ℕ) where
+  pub length-each : (k : ℕ) (b : List ℕ) → length (inEach f n p bytes k b) ≡ n * k
+  unfolding inEach
+  length-each zero b = rw (mul-zero n)
+  length-each (suc k) b = simp (length-append, length-row, length-each k (drop bytes b)) (omega arith)
 
-pub fit-curves : (k : ℕ) (b : List ℕ) → allFit 1 b ≡ true → allFit 8 (curvesOf k b) ≡ true
-unfolding curvesOf allFit
-fit-curves zero b g = refl
-fit-curves (suc k) b g = fit-append 8 (words 8 (drop 8 b)) (curvesOf k (drop 72 b)) (fit-words 8 (drop 8 b) (fit-drop 1 8 b g)) (fit-curves k (drop 72 b) (fit-drop 1 72 b g))
+  pub fit-each : (k : ℕ) (b : List ℕ) → allFit 1 b ≡ true → allFit f (inEach f n p bytes k b) ≡ true
+  unfolding inEach allFit
+  fit-each zero b g = refl
+  fit-each (suc k) b g = fit-append f (row f n (drop p b)) (inEach f n p bytes k (drop bytes b)) (fit-row f n (drop p b) (fit-drop 1 p b g)) (fit-each k (drop bytes b) (fit-drop 1 bytes b g))
 
--- ---- from bytes with the right heads to the records and back
+module _ (form : Form) where
+  pub length-firsts : (k : ℕ) (b : List ℕ) → length (firstsOf form k b) ≡ k
+  length-firsts k b = length-each 2 1 6 (curveBytes form) k b ∙ omega arith
 
-lead-head : (k : ℕ) (d : List ℕ) → curvesLead (suc k) d ≡ true → Head d 0 68 3
-unfolding curvesLead
-lead-head k d t = head-out d 0 68 3 (and-left (headAt d 0 68 3) (curvesLead k (drop 72 d)) t)
+  pub length-worsts : (k : ℕ) (b : List ℕ) → length (worstsOf form k b) ≡ worstsFor form k
+  length-worsts k b = length-each 2 (worstMarks form) 8 (curveBytes form) k b ∙ sym (worsts-each form k)
 
-lead-rest : (k : ℕ) (d : List ℕ) → curvesLead (suc k) d ≡ true → curvesLead k (drop 72 d) ≡ true
-unfolding curvesLead
-lead-rest k d t = and-right (headAt d 0 68 3) (curvesLead k (drop 72 d)) t
+  pub length-curves : (k : ℕ) (b : List ℕ) → length (curvesOf form k b) ≡ width form * k
+  length-curves k b = length-each 8 (width form) (numbersAt form) (curveBytes form) k b
 
-pub curves-front : (k : ℕ) (d : List ℕ) → allFit 1 d ≡ true → 72 * k ≤ length d → curvesLead k d ≡ true → flat (curveRecords (firstsOf k d) (curvesOf k d)) ++ drop (72 * k) d ≡ d
-unfolding firstsOf curvesOf flat curveRecords
-curves-front zero d g h t = refl
-curves-front (suc k) d g h t =
-    let w : List ℕ = words 8 (drop 8 d) in
-    let C : List ℕ = curvesOf k (drop 72 d) in
-    let body : List ℕ = le 2 (num 2 d 6) ++ les w in
-    let tk : take 8 (w ++ C) ≡ w = take-at w C 8 (length-words 8 (drop 8 d)) in
-    let dk : drop 8 (w ++ C) ≡ C = drop-at w C 8 (length-words 8 (drop 8 d)) in
-    let e : 72 + 72 * k ≡ 72 * suc k = omega arith in
-    let j : drop (72 * k) (drop 72 d) ≡ drop (72 * suc k) d = rw (drop-drop, e) in
-    let i : flat (curveRecords (firstsOf k (drop 72 d)) C) ++ drop (72 * k) (drop 72 d) ≡ drop 72 d =
-    curves-front k (drop 72 d) (fit-drop 1 72 d g) (simp length-drop (omega arith)) (lead-rest k d t) in
-    let j8 : drop 64 (drop 8 d) ≡ drop 72 d = drop-drop 64 8 d in
-    let j6 : drop 2 (drop 6 d) ≡ drop 8 d = drop-drop 2 6 d in
-    let b8 : les w ++ drop 72 d ≡ drop 8 d = rw (← j8) (les-front 8 (drop 8 d) (fit-drop 1 8 d g) (simp length-drop (omega arith))) in
-    let b6 : body ++ drop 72 d ≡ drop 6 d =
-    rw (append-assoc, b8, ← j6) (le-front (drop 6 d) 2 (num 2 d 6) (fit-drop 1 6 d g) (simp length-drop (omega arith)) refl) in
-    let s : 2 + length body ≡ 68 = simp (length-append, length-le, length-les, length-words) in
-    let r : framed (rec 3 body) ++ drop 72 d ≡ d = framed-front d 3 68 body (drop 72 d) g (omega arith) s (lead-head k d t) b6 in
-    let q = append-assoc (framed (rec 3 body)) (flat (curveRecords (firstsOf k (drop 72 d)) C)) (drop (72 * suc k) d) in
-    rw (tk, dk, q, ← j, i) r
+  -- ---- how long the records are
 
--- ---- from the records to their bytes and back
+  pub length-body : (p : ℕ) (W C : List ℕ) → worstMarks form ≤ length W → width form ≤ length C → length (bodyOf form p W C) ≡ bodyBytes form
+  length-body p W C hw hc =
+      let lw : length (take (worstMarks form) W) ≡ worstMarks form = length-take-le (worstMarks form) W hw in
+      let lc : length (take (width form) C) ≡ width form = length-take-le (width form) C hc in
+      simp (length-append, length-le, length-bytes, lw, lc) (omega arith)
 
-pub record Opened (k : ℕ) (d P C : List ℕ) : Type 0 where
-  pub heads : curvesLead k d ≡ true
-  pub firsts : firstsOf k d ≡ P
-  pub curves : curvesOf k d ≡ C
+  pub length-flat : (P W C : List ℕ) → length W ≡ worstMarks form * length P → length C ≡ width form * length P → length (flat (curveRecords form P W C)) ≡ curveBytes form * length P
+  unfolding flat curveRecords
+  length-flat [] W C hw hc = rw (mul-zero (curveBytes form))
+  length-flat (p ∷ P) W C hw hc =
+      let l : length (bodyOf form p W C) ≡ bodyBytes form = length-body p W C (omega arith) (omega arith) in
+      let i = length-flat P (drop (worstMarks form) W) (drop (width form) C) (simp length-drop (omega arith)) (simp length-drop (omega arith)) in
+      length-append (framed (rec (curveKind form) (bodyOf form p W C))) _ ∙ rw (i, length-framed (curveKind form) (bodyOf form p W C), l) (omega arith)
 
-pub opened : (P C r : List ℕ) → allFit 2 P ≡ true → allFit 8 C ≡ true → length C ≡ 8 * length P → Opened (length P) (flat (curveRecords P C) ++ r) P C
-unfolding flat curveRecords curvesLead firstsOf curvesOf
-opened [] [] r gp gc h = record { heads = refl; firsts = refl; curves = refl }
-opened [] (c ∷ C) r gp gc h = absurd (omega arith)
-opened (p ∷ P) C r gp gc h =
-    let c8 : List ℕ = take 8 C in
-    let body : List ℕ = le 2 p ++ les c8 in
-    let r′ : List ℕ = flat (curveRecords P (drop 8 C)) ++ r in
-    let l : length c8 ≡ 8 = length-take-le 8 C (omega arith) in
-    let z : 2 + length body ≡ 68 = simp (length-append, length-le, length-les, l) in
-    let e : (framed (rec 3 body) ++ flat (curveRecords P (drop 8 C))) ++ r ≡ framed (rec 3 body) ++ r′ = append-assoc (framed (rec 3 body)) (flat (curveRecords P (drop 8 C))) r in
-    let hs : 68 < 256 ^ 4 = omega arith in
-    let hk : 3 < 256 ^ 2 = omega arith in
-    let d : List ℕ = framed (rec 3 body) ++ r′ in
-    let hd : headAt d 0 68 3 ≡ true = head-in d 0 68 3 (framed-head 3 68 body r′ z hs hk) in
-    let d6 : drop 6 d ≡ le 2 p ++ (les c8 ++ r′) = framed-body 3 68 body r′ z hs hk ∙ append-assoc (le 2 p) (les c8) r′ in
-    let v : num 2 d 6 ≡ p = rw d6 (val-front 2 p (les c8 ++ r′) (fit-head 2 p P gp)) in
-    let j8 : drop 2 (drop 6 d) ≡ drop 8 d = drop-drop 2 6 d in
-    let d8 : drop 8 d ≡ les c8 ++ r′ = sym j8 ∙ rw d6 (drop-front 2 p (les c8 ++ r′)) in
-    let w : words 8 (les c8 ++ r′) ≡ c8 = rw l at (words-les c8 r′ (fit-take 8 8 C gc)) in
-    let j72 : drop 64 (drop 8 d) ≡ drop 72 d = drop-drop 64 8 d in
-    let d72 : drop 72 d ≡ r′ = sym j72 ∙ rw d8 (drop-at (les c8) r′ 64 (length-les c8 ∙ rw l)) in
-    let i = opened P (drop 8 C) r (fit-tail 2 p P gp) (fit-drop 8 8 C gc) (simp length-drop (omega arith)) in
-    record {
-      heads = rw e (simp (hd, d72, i .heads));
-      firsts = rw e (simp (v, d72, i .firsts));
-      curves = rw e (simp (d8, w, d72, i .curves) (take-append-drop 8 C));
-    }
+  -- ---- from bytes with the right heads to the records and back
+
+  lead-head : (k : ℕ) (d : List ℕ) → curvesLead form (suc k) d ≡ true → Head d 0 (2 + bodyBytes form) (curveKind form)
+  unfolding recordsLead
+  lead-head k d t = head-out d 0 (2 + bodyBytes form) (curveKind form) (and-left (headAt d 0 (2 + bodyBytes form) (curveKind form)) (curvesLead form k (drop (curveBytes form) d)) t)
+
+  lead-rest : (k : ℕ) (d : List ℕ) → curvesLead form (suc k) d ≡ true → curvesLead form k (drop (curveBytes form) d) ≡ true
+  unfolding recordsLead
+  lead-rest k d t = and-right (headAt d 0 (2 + bodyBytes form) (curveKind form)) (curvesLead form k (drop (curveBytes form) d)) t
+
+  -- the first record tells the form
+  pub lead-kind : (k : ℕ) (d : List ℕ) → 0 < k → curvesLead form k d ≡ true → num 2 d 4 ≡ curveKind form
+  lead-kind zero d h t = absurd (omega arith)
+  lead-kind (suc k) d h t = lead-head k d t .kind-is
+
+  pub curves-front : (k : ℕ) (d : List ℕ) → allFit 1 d ≡ true → curveBytes form * k ≤ length d → curvesLead form k d ≡ true
+      → flat (curveRecords form (firstsOf form k d) (worstsOf form k d) (curvesOf form k d)) ++ drop (curveBytes form * k) d ≡ d
+  unfolding inEach flat curveRecords
+  curves-front zero d g h t = rw (mul-zero (curveBytes form))
+  curves-front (suc k) d g h t =
+      let S : ℕ = curveBytes form in
+      let w : List ℕ = row 2 (worstMarks form) (drop 8 d) in
+      let c : List ℕ = row 8 (width form) (drop (numbersAt form) d) in
+      let W : List ℕ = worstsOf form k (drop S d) in
+      let C : List ℕ = curvesOf form k (drop S d) in
+      let rs : List ℕ = flat (curveRecords form (firstsOf form k (drop S d)) W C) in
+      let body : List ℕ = le 2 (num 2 d 6) ++ (rowBytes 2 w ++ les c) in
+      let tw : take (worstMarks form) (w ++ W) ≡ w = take-at w W (worstMarks form) (length-row 2 (worstMarks form) (drop 8 d)) in
+      let dw : drop (worstMarks form) (w ++ W) ≡ W = drop-at w W (worstMarks form) (length-row 2 (worstMarks form) (drop 8 d)) in
+      let tc : take (width form) (c ++ C) ≡ c = take-at c C (width form) (length-row 8 (width form) (drop (numbersAt form) d)) in
+      let dc : drop (width form) (c ++ C) ≡ C = drop-at c C (width form) (length-row 8 (width form) (drop (numbersAt form) d)) in
+      let e : S + S * k ≡ S * suc k = omega arith in
+      let j : drop (S * k) (drop S d) ≡ drop (S * suc k) d = rw (drop-drop, e) in
+      let i : rs ++ drop (S * k) (drop S d) ≡ drop S d = curves-front k (drop S d) (fit-drop 1 S d g) (simp length-drop (omega arith)) (lead-rest k d t) in
+      let eN : 8 + 2 * worstMarks form ≡ numbersAt form = omega arith in
+      let eS : numbersAt form + 8 * width form ≡ S = omega arith in
+      let jS : drop (8 * width form) (drop (numbersAt form) d) ≡ drop S d = rw (drop-drop, eS) in
+      let jN : drop (2 * worstMarks form) (drop 8 d) ≡ drop (numbersAt form) d = rw (drop-drop, eN) in
+      let j8 : drop 2 (drop 6 d) ≡ drop 8 d = drop-drop 2 6 d in
+      let bN : les c ++ drop S d ≡ drop (numbersAt form) d =
+      rw (← jS) (row-front 8 (width form) (drop (numbersAt form) d) (fit-drop 1 (numbersAt form) d g) (simp length-drop (omega arith))) in
+      let b8 : rowBytes 2 w ++ drop (numbersAt form) d ≡ drop 8 d = rw (← jN) (row-front 2 (worstMarks form) (drop 8 d) (fit-drop 1 8 d g) (simp length-drop (omega arith))) in
+      let b6 : le 2 (num 2 d 6) ++ drop 8 d ≡ drop 6 d = rw (← j8) (le-front (drop 6 d) 2 (num 2 d 6) (fit-drop 1 6 d g) (simp length-drop (omega arith)) refl) in
+      let b : body ++ drop S d ≡ drop 6 d = simp (append-assoc, bN, b8, b6) in
+      let s : 2 + length body ≡ 2 + bodyBytes form = simp (length-append, length-le, length-bytes, length-row) (omega arith) in
+      let r : framed (rec (curveKind form) body) ++ drop S d ≡ d = framed-front d (curveKind form) (2 + bodyBytes form) body (drop S d) g (omega arith) s (lead-head k d t) b in
+      let q = append-assoc (framed (rec (curveKind form) body)) rs (drop (S * suc k) d) in
+      rw (row-one, tw, dw, tc, dc, q, ← j, i) r
+
+  -- ---- from the records to their bytes and back
+
+  pub record Opened (k : ℕ) (d P W C : List ℕ) : Type 0 where
+    pub heads : curvesLead form k d ≡ true
+    pub firsts : firstsOf form k d ≡ P
+    pub worsts : worstsOf form k d ≡ W
+    pub curves : curvesOf form k d ≡ C
+
+  pub opened : (P W C r : List ℕ) → allFit 2 P ≡ true → allFit 2 W ≡ true → allFit 8 C ≡ true → length W ≡ worstMarks form * length P → length C ≡ width form * length P
+      → Opened (length P) (flat (curveRecords form P W C) ++ r) P W C
+  unfolding flat curveRecords recordsLead inEach
+  opened [] W C r gp gw gc hw hc = record { heads = refl; firsts = refl; worsts = sym (empty W (omega arith)); curves = sym (empty C (omega arith)) }
+  opened (p ∷ P) W C r gp gw gc hw hc =
+      let w : List ℕ = take (worstMarks form) W in
+      let c : List ℕ = take (width form) C in
+      let W′ : List ℕ = drop (worstMarks form) W in
+      let C′ : List ℕ = drop (width form) C in
+      let body : List ℕ = bodyOf form p W C in
+      let rs : List ℕ = flat (curveRecords form P W′ C′) in
+      let r′ : List ℕ = rs ++ r in
+      let lw : length w ≡ worstMarks form = length-take-le (worstMarks form) W (omega arith) in
+      let lc : length c ≡ width form = length-take-le (width form) C (omega arith) in
+      let z : 2 + length body ≡ 2 + bodyBytes form = ap (λ (x : ℕ). 2 + x) (length-body p W C (omega arith) (omega arith)) in
+      let e : (framed (rec (curveKind form) body) ++ rs) ++ r ≡ framed (rec (curveKind form) body) ++ r′ = append-assoc (framed (rec (curveKind form) body)) rs r in
+      let hs : 2 + bodyBytes form < 256 ^ 4 = omega (arith, body-few form) in
+      let hk : curveKind form < 256 ^ 2 = omega (arith, kind-few form) in
+      let d : List ℕ = framed (rec (curveKind form) body) ++ r′ in
+      let hd : headAt d 0 (2 + bodyBytes form) (curveKind form) ≡ true = head-in d 0 (2 + bodyBytes form) (curveKind form) (framed-head (curveKind form) (2 + bodyBytes form) body r′ z hs hk) in
+      let d6 : drop 6 d ≡ le 2 p ++ (rowBytes 2 w ++ (les c ++ r′)) = framed-body (curveKind form) (2 + bodyBytes form) body r′ z hs hk ∙ simp append-assoc in
+      let v : num 2 d 6 ≡ p = rw d6 (val-front 2 p (rowBytes 2 w ++ (les c ++ r′)) (fit-head 2 p P gp)) in
+      let j8 : drop 2 (drop 6 d) ≡ drop 8 d = drop-drop 2 6 d in
+      let d8 : drop 8 d ≡ rowBytes 2 w ++ (les c ++ r′) = sym j8 ∙ rw d6 (drop-front 2 p (rowBytes 2 w ++ (les c ++ r′))) in
+      let eN : 8 + 2 * worstMarks form ≡ numbersAt form = omega arith in
+      let eS : numbersAt form + 8 * width form ≡ curveBytes form = omega arith in
+      let jN : drop (2 * worstMarks form) (drop 8 d) ≡ drop (numbersAt form) d = rw (drop-drop, eN) in
+      let dN : drop (numbersAt form) d ≡ les c ++ r′ = sym jN ∙ rw d8 (drop-at (rowBytes 2 w) (les c ++ r′) (2 * worstMarks form) (length-bytes 2 w ∙ rw lw)) in
+      let jS : drop (8 * width form) (drop (numbersAt form) d) ≡ drop (curveBytes form) d = rw (drop-drop, eS) in
+      let dS : drop (curveBytes form) d ≡ r′ = sym jS ∙ rw dN (drop-at (les c) r′ (8 * width form) (length-bytes 8 c ∙ rw lc)) in
+      let vw : row 2 (worstMarks form) (drop 8 d) ≡ w = rw d8 (rw lw at (row-back 2 w (les c ++ r′) (fit-take 2 (worstMarks form) W gw))) in
+      let vc : row 8 (width form) (drop (numbersAt form) d) ≡ c = rw dN (rw lc at (row-back 8 c r′ (fit-take 8 (width form) C gc))) in
+      let i = opened P W′ C′ r (fit-tail 2 p P gp) (fit-drop 2 (worstMarks form) W gw) (fit-drop 8 (width form) C gc) (simp length-drop (omega arith)) (simp length-drop (omega arith)) in
+      record {
+        heads = rw e (simp (hd, dS, i .heads));
+        firsts = rw e (simp (row-one, v, dS, i .firsts));
+        worsts = rw e (simp (vw, dS, i .worsts) (take-append-drop (worstMarks form) W));
+        curves = rw e (simp (vc, dS, i .curves) (take-append-drop (width form) C));
+      }

@@ -6,33 +6,38 @@ use Prim.Native.Nat.{ℕ, _+_, _*_, _<_, _≤_, _^_}
 use native.Mathlib.Omega.{arith}
 use lib.ListN.{length, drop, length-drop, drop-of-length-le}
 use lib.Seq.{drop-drop}
+use Rattle.form.specs.declared.Form.{Form}
+use Rattle.form.specs.Form.{width}
+use Rattle.house.specs.Limits.{worstMarks, curveBytes, numbersAt}
 use Rattle.house.specs.Bytes.{le, num, words, les, allFit}
 use Rattle.house.specs.File.{Holds, rec, framed, flat, curveRecords, fitRecords, paramsFor}
-use Rattle.house.specs.Held.{firstsOf, curvesOf, fileAt}
+use Rattle.house.specs.Held.{firstsOf, worstsOf, curvesOf, fileAt}
 use Rattle.house.proofs.Numbers.{fit-drop, length-le, le-front}
-use Rattle.house.proofs.Rows.{length-words, length-les, fit-num, fit-words, les-front}
+use Rattle.house.proofs.Rows.{length-words, length-les, fit-num, fit-row, row-front}
 use Rattle.grammar.proofs.Records.{Head, framed-front}
-use Rattle.grammar.proofs.Curves.{length-firsts, length-curves, fit-firsts, fit-curves, curves-front}
+use Rattle.grammar.proofs.Curves.{length-firsts, length-worsts, length-curves, fit-each, curves-front}
 use Rattle.grammar.proofs.Formed.{Turn, Sized, Fit, forming, params-some}
 use Rattle.grammar.proofs.Laid.{Started, Ended, Laid, plain, full}
 use Rattle.grammar.proofs.Whole.{bytes-are, rest-none, rest-some}
 
-sized-at : (b : List ℕ) (n k : ℕ) → Sized (fileAt b n k) n k
-sized-at b n k = record {
+sized-at : (b : List ℕ) (form : Form) (n k : ℕ) → Sized (fileAt b form n k) n k
+sized-at b form n k = record {
   marks = length-words (2 * n) (drop 20 b);
-  firsts = length-firsts k (drop (20 + 16 * n) b);
-  curves = length-curves k (drop (20 + 16 * n) b);
-  params = length-words (paramsFor n k) (drop (20 + 16 * n + 72 * k + 6) b);
+  firsts = length-firsts form k (drop (20 + 16 * n) b);
+  worsts = length-worsts form k (drop (20 + 16 * n) b);
+  curves = length-curves form k (drop (20 + 16 * n) b);
+  params = length-words (paramsFor n k) (drop (20 + 16 * n + curveBytes form * k + 6) b);
 }
 
 module _ (b : List ℕ) (g : allFit 1 b ≡ true) where
-  fit-at : (n k : ℕ) → Fit (fileAt b n k)
-  fit-at n k = record {
+  fit-at : (form : Form) (n k : ℕ) → Fit (fileAt b form n k)
+  fit-at form n k = record {
     tolerance = fit-num 8 6 b g;
-    marks = fit-words (2 * n) (drop 20 b) (fit-drop 1 20 b g);
-    firsts = fit-firsts k (drop (20 + 16 * n) b) (fit-drop 1 (20 + 16 * n) b g);
-    curves = fit-curves k (drop (20 + 16 * n) b) (fit-drop 1 (20 + 16 * n) b g);
-    params = fit-words (paramsFor n k) (drop (20 + 16 * n + 72 * k + 6) b) (fit-drop 1 (20 + 16 * n + 72 * k + 6) b g);
+    marks = fit-row 8 (2 * n) (drop 20 b) (fit-drop 1 20 b g);
+    firsts = fit-each 2 1 6 (curveBytes form) k (drop (20 + 16 * n) b) (fit-drop 1 (20 + 16 * n) b g);
+    worsts = fit-each 2 (worstMarks form) 8 (curveBytes form) k (drop (20 + 16 * n) b) (fit-drop 1 (20 + 16 * n) b g);
+    curves = fit-each 8 (width form) (numbersAt form) (curveBytes form) k (drop (20 + 16 * n) b) (fit-drop 1 (20 + 16 * n) b g);
+    params = fit-row 8 (paramsFor n k) (drop (20 + 16 * n + curveBytes form * k + 6) b) (fit-drop 1 (20 + 16 * n + curveBytes form * k + 6) b g);
   }
 
   few-at : {n : ℕ} → Started b n → 2 + 16 * n < 256 ^ 4
@@ -49,7 +54,7 @@ module _ (b : List ℕ) (g : allFit 1 b ≡ true) where
       let m : List ℕ = words (2 * n) (drop 20 b) in
       let p : 8 * (2 * n) ≡ 16 * n = omega arith in
       let e20 : drop (8 * (2 * n)) (drop 20 b) ≡ drop (20 + 16 * n) b = rw (drop-drop, p) in
-      let b2 : les m ++ r ≡ drop 20 b = rw (er, ← e20) (les-front (2 * n) (drop 20 b) (fit-drop 1 20 b g) (simp length-drop (omega arith))) in
+      let b2 : les m ++ r ≡ drop 20 b = rw (er, ← e20) (row-front 8 (2 * n) (drop 20 b) (fit-drop 1 20 b g) (simp length-drop (omega arith))) in
       let z2 : 2 + length (les m) ≡ 2 + 16 * n = ap (λ (x : ℕ). 2 + x) (length-les m ∙ rw length-words p) in
       let j20 : drop 6 (drop 14 b) ≡ drop 20 b = drop-drop 6 14 b in
       let r2 : framed (rec 2 (les m)) ++ r ≡ drop 14 b =
@@ -59,36 +64,44 @@ module _ (b : List ℕ) (g : allFit 1 b ≡ true) where
       let z1 : 2 + length (le 8 (num 8 b 6)) ≡ 10 = simp length-le in
       rw r2 (framed-front b 1 10 (le 8 (num 8 b 6)) (drop 14 b) g (omega arith) z1 (s .head1) b1)
 
-  -- kind 3 and kind 4
-  end-held : (n k : ℕ) → Ended b n k
-      → flat (fitRecords (firstsOf k (drop (20 + 16 * n) b)) (curvesOf k (drop (20 + 16 * n) b)) (words (paramsFor n k) (drop (20 + 16 * n + 72 * k + 6) b))) ≡ drop (20 + 16 * n) b
-  end-held n k f =
-      let at : ℕ = 20 + 16 * n in
-      let last : ℕ = at + 72 * k in
-      let d : List ℕ = drop at b in
-      let t : List ℕ = drop (last + 6) b in
-      let eq : paramsFor n k ≡ n = params-some n (f .some) in
-      let none : drop (8 * n) t ≡ [] = drop-of-length-le t {i = 8 * n} (simp length-drop (omega (arith, f .size))) in
-      let b4 : les (words n t) ++ [] ≡ t = rw (← none) (les-front n t (fit-drop 1 (last + 6) b g) (simp length-drop (omega (arith, f .size)))) in
-      let j6 : drop 6 (drop last b) ≡ t = drop-drop 6 last b in
-      let z : 2 + length (les (words n t)) ≡ 2 + 8 * n = ap (λ (x : ℕ). 2 + x) (length-les (words n t) ∙ rw length-words) in
-      let r4 : framed (rec 4 (les (words n t))) ++ [] ≡ drop last b =
-      framed-front (drop last b) 4 (2 + 8 * n) (les (words n t)) [] (fit-drop 1 last b g) (simp length-drop (omega (arith, f .size))) z (head-at last (f .head4)) (b4 ∙ sym j6) in
-      let jl : drop (72 * k) d ≡ drop last b = drop-drop (72 * k) at b in
-      let r : framed (rec 4 (les (words n t))) ≡ drop (72 * k) d = sym (append-nil (framed (rec 4 (les (words n t))))) ∙ r4 ∙ sym jl in
-      let i : flat (curveRecords (firstsOf k d) (curvesOf k d)) ++ drop (72 * k) d ≡ d = curves-front k d (fit-drop 1 at b g) (simp length-drop (omega (arith, f .size))) (f .heads) in
-      rw (eq, rest-some (firstsOf k d) (curvesOf k d) (words n t) (rw length-firsts (f .some)), r) i
+  module _ (form : Form) (n k : ℕ) where
+    -- what follows the marks
+    abbrev rest : List ℕ
+    rest =
+        flat
+        (fitRecords form (firstsOf form k (drop (20 + 16 * n) b)) (worstsOf form k (drop (20 + 16 * n) b)) (curvesOf form k (drop (20 + 16 * n) b)) (words (paramsFor n k) (drop (20 + 16 * n + curveBytes form * k + 6) b)))
 
-  -- the law
-  pub held : (n k : ℕ) → Laid b n k → Holds b (fileAt b n k)
-  held n k (plain s z e) =
-      let r : flat (fitRecords (firstsOf k (drop (20 + 16 * n) b)) (curvesOf k (drop (20 + 16 * n) b)) (words (paramsFor n k) (drop (20 + 16 * n + 72 * k + 6) b))) ≡ drop (20 + 16 * n) b =
-      rest-none (firstsOf k (drop (20 + 16 * n) b)) _ _ (length-firsts k (drop (20 + 16 * n) b) ∙ e) ∙ sym (drop-of-length-le b {i = 20 + 16 * n} (omega arith)) in
-      record {
-        formed = forming (record { sized = sized-at b n k; way = Turn.plain e; few = few-at s; fit = fit-at n k });
-        bytes = bytes-are (fileAt b n k) ∙ start-held n _ s (omega arith) r;
-      }
-  held n k (full s f) = record {
-    formed = forming (record { sized = sized-at b n k; way = Turn.full (f .some) (f .few); few = few-at s; fit = fit-at n k });
-    bytes = bytes-are (fileAt b n k) ∙ start-held n _ s (omega (arith, f .size)) (end-held n k f);
-  }
+    -- the curves and kind 4
+    end-held : Ended b form n k → rest ≡ drop (20 + 16 * n) b
+    end-held f =
+        let S : ℕ = curveBytes form in
+        let at : ℕ = 20 + 16 * n in
+        let last : ℕ = at + S * k in
+        let d : List ℕ = drop at b in
+        let t : List ℕ = drop (last + 6) b in
+        let eq : paramsFor n k ≡ n = params-some n (f .some) in
+        let none : drop (8 * n) t ≡ [] = drop-of-length-le t {i = 8 * n} (simp length-drop (omega (arith, f .size))) in
+        let b4 : les (words n t) ++ [] ≡ t = rw (← none) (row-front 8 n t (fit-drop 1 (last + 6) b g) (simp length-drop (omega (arith, f .size)))) in
+        let j6 : drop 6 (drop last b) ≡ t = drop-drop 6 last b in
+        let z : 2 + length (les (words n t)) ≡ 2 + 8 * n = ap (λ (x : ℕ). 2 + x) (length-les (words n t) ∙ rw length-words) in
+        let r4 : framed (rec 4 (les (words n t))) ++ [] ≡ drop last b =
+        framed-front (drop last b) 4 (2 + 8 * n) (les (words n t)) [] (fit-drop 1 last b g) (simp length-drop (omega (arith, f .size))) z (head-at last (f .head4)) (b4 ∙ sym j6) in
+        let jl : drop (S * k) d ≡ drop last b = drop-drop (S * k) at b in
+        let r : framed (rec 4 (les (words n t))) ≡ drop (S * k) d = sym (append-nil (framed (rec 4 (les (words n t))))) ∙ r4 ∙ sym jl in
+        let i : flat (curveRecords form (firstsOf form k d) (worstsOf form k d) (curvesOf form k d)) ++ drop (S * k) d ≡ d =
+        curves-front form k d (fit-drop 1 at b g) (simp length-drop (omega (arith, f .size))) (f .heads) in
+        rw (eq, rest-some form (firstsOf form k d) (worstsOf form k d) (curvesOf form k d) (words n t) (rw (length-firsts form k d) (f .some)), r) i
+
+    -- the law
+    pub held : Laid b form n k → Holds b (fileAt b form n k)
+    held (plain s z f e) =
+        let r : rest ≡ drop (20 + 16 * n) b =
+        rest-none form (firstsOf form k (drop (20 + 16 * n) b)) _ _ _ (length-firsts form k (drop (20 + 16 * n) b) ∙ e) ∙ sym (drop-of-length-le b {i = 20 + 16 * n} (omega arith)) in
+        record {
+          formed = forming (record { sized = sized-at b form n k; way = Turn.plain f e; few = few-at s; fit = fit-at form n k });
+          bytes = bytes-are (fileAt b form n k) ∙ start-held n _ s (omega arith) r;
+        }
+    held (full s f) = record {
+      formed = forming (record { sized = sized-at b form n k; way = Turn.full (f .some) (f .few); few = few-at s; fit = fit-at form n k });
+      bytes = bytes-are (fileAt b form n k) ∙ start-held n _ s (omega (arith, f .size)) (end-held f);
+    }

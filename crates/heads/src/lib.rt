@@ -1,19 +1,24 @@
-// How a house file is laid out. Two numbers settle where everything stands: the length of kind 2 gives the marks, and the length of the
-// whole gives the curves. So the heads are tested at fixed places.
+// How a house file is laid out. Three things settle where everything stands: the length of kind 2 gives the marks, the kind of the record behind
+// them how curves are stored, and the length of the whole how many there are. So the heads are tested at fixed places.
+use form::Form;
 use house::bytes::four;
 use house::bytes::two;
 use house::sizes;
 ghost use mathlib.Core.Path.{_≡_};
 ghost use Prim.Native.Nat.{_+_, _*_, _^_, _<_, _≤_};
 ghost use lib.ListN.{length, drop};
-ghost use Rattle.house.specs.Limits.{kindField, numberField, headBytes, markBytes, curveBytes, marksAt};
-ghost use Rattle.house.specs.Layout.{headAt, startsWith, curvesLead, endsWith};
+ghost use Rattle.house.specs.Limits.{kindField, numberField, headBytes, markBytes, marksAt};
+ghost use Rattle.house.specs.Layout.{headAt, startsWith, recordsLead, endsWith};
 ghost use Rattle.house.specs.Held.{paramsAt};
 ghost use Rattle.heads.specs.Layout.{layoutOf};
 
-// How many marks and curves a file has; or that the bytes are no file.
+// How a file stores its curves, and how many marks and curves it has; or that the bytes are no file.
 pub enum Layout {
-    Counts { marks: usize, curves: usize },
+    Counts {
+        form: Form,
+        marks: usize,
+        curves: usize,
+    },
     Broken,
 }
 
@@ -40,15 +45,17 @@ fn starts_with(b: &[u8], n: usize) -> bool
     false
 }
 
-// Whether k records of kind 3 stand from `at` on.
-fn curves_lead(b: &[u8], at: usize, k: usize) -> bool
-    requires { ⌜ at + curveBytes * k ≤ length (now b) ⌝ }
-    ensures { λ r. ⌜ r ≡ curvesLead k (drop at (now (b .entry))) ⌝ }
+// Whether k records of this kind stand from `at` on, with bodies of so many bytes.
+fn records_lead(b: &[u8], at: usize, body: usize, kind: u64, k: usize) -> bool
+    requires { ⌜ (at + (headBytes + body) * k ≤ length (now b)) × (headBytes + body < 2 ^ 64) ⌝ }
+    ensures { λ r. ⌜ r ≡ recordsLead body kind k (drop at (now (b .entry))) ⌝ }
 {
+    let step = sizes::HEAD_BYTES + body;
+    let size = (sizes::KIND_FIELD + body) as u64;
     let mut i = 0;
     while i < k {
-        let head = at + sizes::CURVE_BYTES * i;
-        if has_head(b, head, sizes::CURVE_LENGTH, sizes::CURVE_KIND) {
+        let head = at + step * i;
+        if has_head(b, head, size, kind) {
             i += 1;
             continue;
         }
@@ -58,12 +65,13 @@ fn curves_lead(b: &[u8], at: usize, k: usize) -> bool
 }
 
 // Whether k curves, above none and fewer than marks, and n parameters follow the marks up to the end.
-fn ends_with(b: &[u8], n: usize, k: usize) -> bool
-    requires { ⌜ paramsAt n k + numberField * n ≤ length (now b) ⌝ }
-    ensures { λ r. ⌜ r ≡ endsWith (now (b .entry)) n k ⌝ }
+fn ends_with(b: &[u8], form: Form, n: usize, k: usize) -> bool
+    requires { ⌜ paramsAt form n k + numberField * n ≤ length (now b) ⌝ }
+    ensures { λ r. ⌜ r ≡ endsWith (now (b .entry)) form n k ⌝ }
 {
+    let body = sizes::body_bytes(form);
     let end = sizes::MARKS_AT + sizes::MARK_BYTES * n;
-    let last = end + sizes::CURVE_BYTES * k;
+    let last = end + (sizes::HEAD_BYTES + body) * k;
     if b.len() != last + sizes::HEAD_BYTES + sizes::NUMBER_FIELD * n {
         return false;
     }
@@ -73,7 +81,7 @@ fn ends_with(b: &[u8], n: usize, k: usize) -> bool
     if n <= k {
         return false;
     }
-    if curves_lead(b, end, k) {
+    if records_lead(b, end, body, sizes::curve_kind(form), k) {
         let size = sizes::KIND_FIELD + sizes::NUMBER_FIELD * n;
         return has_head(b, last, size as u64, sizes::PARAMS_KIND);
     }
@@ -93,6 +101,7 @@ pub fn find_layout(b: &[u8]) -> Layout
         let end = sizes::MARKS_AT + sizes::MARK_BYTES * n;
         if len == end {
             return Layout::Counts {
+                form: Form::Eight,
                 marks: n,
                 curves: 0,
             };
@@ -101,9 +110,11 @@ pub fn find_layout(b: &[u8]) -> Layout
         if len < least {
             return Layout::Broken;
         }
-        let k = (len - least) / sizes::CURVE_BYTES;
-        if ends_with(b, n, k) {
+        let form = sizes::form_of(two(b, end + sizes::LENGTH_FIELD));
+        let k = (len - least) / (sizes::HEAD_BYTES + sizes::body_bytes(form));
+        if ends_with(b, form, n, k) {
             return Layout::Counts {
+                form,
                 marks: n,
                 curves: k,
             };

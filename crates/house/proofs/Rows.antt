@@ -3,34 +3,34 @@ use mathlib.Core.Path.{_≡_, refl, ap, _∙_}
 use mathlib.Core.Bool.{true}
 use mathlib.Core.List.{List, [], _∷_, _++_, append-assoc}
 use Prim.Native.Nat.{ℕ, zero, suc, _+_, _*_, _<_, _≤_, _^_}
-use native.Mathlib.Nat.{pow-le-pow-right}
+use native.Mathlib.Nat.{mul-zero, pow-le-pow-right}
 use native.Mathlib.Omega.{arith}
 use lib.ListN.{length, take, drop, length-append, length-take, length-drop}
 use lib.Seq.{drop-drop}
-use Rattle.house.specs.Bytes.{val, le, num, words, les, allFit}
+use Rattle.house.specs.Bytes.{val, le, num, row, words, rowBytes, les, allFit}
 use Rattle.house.proofs.Numbers.{fit-head, fit-tail, fit-cons, fit-take, fit-drop, length-le, val-lt, val-front, drop-front, le-front}
 
-pub length-words : (n : ℕ) (b : List ℕ) → length (words n b) ≡ n
-unfolding words
-length-words zero b = refl
-length-words (suc n) b = ap suc (length-words n (drop 8 b))
+pub length-row : (k n : ℕ) (b : List ℕ) → length (row k n b) ≡ n
+unfolding row
+length-row k zero b = refl
+length-row k (suc n) b = ap suc (length-row k n (drop k b))
 
-pub length-les : (xs : List ℕ) → length (les xs) ≡ 8 * length xs
-unfolding les
-length-les [] = refl
-length-les (x ∷ xs) = simp (length-append, length-le, length-les xs) (omega arith)
+pub length-bytes : (k : ℕ) (xs : List ℕ) → length (rowBytes k xs) ≡ k * length xs
+unfolding rowBytes
+length-bytes k [] = rw (mul-zero k)
+length-bytes k (x ∷ xs) = simp (length-append, length-le, length-bytes k xs) (omega arith)
 
-pub words-suc : (i : ℕ) (b : List ℕ) → words (suc i) b ≡ words i b ++ (num 8 b (8 * i) ∷ [])
-unfolding words
-words-suc zero b = refl
-words-suc (suc i) b =
-    let e : 8 + 8 * i ≡ 8 * suc i = omega arith in
-    ap (λ (l : List ℕ). val (take 8 b) ∷ l) (words-suc i (drop 8 b) ∙ rw (drop-drop, e))
+pub row-suc : (k i : ℕ) (b : List ℕ) → row k (suc i) b ≡ row k i b ++ (num k b (k * i) ∷ [])
+unfolding row
+row-suc k zero b = rw (mul-zero k)
+row-suc k (suc i) b =
+    let e : k + k * i ≡ k * suc i = omega arith in
+    ap (λ (l : List ℕ). val (take k b) ∷ l) (row-suc k i (drop k b) ∙ rw (drop-drop, e))
 
-pub les-append : (xs ys : List ℕ) → les (xs ++ ys) ≡ les xs ++ les ys
-unfolding les
-les-append [] ys = refl
-les-append (x ∷ xs) ys = rw (les-append xs ys, append-assoc)
+pub bytes-append : (k : ℕ) (xs ys : List ℕ) → rowBytes k (xs ++ ys) ≡ rowBytes k xs ++ rowBytes k ys
+unfolding rowBytes
+bytes-append k [] ys = refl
+bytes-append k (x ∷ xs) ys = rw (bytes-append k xs ys, append-assoc)
 
 -- what bytes hold fits its field
 pub fit-num : (k p : ℕ) (b : List ℕ) → allFit 1 b ≡ true → num k b p < 256 ^ k
@@ -41,26 +41,36 @@ fit-num k p b g =
     let h = val-lt (take k (drop p b)) f in
     omega arith
 
-pub fit-words : (n : ℕ) (b : List ℕ) → allFit 1 b ≡ true → allFit 8 (words n b) ≡ true
-unfolding words allFit
-fit-words zero b g = refl
-fit-words (suc n) b g = fit-cons 8 (val (take 8 b)) (words n (drop 8 b)) (fit-num 8 0 b g) (fit-words n (drop 8 b) (fit-drop 1 8 b g))
+pub fit-row : (k n : ℕ) (b : List ℕ) → allFit 1 b ≡ true → allFit k (row k n b) ≡ true
+unfolding row allFit
+fit-row k zero b g = refl
+fit-row k (suc n) b g = fit-cons k (val (take k b)) (row k n (drop k b)) (fit-num k 0 b g) (fit-row k n (drop k b) (fit-drop 1 k b g))
 
 -- a row at the front: from the bytes and back, from the numbers and back
-pub les-front : (n : ℕ) (d : List ℕ) → allFit 1 d ≡ true → 8 * n ≤ length d → les (words n d) ++ drop (8 * n) d ≡ d
-unfolding words les
-les-front zero d g h = refl
-les-front (suc n) d g h =
-    let e : 8 * suc n ≡ 8 + 8 * n = omega arith in
-    let i : les (words n (drop 8 d)) ++ drop (8 * n) (drop 8 d) ≡ drop 8 d = les-front n (drop 8 d) (fit-drop 1 8 d g) (simp length-drop (omega arith)) in
-    let j : drop (8 * n) (drop 8 d) ≡ drop (8 * suc n) d = rw (drop-drop, e) in
-    rw (append-assoc, ← j, i) (le-front d 8 (val (take 8 d)) g (omega arith) refl)
+pub row-front : (k n : ℕ) (d : List ℕ) → allFit 1 d ≡ true → k * n ≤ length d → rowBytes k (row k n d) ++ drop (k * n) d ≡ d
+unfolding row rowBytes
+row-front k zero d g h = rw (mul-zero k)
+row-front k (suc n) d g h =
+    let e : k * suc n ≡ k + k * n = omega arith in
+    let i : rowBytes k (row k n (drop k d)) ++ drop (k * n) (drop k d) ≡ drop k d = row-front k n (drop k d) (fit-drop 1 k d g) (simp length-drop (omega arith)) in
+    let j : drop (k * n) (drop k d) ≡ drop (k * suc n) d = rw (drop-drop, e) in
+    rw (append-assoc, ← j, i) (le-front d k (val (take k d)) g (omega arith) refl)
 
-pub words-les : (xs r : List ℕ) → allFit 8 xs ≡ true → words (length xs) (les xs ++ r) ≡ xs
-unfolding words les
-words-les [] r h = refl
-words-les (x ∷ xs) r h =
-    let e : (le 8 x ++ les xs) ++ r ≡ le 8 x ++ (les xs ++ r) = append-assoc (le 8 x) (les xs) r in
-    let v : val (take 8 (le 8 x ++ (les xs ++ r))) ≡ x = val-front 8 x (les xs ++ r) (fit-head 8 x xs h) in
-    let t : words (length xs) (les xs ++ r) ≡ xs = words-les xs r (fit-tail 8 x xs h) in
-    rw (e, v, drop-front 8 x (les xs ++ r), t)
+pub row-back : (k : ℕ) (xs r : List ℕ) → allFit k xs ≡ true → row k (length xs) (rowBytes k xs ++ r) ≡ xs
+unfolding row rowBytes
+row-back k [] r h = refl
+row-back k (x ∷ xs) r h =
+    let e : (le k x ++ rowBytes k xs) ++ r ≡ le k x ++ (rowBytes k xs ++ r) = append-assoc (le k x) (rowBytes k xs) r in
+    let v : val (take k (le k x ++ (rowBytes k xs ++ r))) ≡ x = val-front k x (rowBytes k xs ++ r) (fit-head k x xs h) in
+    let t : row k (length xs) (rowBytes k xs ++ r) ≡ xs = row-back k xs r (fit-tail k x xs h) in
+    rw (e, v, drop-front k x (rowBytes k xs ++ r), t)
+
+-- the same for numbers of eight bytes
+pub length-words : (n : ℕ) (b : List ℕ) → length (words n b) ≡ n
+length-words = length-row 8
+
+pub length-les : (xs : List ℕ) → length (les xs) ≡ 8 * length xs
+length-les = length-bytes 8
+
+pub words-suc : (i : ℕ) (b : List ℕ) → words (suc i) b ≡ words i b ++ (num 8 b (8 * i) ∷ [])
+words-suc = row-suc 8

@@ -7,9 +7,9 @@ use native.Mathlib.Omega.{arith}
 use lib.ListN.{length, take, drop, set, getD}
 use lib.Seq.{drop-drop, drop-cons, set-at, append-snoc, take-suc, length-take-le, sets}
 use Rattle.text.proofs.Stores.{sets-append}
-use Rattle.house.specs.Bytes.{num, le, words, les}
+use Rattle.house.specs.Bytes.{num, le, rowBytes, words, les}
 use Rattle.house.proofs.Numbers.{length-le}
-use Rattle.house.proofs.Rows.{length-words, length-les, words-suc, les-append}
+use Rattle.house.proofs.Rows.{length-words, length-les, words-suc, bytes-append}
 
 -- a store that makes a front one longer
 pub front-suc : {A : Type 0} (d : A) (xs l : List A) (x : A) (i : ℕ) → length xs ≡ i → i < length l → set (xs ++ drop i l) i x ≡ (xs ++ (x ∷ [])) ++ drop (i + 1) l
@@ -41,9 +41,9 @@ put-both l at j k x y = let e = sets-append (le j x) (le k y) l at in sym (rw le
 
 -- one more number written
 pub words-put : (l xs : List ℕ) (at i : ℕ) → i < length xs → sets (sets l at (les (take i xs))) (at + 8 * i) (le 8 (getD xs i 0)) ≡ sets l at (les (take (i + 1) xs))
-unfolding les
+unfolding rowBytes
 words-put l xs at i h =
     let z : length (les (take i xs)) ≡ 8 * i = length-les (take i xs) ∙ rw (length-take-le i xs (omega arith)) in
-    let t : les (take (i + 1) xs) ≡ les (take i xs) ++ le 8 (getD xs i 0) = rw (add-one i, take-suc xs i 0, les-append, append-nil) in
+    let t : les (take (i + 1) xs) ≡ les (take i xs) ++ le 8 (getD xs i 0) = rw (add-one i, take-suc xs i 0, bytes-append, append-nil) in
     let e = sets-append (les (take i xs)) (le 8 (getD xs i 0)) l at in
     rw t (sym (rw z at e))

@@ -20,15 +20,22 @@ le (suc k) x = x % 256 ∷ le k (x / 256)
 abbrev pub num : ℕ → List ℕ → ℕ → ℕ
 num k b p = val (take k (drop p b))
 
--- the first n numbers of a row
-unfoldable pub words : ℕ → List ℕ → List ℕ
-words zero b = []
-words (suc n) b = val (take numberField b) ∷ words n (drop numberField b)
+-- the first n numbers of a row, of k bytes each
+unfoldable pub row : ℕ → ℕ → List ℕ → List ℕ
+row k zero b = []
+row k (suc n) b = val (take k b) ∷ row k n (drop k b)
 
--- the bytes of a row of numbers
-unfoldable pub les : List ℕ → List ℕ
-les [] = []
-les (x ∷ xs) = le numberField x ++ les xs
+-- the bytes of a row of numbers, k bytes for each
+unfoldable pub rowBytes : ℕ → List ℕ → List ℕ
+rowBytes k [] = []
+rowBytes k (x ∷ xs) = le k x ++ rowBytes k xs
+
+-- the same for numbers that are no mark's
+abbrev pub words : ℕ → List ℕ → List ℕ
+words n b = row numberField n b
+
+abbrev pub les : List ℕ → List ℕ
+les xs = rowBytes numberField xs
 
 -- whether k bytes hold the number
 abbrev pub fits : ℕ → ℕ → Bool

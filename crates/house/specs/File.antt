@@ -5,8 +5,11 @@ use mathlib.Core.Bool.{Bool, true, _&&_, _||_, cond}
 use mathlib.Core.List.{List, [], _∷_, _++_}
 use lib.Dec.{ltb, eqb}
 use lib.ListN.{length, take, drop}
-use Rattle.house.specs.Limits.{lengthField, kindField, firstField, numberField, markNumbers, curveNumbers, toleranceKind, marksKind, curveKind, paramsKind}
-use Rattle.house.specs.Bytes.{le, les, fits, allFit}
+use Rattle.form.specs.declared.Form.{Form}
+use Rattle.form.specs.declared.Form.the-variants.{Eight, Nine}
+use Rattle.form.specs.Form.{width, worstsFor}
+use Rattle.house.specs.Limits.{lengthField, kindField, markField, numberField, markNumbers, worstMarks, toleranceKind, marksKind, curveKind, paramsKind}
+use Rattle.house.specs.Bytes.{le, rowBytes, les, fits, allFit}
 
 -- ---- records
 
@@ -28,27 +31,33 @@ flat (r ∷ rs) = framed r ++ flat rs
 
 -- ---- files
 
--- what a file holds: the tolerance; x and y of each mark; each curve's first mark; each curve's eight numbers; each mark's parameter
+-- what a file holds: how its curves are stored; the tolerance; x and y of each mark; each curve's first mark; its worst mark, where it is kept; its numbers; each mark's parameter
 pub record File : Type 0 where
+  pub form : Form
   pub tolerance : ℕ
   pub marks : List ℕ
   pub firsts : List ℕ
+  pub worsts : List ℕ
   pub curves : List ℕ
   pub params : List ℕ
 
--- a record of kind 3 for each first mark, with the next eight numbers
-unfoldable pub curveRecords : List ℕ → List ℕ → List Record
-curveRecords [] C = []
-curveRecords (p ∷ P) C = rec curveKind (le firstField p ++ les (take curveNumbers C)) ∷ curveRecords P (drop curveNumbers C)
+-- a curve's body: its first mark, the next worst mark where one is kept, the next numbers
+abbrev pub bodyOf : Form → ℕ → List ℕ → List ℕ → List ℕ
+bodyOf form p W C = le markField p ++ (rowBytes markField (take (worstMarks form) W) ++ les (take (width form) C))
 
--- what follows the marks: no more, or a kind 3 for each curve and one kind 4
-unfoldable pub fitRecords : List ℕ → List ℕ → List ℕ → List Record
-fitRecords [] C Q = []
-fitRecords (p ∷ P) C Q = curveRecords (p ∷ P) C ++ (rec paramsKind (les Q) ∷ [])
+-- a record for each first mark
+unfoldable pub curveRecords : Form → List ℕ → List ℕ → List ℕ → List Record
+curveRecords form [] W C = []
+curveRecords form (p ∷ P) W C = rec (curveKind form) (bodyOf form p W C) ∷ curveRecords form P (drop (worstMarks form) W) (drop (width form) C)
+
+-- what follows the marks: no more, or a record for each curve and one kind 4
+unfoldable pub fitRecords : Form → List ℕ → List ℕ → List ℕ → List ℕ → List Record
+fitRecords form [] W C Q = []
+fitRecords form (p ∷ P) W C Q = curveRecords form (p ∷ P) W C ++ (rec paramsKind (les Q) ∷ [])
 
 -- one 1, one 2, and what follows
 unfoldable pub recordsOf : File → List Record
-recordsOf F = rec toleranceKind (le numberField (F .tolerance)) ∷ (rec marksKind (les (F .marks)) ∷ fitRecords (F .firsts) (F .curves) (F .params))
+recordsOf F = rec toleranceKind (le numberField (F .tolerance)) ∷ (rec marksKind (les (F .marks)) ∷ fitRecords (F .form) (F .firsts) (F .worsts) (F .curves) (F .params))
 
 -- a file's bytes
 abbrev pub bytesOf : File → List ℕ
@@ -67,6 +76,14 @@ curvesIn F = length (F .firsts)
 abbrev pub fewer : ℕ → ℕ → Bool
 fewer k n = eqb k 0 || ltb k n
 
+-- a file without curves counts as one of eight numbers a curve
+abbrev pub suits : Form → ℕ → Bool
+suits Eight k = true
+suits Nine k = ltb 0 k
+
+abbrev pub formFor : Form → ℕ → Form
+formFor form k = cond (eqb k 0) Eight form
+
 -- how many parameters go with n marks and k curves: none without curves, else one for each mark
 abbrev pub paramsFor : ℕ → ℕ → ℕ
 paramsFor n k = cond (eqb k 0) 0 n
@@ -75,15 +92,18 @@ paramsFor n k = cond (eqb k 0) 0 n
 unfoldable pub wellFormed : File → Bool
 wellFormed F =
     eqb (length (F .marks)) (markNumbers * marksIn F)
-    && (eqb (length (F .curves)) (curveNumbers * curvesIn F)
+    && (eqb (length (F .worsts)) (worstsFor (F .form) (curvesIn F))
+    && (eqb (length (F .curves)) (width (F .form) * curvesIn F)
     && (eqb (length (F .params)) (paramsFor (marksIn F) (curvesIn F))
+    && (suits (F .form) (curvesIn F)
     && (fewer (curvesIn F) (marksIn F)
     && (fits lengthField (kindField + length (les (F .marks)))
     && (fits numberField (F .tolerance)
     && (allFit numberField (F .marks)
-    && (allFit firstField (F .firsts)
+    && (allFit markField (F .firsts)
+    && (allFit markField (F .worsts)
     && (allFit numberField (F .curves)
-    && allFit numberField (F .params)))))))))
+    && allFit numberField (F .params))))))))))))
 
 -- the bytes b are the file F
 pub record Holds (b : List ℕ) (F : File) : Type 0 where

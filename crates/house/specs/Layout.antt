@@ -1,11 +1,13 @@
 -- The words of inner contracts: heads at fixed places, and room. No public promise cites these. Definitions only.
-use Prim.Native.Nat.{ℕ, zero, suc, _+_, _-_, _*_, _≤_}
+use Prim.Native.Nat.{ℕ, zero, suc, _+_, _*_, _≤_}
 use mathlib.Core.Path.{_≡_}
 use mathlib.Core.Bool.{Bool, true, _&&_, cond}
 use mathlib.Core.List.{List}
 use lib.Dec.{eqb, ltb}
 use lib.ListN.{length, drop}
-use Rattle.house.specs.Limits.{lengthField, kindField, numberField, markNumbers, curveNumbers, markBytes, curveBytes, marksHead, toleranceKind, marksKind, curveKind, paramsKind}
+use Rattle.form.specs.declared.Form.{Form}
+use Rattle.form.specs.Form.{width, worstsFor}
+use Rattle.house.specs.Limits.{lengthField, kindField, numberField, markNumbers, headBytes, markBytes, bodyBytes, curveBytes, marksHead, toleranceKind, marksKind, curveKind, paramsKind}
 use Rattle.house.specs.Bytes.{num}
 use Rattle.house.specs.File.{File, paramsFor}
 use Rattle.house.specs.Held.{marksEnd, paramsAt}
@@ -19,35 +21,40 @@ headAt b p size kind = eqb (num lengthField b p) size && eqb (num kindField b (p
 unfoldable pub startsWith : List ℕ → ℕ → Bool
 startsWith b n = headAt b 0 (kindField + numberField) toleranceKind && headAt b marksHead (kindField + markBytes * n) marksKind
 
--- k records of kind 3 at the front
-unfoldable pub curvesLead : ℕ → List ℕ → Bool
-curvesLead zero b = true
-curvesLead (suc k) b = headAt b 0 (curveBytes - lengthField) curveKind && curvesLead k (drop curveBytes b)
+-- k records of one kind at the front, with bodies of so many bytes
+unfoldable pub recordsLead : ℕ → ℕ → ℕ → List ℕ → Bool
+recordsLead body kind zero b = true
+recordsLead body kind (suc k) b = headAt b 0 (kindField + body) kind && recordsLead body kind k (drop (headBytes + body) b)
 
--- behind n marks k records of kind 3, above none and fewer than marks, and kind 4 up to the end
-unfoldable pub endsWith : List ℕ → ℕ → ℕ → Bool
-endsWith b n k =
-    eqb (length b) (paramsAt n k + numberField * n)
+abbrev pub curvesLead : Form → ℕ → List ℕ → Bool
+curvesLead form k b = recordsLead (bodyBytes form) (curveKind form) k b
+
+-- behind n marks k curves, above none and fewer than marks, and kind 4 up to the end
+unfoldable pub endsWith : List ℕ → Form → ℕ → ℕ → Bool
+endsWith b form n k =
+    eqb (length b) (paramsAt form n k + numberField * n)
     && (ltb 0 k
     && (ltb k n
-    && (curvesLead k (drop (marksEnd n) b)
-    && headAt b (marksEnd n + curveBytes * k) (kindField + numberField * n) paramsKind)))
+    && (curvesLead form k (drop (marksEnd n) b)
+    && headAt b (marksEnd n + curveBytes form * k) (kindField + numberField * n) paramsKind)))
 
 -- how many bytes a file of n marks and k curves has
-abbrev pub sizeFor : ℕ → ℕ → ℕ
-sizeFor n k = cond (eqb k 0) (marksEnd n) (paramsAt n k + numberField * n)
+abbrev pub sizeFor : Form → ℕ → ℕ → ℕ
+sizeFor form n k = cond (eqb k 0) (marksEnd n) (paramsAt form n k + numberField * n)
 
 -- n marks and k curves are within the bytes and within the slices
-pub record Room (n k : ℕ) (b M P C Q : List ℕ) : Type 0 where
-  pub bytes : sizeFor n k ≤ length b
+pub record Room (form : Form) (n k : ℕ) (b M P W C Q : List ℕ) : Type 0 where
+  pub bytes : sizeFor form n k ≤ length b
   pub marks : markNumbers * n ≤ length M
   pub firsts : k ≤ length P
-  pub curves : curveNumbers * k ≤ length C
+  pub worsts : worstsFor form k ≤ length W
+  pub curves : width form * k ≤ length C
   pub params : paramsFor n k ≤ length Q
 
 -- a file stands at the front of the slices
-pub record Copied (F : File) (M P C Q M′ P′ C′ Q′ : List ℕ) : Type 0 where
+pub record Copied (F : File) (M P W C Q M′ P′ W′ C′ Q′ : List ℕ) : Type 0 where
   pub marks : M′ ≡ written (F .marks) M
   pub firsts : P′ ≡ written (F .firsts) P
+  pub worsts : W′ ≡ written (F .worsts) W
   pub curves : C′ ≡ written (F .curves) C
   pub params : Q′ ≡ written (F .params) Q

@@ -1,9 +1,12 @@
 // Where things stand in a house file, and how much room they take.
+use form::Form;
+use form::width;
+use form::worsts_for;
 ghost use mathlib.Core.Path.{_≡_};
 ghost use Prim.Native.Nat.{_+_, _*_, _^_, _<_};
-ghost use Rattle.house.specs.Limits.{numberField};
+ghost use Rattle.house.specs.Limits.{markField, numberField, besides, curveKind, bodyBytes};
 ghost use Rattle.house.specs.Layout.{sizeFor};
-ghost use Rattle.house.specs.Held.{paramsAt};
+ghost use Rattle.house.specs.Held.{formOf, paramsAt};
 ghost use Rattle.house.specs.Slices.{room};
 
 // The most marks that a file may hold.
@@ -15,8 +18,8 @@ pub const LENGTH_FIELD: usize = 4;
 // The bytes of a record's kind, which its length counts.
 pub const KIND_FIELD: usize = 2;
 
-// The bytes of a curve's first mark.
-pub const FIRST_FIELD: usize = 2;
+// The bytes of the number of a first or a worst mark.
+pub const MARK_FIELD: usize = 2;
 
 // The bytes of any other number.
 pub const NUMBER_FIELD: usize = 8;
@@ -24,17 +27,17 @@ pub const NUMBER_FIELD: usize = 8;
 // A mark's numbers: x and y.
 pub const MARK_NUMBERS: usize = 2;
 
-// A curve's numbers: x and y of its four points.
-pub const CURVE_NUMBERS: usize = 8;
-
 // The kind that holds the tolerance.
 pub const TOLERANCE_KIND: u64 = 1;
 
 // The kind that holds the marks.
 pub const MARKS_KIND: u64 = 2;
 
-// The kind that holds one curve.
-pub const CURVE_KIND: u64 = 3;
+// The kind that holds one curve of eight numbers.
+const EIGHT_KIND: u64 = 3;
+
+// The kind that holds one curve of nine numbers.
+const NINE_KIND: u64 = 6;
 
 // The kind that holds the parameters.
 pub const PARAMS_KIND: u64 = 4;
@@ -45,9 +48,6 @@ pub const HEAD_BYTES: usize = LENGTH_FIELD + KIND_FIELD;
 // The bytes of a mark.
 pub const MARK_BYTES: usize = MARK_NUMBERS * NUMBER_FIELD;
 
-// The bytes of a whole record of kind 3.
-pub const CURVE_BYTES: usize = HEAD_BYTES + FIRST_FIELD + CURVE_NUMBERS * NUMBER_FIELD;
-
 // Where kind 2 starts, behind kind 1.
 pub const MARKS_HEAD: usize = HEAD_BYTES + NUMBER_FIELD;
 
@@ -57,17 +57,62 @@ pub const MARKS_AT: usize = MARKS_HEAD + HEAD_BYTES;
 // What kind 1 states as its length: the kind and a number.
 pub const TOLERANCE_LENGTH: u64 = 10;
 
-// What kind 3 states as its length: the kind, a first mark and eight numbers.
-pub const CURVE_LENGTH: u64 = 68;
+// The kind of a curve.
+pub fn curve_kind(form: Form) -> u64
+    ensures { λ r. ⌜ r ≡ curveKind form ⌝ }
+{
+    match form {
+        Form::Eight => EIGHT_KIND,
+        Form::Nine => NINE_KIND,
+    }
+}
+
+// How curves are stored that have this kind: eight numbers each, unless it is the kind of nine.
+pub fn form_of(kind: u64) -> Form
+    ensures { λ r. ⌜ r ≡ formOf kind ⌝ }
+{
+    if kind == NINE_KIND {
+        return Form::Nine;
+    }
+    Form::Eight
+}
+
+// The bytes of a curve's mark numbers: its first mark's, and its worst mark's where it is kept.
+pub fn beside_bytes(form: Form) -> usize
+    ensures { λ r. ⌜ r ≡ markField * besides form ⌝ }
+{
+    match form {
+        Form::Eight => MARK_FIELD,
+        Form::Nine => 2 * MARK_FIELD,
+    }
+}
+
+// The bytes of a curve's body: its mark numbers and its other numbers.
+pub fn body_bytes(form: Form) -> usize
+    ensures { λ r. ⌜ r ≡ bodyBytes form ⌝ }
+{
+    beside_bytes(form) + NUMBER_FIELD * width(form)
+}
 
 // Whether slices of these lengths have places for n marks' parameters and for k curves. No product is made of k, which a caller only claims.
-pub fn has_room(n: usize, k: usize, firsts: usize, curves: usize, params: usize) -> bool
-    ensures { λ r. ⌜ r ≡ room n k firsts curves params ⌝ }
+pub fn has_room(
+    form: Form,
+    n: usize,
+    k: usize,
+    firsts: usize,
+    worsts: usize,
+    curves: usize,
+    params: usize,
+) -> bool
+    ensures { λ r. ⌜ r ≡ room form n k firsts worsts curves params ⌝ }
 {
     if firsts < k {
         return false;
     }
-    if curves / CURVE_NUMBERS < k {
+    if worsts < worsts_for(form, k) {
+        return false;
+    }
+    if curves / width(form) < k {
         return false;
     }
     if k == 0 {
@@ -77,13 +122,14 @@ pub fn has_room(n: usize, k: usize, firsts: usize, curves: usize, params: usize)
 }
 
 // How many bytes a file of n marks and k curves has.
-pub fn size_for(n: usize, k: usize) -> usize
-    requires { ⌜ paramsAt n k + numberField * n < 2 ^ 64 ⌝ }
-    ensures { λ r. ⌜ r ≡ sizeFor n k ⌝ }
+pub fn size_for(form: Form, n: usize, k: usize) -> usize
+    requires { ⌜ paramsAt form n k + numberField * n < 2 ^ 64 ⌝ }
+    ensures { λ r. ⌜ r ≡ sizeFor form n k ⌝ }
 {
     let end = MARKS_AT + MARK_BYTES * n;
     if k == 0 {
         return end;
     }
-    end + CURVE_BYTES * k + HEAD_BYTES + NUMBER_FIELD * n
+    let step = HEAD_BYTES + body_bytes(form);
+    end + step * k + HEAD_BYTES + NUMBER_FIELD * n
 }

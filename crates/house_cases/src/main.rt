@@ -1,9 +1,9 @@
-// The house file and its listing over kept files. A record on standard input is seven words of eight bytes and then a file's bytes: what to
-// do, how many bytes the file has, and the room for marks, first marks, curves, parameters and bytes.
+// The house file and its listing over kept files. A record on standard input is eight words of eight bytes and then a file's bytes: what to
+// do, how many bytes the file has, and the room for marks, first marks, worst marks, curves, parameters and bytes.
 //
 // 0 lists the file, and writes the text, or 4 where there is no room for it. 1 reads the file and writes it again: 0, the marks, the curves, and
 // the writer's 0 and bytes, or a refusal in place of either; a line `DIFFERS` follows where the bytes are not the file's. 2 reads every
-// prefix, and 3 every change of one byte: how many were answered with 0, 2, 4 and 9.
+// prefix, and 3 every change of one byte: how many were answered with 0, 2, 4 and 9. 4 does as 1, with a first worst mark that its field does not hold.
 ghost use Prim.Native.Nat.{_<_};
 ghost use lib.ListN.{length};
 use cases::parts::front_bytes;
@@ -11,6 +11,7 @@ use cases::parts::front_words;
 use cases::parts::lent_bytes;
 use cases::parts::lent_firsts;
 use cases::parts::lent_words;
+use form::Form;
 use libc::STDIN_FILENO;
 use libc::STDOUT_FILENO;
 use lines::Listed;
@@ -70,12 +71,14 @@ fn read_answer(
     file: &[u8],
     marks: &mut [u64],
     firsts: &mut [u32],
+    worsts: &mut [u32],
     curves: &mut [u64],
     params: &mut [u64],
 ) -> u32 {
-    let read = reader::read_file(file, marks, firsts, curves, params);
+    let read = reader::read_file(file, marks, firsts, worsts, curves, params);
     match read {
         Read::File {
+            form: _,
             tolerance: _,
             marks: _,
             curves: _,
@@ -89,6 +92,7 @@ fn prefixes(
     file: &[u8],
     marks: &mut [u64],
     firsts: &mut [u32],
+    worsts: &mut [u32],
     curves: &mut [u64],
     params: &mut [u64],
 ) -> Tally {
@@ -103,7 +107,7 @@ fn prefixes(
     while i < file.len() {
         t = count(
             t,
-            read_answer(&file[from..i], marks, firsts, curves, params),
+            read_answer(&file[from..i], marks, firsts, worsts, curves, params),
         );
         i += 1;
     }
@@ -122,6 +126,7 @@ fn change_at(
     start: Tally,
     marks: &mut [u64],
     firsts: &mut [u32],
+    worsts: &mut [u32],
     curves: &mut [u64],
     params: &mut [u64],
 ) -> Tally
@@ -132,7 +137,7 @@ fn change_at(
     let mut d: u64 = 1;
     while d < 256 {
         file[at] = turned(was, d);
-        t = count(t, read_answer(file, marks, firsts, curves, params));
+        t = count(t, read_answer(file, marks, firsts, worsts, curves, params));
         d += 1;
     }
     file[at] = was;
@@ -144,6 +149,7 @@ fn changes(
     file: &mut [u8],
     marks: &mut [u64],
     firsts: &mut [u32],
+    worsts: &mut [u32],
     curves: &mut [u64],
     params: &mut [u64],
 ) -> Tally {
@@ -155,7 +161,7 @@ fn changes(
     };
     let mut i: usize = 0;
     while i < file.len() {
-        t = change_at(file, i, t, marks, firsts, curves, params);
+        t = change_at(file, i, t, marks, firsts, worsts, curves, params);
         i += 1;
     }
     t
@@ -203,16 +209,28 @@ fn print_written(wrote: Wrote, file: &[u8], out: &[u8]) {
 
 // What the reader found, written again.
 fn write_again(
+    form: Form,
     tolerance: u64,
     count: usize,
     file: &[u8],
     marks: &[u64],
     firsts: &[u32],
+    worsts: &[u32],
     curves: &[u64],
     params: &[u64],
     out: &mut [u8],
 ) {
-    let wrote = writer::write_file(tolerance, marks, count, firsts, curves, params, out);
+    let wrote = writer::write_file(
+        form,
+        tolerance,
+        marks,
+        count,
+        firsts,
+        worsts,
+        curves,
+        params,
+        out,
+    );
     print_written(wrote, file, out);
 }
 
@@ -222,29 +240,45 @@ fn print_counts(marks: usize, curves: usize) {
     print_next(curves as u64);
 }
 
+// A first worst mark that two bytes do not hold, if it is asked for.
+fn beyond(too_far: bool, worsts: &mut [u32]) {
+    if worsts.len() == 0 {
+        return;
+    }
+    if too_far {
+        worsts[0] = 65536;
+    }
+}
+
 // The file read, and written again.
 fn read_and_write(
+    too_far: bool,
     file: &[u8],
     marks: &mut [u64],
     firsts: &mut [u32],
+    worsts: &mut [u32],
     curves: &mut [u64],
     params: &mut [u64],
     out: &mut [u8],
 ) {
-    match reader::read_file(file, marks, firsts, curves, params) {
+    match reader::read_file(file, marks, firsts, worsts, curves, params) {
         Read::File {
+            form,
             tolerance: t,
             marks: n,
             curves: k,
         } => {
             print_counts(n, k);
             let m = std::num::wrapping_add_usize(n, n);
+            beyond(too_far, worsts);
             write_again(
+                form,
                 t,
                 k,
                 file,
                 front_words(marks, m),
                 firsts,
+                worsts,
                 curves,
                 params,
                 out,
@@ -265,38 +299,42 @@ fn list(file: &[u8], out: &mut [u8]) {
 }
 
 // The word of a record's head that says a length.
-fn length_at(head: &[u8; 56], at: usize) -> usize {
+fn length_at(head: &[u8; 64], at: usize) -> usize {
     cases::word(head, at) as usize
 }
 
 // Whether there is as much room as a head asks for.
-fn fits(head: &[u8; 56]) -> bool {
+fn fits(head: &[u8; 64]) -> bool {
     (length_at(head, 8) <= FILE)
         & (length_at(head, 16) <= NUMBERS)
         & (length_at(head, 24) <= FIRSTS)
-        & (length_at(head, 32) <= NUMBERS)
-        & (length_at(head, 40) <= PARAMS)
-        & (length_at(head, 48) <= FILE)
+        & (length_at(head, 32) <= FIRSTS)
+        & (length_at(head, 40) <= NUMBERS)
+        & (length_at(head, 48) <= PARAMS)
+        & (length_at(head, 56) <= FILE)
 }
 
-fn list_record(head: &[u8; 56], file: &[u8]) {
+fn list_record(head: &[u8; 64], file: &[u8]) {
     let mut out = [0u8; FILE];
-    list(file, lent_bytes(&mut out, length_at(head, 48)));
+    list(file, lent_bytes(&mut out, length_at(head, 56)));
 }
 
-fn write_record(head: &[u8; 56], file: &[u8]) {
+fn write_record(too_far: bool, head: &[u8; 64], file: &[u8]) {
     let mut marks = [0u64; NUMBERS];
     let mut firsts = [0u32; FIRSTS];
+    let mut worsts = [0u32; FIRSTS];
     let mut curves = [0u64; NUMBERS];
     let mut params = [0u64; PARAMS];
     let mut out = [0u8; FILE];
     read_and_write(
+        too_far,
         file,
         lent_words(&mut marks, length_at(head, 16)),
         lent_firsts(&mut firsts, length_at(head, 24)),
-        lent_words(&mut curves, length_at(head, 32)),
-        lent_words(&mut params, length_at(head, 40)),
-        lent_bytes(&mut out, length_at(head, 48)),
+        lent_firsts(&mut worsts, length_at(head, 32)),
+        lent_words(&mut curves, length_at(head, 40)),
+        lent_words(&mut params, length_at(head, 48)),
+        lent_bytes(&mut out, length_at(head, 56)),
     );
 }
 
@@ -306,18 +344,20 @@ fn tallied(
     file: &mut [u8],
     marks: &mut [u64],
     firsts: &mut [u32],
+    worsts: &mut [u32],
     curves: &mut [u64],
     params: &mut [u64],
 ) -> Tally {
     if what == 2 {
-        return prefixes(file, marks, firsts, curves, params);
+        return prefixes(file, marks, firsts, worsts, curves, params);
     }
-    changes(file, marks, firsts, curves, params)
+    changes(file, marks, firsts, worsts, curves, params)
 }
 
-fn tally_record(what: u64, head: &[u8; 56], file: &mut [u8]) {
+fn tally_record(what: u64, head: &[u8; 64], file: &mut [u8]) {
     let mut marks = [0u64; NUMBERS];
     let mut firsts = [0u32; FIRSTS];
+    let mut worsts = [0u32; FIRSTS];
     let mut curves = [0u64; NUMBERS];
     let mut params = [0u64; PARAMS];
     let t = tallied(
@@ -325,25 +365,27 @@ fn tally_record(what: u64, head: &[u8; 56], file: &mut [u8]) {
         file,
         lent_words(&mut marks, length_at(head, 16)),
         lent_firsts(&mut firsts, length_at(head, 24)),
-        lent_words(&mut curves, length_at(head, 32)),
-        lent_words(&mut params, length_at(head, 40)),
+        lent_firsts(&mut worsts, length_at(head, 32)),
+        lent_words(&mut curves, length_at(head, 40)),
+        lent_words(&mut params, length_at(head, 48)),
     );
     print_tally(t);
 }
 
 // What a record asks for.
-fn record(head: &[u8; 56], file: &mut [u8]) {
+fn record(head: &[u8; 64], file: &mut [u8]) {
     match cases::word(head, 0) {
         0 => list_record(head, file),
-        1 => write_record(head, file),
+        1 => write_record(false, head, file),
+        4 => write_record(true, head, file),
         what => tally_record(what, head, file),
     }
 }
 
 // One record, if there is one with no more than there is room for.
 fn step() -> bool {
-    let mut head = [0u8; 56];
-    if io::read_full(STDIN_FILENO, &mut head) < 56 {
+    let mut head = [0u8; 64];
+    if io::read_full(STDIN_FILENO, &mut head) < 64 {
         return false;
     }
     if !fits(&head) {

@@ -4,8 +4,8 @@ use piped::print_listed;
 use verdict::judge_file;
 
 // Room for a file, in a function of its own: an array that is made where it is used is long in every goal.
-fn file_room() -> [u8; 393171] {
-    [0; 393171]
+fn file_room() -> [u8; 434121] {
+    [0; 434121]
 }
 
 // One byte more is read than is judged, so that too long a file is seen.

@@ -25,19 +25,19 @@ pub numbers-suc : (xs : List Float) (i : ℕ) → i < length xs → numbers (tak
 numbers-suc xs i h = sym (rw (add-one i, take-suc xs i nan, numbers-append))
 
 -- one more curve
-pieces-next : (P : List ℕ) (C : List Float) (i : ℕ) → i < length P → pieceLines (take i P) C ++ pieceLine (getD P i 0) (take 8 (drop (8 * i) C)) ≡ pieceLines (take (suc i) P) C
+pieces-next : (P : List ℕ) (C : List Float) (i : ℕ) → i < length P → pieceLines (take i P) C ++ pieceLine (getD P i 0) (take 8 (drop (9 * i) C)) ≡ pieceLines (take (suc i) P) C
 unfolding pieceLines
 pieces-next [] C i h = absurd (omega arith)
 pieces-next (p ∷ P) C zero h = sym (append-nil (pieceLine p (take 8 C)))
 pieces-next (p ∷ P) C (suc i) h =
-    let e : 8 + 8 * i ≡ 8 * suc i = omega arith in
-    let s = rw (drop-drop, e) at (pieces-next P (drop 8 C) i (omega arith)) in
-    append-assoc (pieceLine p (take 8 C)) (pieceLines (take i P) (drop 8 C)) (pieceLine (getD P i 0) (take 8 (drop (8 * suc i) C))) ∙ rw s
+    let e : 9 + 9 * i ≡ 9 * suc i = omega arith in
+    let s = rw (drop-drop, e) at (pieces-next P (drop 9 C) i (omega arith)) in
+    append-assoc (pieceLine p (take 8 C)) (pieceLines (take i P) (drop 9 C)) (pieceLine (getD P i 0) (take 8 (drop (9 * suc i) C))) ∙ rw s
 
 pub pieces-suc : (P : List ℕ) (C : List Float) (i : ℕ) → i < length P
-    → pieceLines (take i P) C ++ pieceLine (getD P i 0) (take 8 (drop (8 * i) C)) ≡ pieceLines (take (i + 1) P) C
+    → pieceLines (take i P) C ++ pieceLine (getD P i 0) (take 8 (drop (9 * i) C)) ≡ pieceLines (take (i + 1) P) C
 pieces-suc P C i h = rw (add-one i) (pieces-next P C i h)
 
--- the curve that was lent as all numbers from 8 * i on
-pub piece-part : (C : List Float) (i : ℕ) → 8 * i + 8 ≤ length C → take 8 (take (length C - 8 * i) (drop (8 * i) C)) ≡ take 8 (drop (8 * i) C)
-piece-part C i h = take-take 8 (length C - 8 * i) (drop (8 * i) C) (omega arith)
+-- the curve that was lent as all numbers from 9 * i on
+pub piece-part : (C : List Float) (i : ℕ) → 9 * i + 9 ≤ length C → take 8 (take (length C - 9 * i) (drop (9 * i) C)) ≡ take 8 (drop (9 * i) C)
+piece-part C i h = take-take 8 (length C - 9 * i) (drop (9 * i) C) (omega arith)

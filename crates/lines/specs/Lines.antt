@@ -3,6 +3,7 @@ use Prim.Native.Nat.{ℕ}
 use mathlib.Core.List.{List, [], _∷_, _++_}
 use lib.ListN.{length, take, drop}
 use lib.Ieee.{Float, binary64, toBits}
+use Rattle.form.specs.Form.{curveNumbers, recordNumbers}
 use Rattle.text.specs.Text.{decimal, hex16}
 
 -- `OUTLINE `, `PIECE ` and `REFUSED `
@@ -37,10 +38,10 @@ numbers (x ∷ xs) = (blank ++ hex16 (toBits binary64 x)) ++ numbers xs
 unfoldable pub pieceLine : ℕ → List Float → List ℕ
 pieceLine p C = ((pieceWord ++ decimal p) ++ numbers C) ++ newline
 
--- a line for each first mark, with the next eight numbers
+-- a line for each first mark, with the eight numbers of the next record; its ninth is not listed
 unfoldable pub pieceLines : List ℕ → List Float → List ℕ
 pieceLines [] C = []
-pieceLines (p ∷ P) C = pieceLine p (take 8 C) ++ pieceLines P (drop 8 C)
+pieceLines (p ∷ P) C = pieceLine p (take curveNumbers C) ++ pieceLines P (drop recordNumbers C)
 
 -- an outline: a line of how many marks and curves it has, and its curves
 unfoldable pub outlineLines : ℕ → List ℕ → List Float → List ℕ

@@ -4,17 +4,17 @@ ghost use mathlib.Core.Path.{_≡_};
 ghost use Prim.Native.Nat.{_+_, _*_, _≤_};
 ghost use mathlib.Core.List.{_∷_, []};
 ghost use lib.ListN.{length, take};
+ghost use Rattle.form.specs.Form.{curveNumbers, recordNumbers};
 ghost use Rattle.text.specs.Put.{Put};
 ghost use Rattle.lines.specs.Lines.{oneLine, twoLine, numbers, pieceLine, pieceLines, outlineLines, refusalLine};
 ghost use Rattle.lines.specs.Handed.{handed, listedAnswer, handOver};
 use float::refusal::NO_ROOM;
 use float::to_bits;
+use form::CURVE_NUMBERS;
+use form::RECORD_NUMBERS;
 use text::put_bytes;
 use text::put_decimal;
 use text::put_hex;
-
-// A curve's numbers: x and y of its four points.
-const NUMBERS: usize = 8;
 
 // A word and a number, on a line.
 pub fn put_one(out: &mut [u8], word: &[u8], a: u64) -> usize
@@ -47,14 +47,14 @@ fn put_number(out: &mut [u8], at: usize, x: f64) -> usize
     put_hex(out, number, to_bits(x))
 }
 
-// The first eight numbers of a slice, each after a blank.
+// A curve's own numbers, the first of a slice, each after a blank.
 fn put_numbers(out: &mut [u8], at: usize, curve: &[f64]) -> usize
-    requires { ⌜ (at + 136 ≤ length (now out)) × (8 ≤ length (now curve)) ⌝ }
-    ensures { λ r. ⌜ Put (now (out .entry)) at (numbers (take 8 (now (curve .entry)))) (now (out .exit)) r ⌝ }
+    requires { ⌜ (at + 136 ≤ length (now out)) × (curveNumbers ≤ length (now curve)) ⌝ }
+    ensures { λ r. ⌜ Put (now (out .entry)) at (numbers (take curveNumbers (now (curve .entry)))) (now (out .exit)) r ⌝ }
 {
     let mut end = at;
     let mut i = 0;
-    while i < NUMBERS {
+    while i < CURVE_NUMBERS {
         end = put_number(out, end, curve[i]);
         i += 1;
     }
@@ -63,8 +63,8 @@ fn put_numbers(out: &mut [u8], at: usize, curve: &[f64]) -> usize
 
 // A curve's line.
 fn put_piece(out: &mut [u8], at: usize, first: u32, curve: &[f64]) -> usize
-    requires { ⌜ (at + 153 ≤ length (now out)) × (8 ≤ length (now curve)) ⌝ }
-    ensures { λ r. ⌜ (r ≤ at + 153) × Put (now (out .entry)) at (pieceLine first (take 8 (now (curve .entry)))) (now (out .exit)) r ⌝ }
+    requires { ⌜ (at + 153 ≤ length (now out)) × (curveNumbers ≤ length (now curve)) ⌝ }
+    ensures { λ r. ⌜ (r ≤ at + 153) × Put (now (out .entry)) at (pieceLine first (take curveNumbers (now (curve .entry)))) (now (out .exit)) r ⌝ }
 {
     let number = put_bytes(out, at, b"PIECE ");
     let numbers = put_decimal(out, number, first as u64);
@@ -72,15 +72,15 @@ fn put_piece(out: &mut [u8], at: usize, first: u32, curve: &[f64]) -> usize
     put_bytes(out, end, b"\n")
 }
 
-// A line for each of the first k curves.
+// A line for each of the first k curves. The distance that a record keeps behind them is not listed.
 fn put_pieces(out: &mut [u8], at: usize, firsts: &[u32], curves: &[f64], k: usize) -> usize
-    requires { ⌜ (at + 153 * k ≤ length (now out)) × ((k ≤ length (now firsts)) × (8 * k ≤ length (now curves))) ⌝ }
+    requires { ⌜ (at + 153 * k ≤ length (now out)) × ((k ≤ length (now firsts)) × (recordNumbers * k ≤ length (now curves))) ⌝ }
     ensures { λ r. ⌜ (r ≤ at + 153 * k) × Put (now (out .entry)) at (pieceLines (take k (now (firsts .entry))) (now (curves .entry))) (now (out .exit)) r ⌝ }
 {
     let mut end = at;
     let mut i = 0;
     while i < k {
-        let j = NUMBERS * i;
+        let j = RECORD_NUMBERS * i;
         end = put_piece(out, end, firsts[i], &curves[j..]);
         i += 1;
     }
@@ -89,7 +89,7 @@ fn put_pieces(out: &mut [u8], at: usize, firsts: &[u32], curves: &[f64], k: usiz
 
 // An outline of n marks with its first k curves.
 pub fn put_outline(out: &mut [u8], n: usize, firsts: &[u32], curves: &[f64], k: usize) -> usize
-    requires { ⌜ (50 + 153 * k ≤ length (now out)) × ((k ≤ length (now firsts)) × (8 * k ≤ length (now curves))) ⌝ }
+    requires { ⌜ (50 + 153 * k ≤ length (now out)) × ((k ≤ length (now firsts)) × (recordNumbers * k ≤ length (now curves))) ⌝ }
     ensures { λ r. ⌜ (r ≤ 50 + 153 * k) × Put (now (out .entry)) 0 (outlineLines n (take k (now (firsts .entry))) (now (curves .entry))) (now (out .exit)) r ⌝ }
 {
     let pieces = put_two(out, b"OUTLINE ", n as u64, k as u64);

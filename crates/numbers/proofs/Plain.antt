@@ -6,8 +6,9 @@ use native.Mathlib.Nat.{le-trans, le-of-eq, zero-mul, mul-one, one-mul, mul-asso
 use native.Mathlib.Omega.{arith}
 use mathlib.Core.Bool.{Bool, true, false, true≢false}
 use lib.IntN.{pos}
+use borrow.Author.Tests.{le-ltb}
 use lib.Dec.{T, lt→ltb}
-use lib.Ieee.{Float, nan, inf, fin, Format, binary64, unlike, up, down, low, round, fits, sum, add, mul, div, eq, le}
+use lib.Ieee.{Float, nan, inf, fin, Format, binary64, unlike, up, down, low, round, fits, sum, add, mul, div, lt, eq, le}
 use lib.Ieee.Fits.{up-pos, down-pos}
 use lib.Ieee.Bits.{is-true}
 use lib.Ieee.Order.{round-mono}
@@ -76,6 +77,14 @@ plain-above nan p = absurd p
 plain-above (inf s) p = absurd p
 plain-above (fin true m e) p = absurd p
 plain-above (fin false m e) p = said false (0 * 1 * down e) false (m * up e * 1) (le-trans (le-of-eq (zero-mul (down e))) zero-le)
+
+-- none is below zero
+pub plain-not-below : (x : Float) → T (plain x) → lt x (zer false) ≡ false
+unfolding lt
+plain-not-below nan p = absurd p
+plain-not-below (inf s) p = absurd p
+plain-not-below (fin true m e) p = absurd p
+plain-not-below (fin false m e) p = le-ltb (m * up e * 1) (0 * 1 * down e) (le-trans (le-of-eq (zero-mul (down e))) zero-le)
 
 pub sqrt-le : (x y : Float) → T (fits binary64 x) → T (fits binary64 y) → T (plain x) → Le x y → Le (sqrt binary64 x) (sqrt binary64 y)
 sqrt-le x y f g p h = sqrt-mono x y f g (plain-above x p) h

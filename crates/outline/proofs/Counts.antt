@@ -5,7 +5,7 @@ use mathlib.Core.List.{List}
 use Prim.Native.Nat.{ℕ, _≤_}
 use native.Mathlib.Omega.{arith}
 use lib.Dec.{eqb}
-use lib.ListN.{length, length-append}
+use lib.ListN.{length, length-append, length-map}
 use lib.Ieee.{Float, binary64, ofBits}
 use Rattle.float.specs.Answer.{ok}
 use Rattle.float.specs.Answer.{refused as no}
@@ -22,16 +22,16 @@ use Rattle.desk.specs.Desk.{floats}
 use Rattle.file_fit.specs.FileFit.{fileFit}
 use Rattle.house.specs.File.{File}
 
-ran : (b : Bool) (g : ℕ) (R : Run) (C : List Float) (F : List ℕ) (P : List Float) (k : ℕ)
-    → cond b (ended R C F P) (ending (no g) C F P) .answer ≡ ok k → k ≤ length (cond b (ended R C F P) (ending (no g) C F P) .firsts)
-ran true g (done cs fs ps) C F P k e = let n : length fs ≡ k = cc in simp length-append (omega arith)
-ran true g (refused q) C F P k e = not-refused q (sym e)
-ran false g R C F P k e = not-refused g (sym e)
+ran : (b : Bool) (g : ℕ) (R : Run) (C : List Float) (F W : List ℕ) (P : List Float) (k : ℕ)
+    → cond b (ended R C F W P) (ending (no g) C F W P) .answer ≡ ok k → k ≤ length (cond b (ended R C F W P) (ending (no g) C F W P) .firsts)
+ran true g (done cs bs ps) C F W P k e = let n : length bs ≡ k = cc in let l = length-map bs (λ b. b .first) in simp length-append (omega arith)
+ran true g (refused q) C F W P k e = not-refused q (sym e)
+ran false g R C F W P k e = not-refused g (sym e)
 
-pub fit-count : (F : File) (C : List Float) (P : List ℕ) (Q : List Float) (k : ℕ) → fileFit F C P Q .answer ≡ ok k → k ≤ length (fileFit F C P Q .firsts)
+pub fit-count : (F : File) (C : List Float) (P W : List ℕ) (Q : List Float) (k : ℕ) → fileFit F C P W Q .answer ≡ ok k → k ≤ length (fileFit F C P W Q .firsts)
 unfolding fileFit fitOf
-fit-count F C P Q k e =
+fit-count F C P W Q k e =
     let ms : List Float = floats (F .marks) in
     let t : Float = ofBits binary64 (F .tolerance) in
-    let g : ℕ = gateOf 4096 Open ms t (length C) (length P) (length Q) in
-    ran (eqb g 0) g (blocksOf Joined ms (blockSize (count ms)) t) C P Q k e
+    let g : ℕ = gateOf 4096 Open ms t (length C) (length P) (length W) (length Q) in
+    ran (eqb g 0) g (blocksOf Joined ms (blockSize (count ms)) t) C P W Q k e

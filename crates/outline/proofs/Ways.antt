@@ -16,6 +16,8 @@ use Rattle.lines.specs.Handed.{shown}
 use Rattle.house.specs.Held.{fileAt, fileOf}
 use Rattle.house.proofs.Rows.{length-words}
 use Rattle.grammar.proofs.Laid.{Laid, plain, full, laid-candidate}
+use Rattle.form.specs.declared.Form.{Form}
+use Rattle.form.specs.declared.Form.the-variants.{Eight}
 use Rattle.heads.specs.Layout.{layoutOf}
 use Rattle.heads.specs.declared.Layout.the-variants as layout
 use Rattle.heads.proofs.Ways.{Told, untold}
@@ -34,8 +36,8 @@ pub list-broken : (b : List ℕ) → length b ≤ 65536 → layoutOf b ≡ layou
 unfolding linesOf fileOf
 list-broken b h e = rw (le-leb (length b) 65536 h, untold b e)
 
-module _ {b : List ℕ} {n k : ℕ} (h : length b ≤ 65536) (t : Told b n k) where
-  lines-at : linesOf b ≡ unless 1 (leb 2 n) (unless 2 (leb n 512) (fitLines n (roomyFit (fileAt b n 0))))
+module _ {b : List ℕ} {form : Form} {n k : ℕ} (h : length b ≤ 65536) (t : Told b form n k) where
+  lines-at : linesOf b ≡ unless 1 (leb 2 n) (unless 2 (leb n 512) (fitLines n (roomyFit (fileAt b Eight n 0))))
   unfolding linesOf fileOf roomyFit fileFit
   lines-at =
       let half : 2 * n / 2 ≡ n = omega arith in
@@ -47,7 +49,7 @@ module _ {b : List ℕ} {n k : ℕ} (h : length b ≤ 65536) (t : Told b n k) wh
   pub list-many : 512 < n → listingOf b ≡ refusalLine 2
   list-many m = rw (lines-at, le-leb 2 n (omega arith), lt-leb n 512 m)
 
-  pub list-fit : 2 ≤ n → n ≤ 512 → listingOf b ≡ shown (fitLines n (roomyFit (fileAt b n 0)))
+  pub list-fit : 2 ≤ n → n ≤ 512 → listingOf b ≡ shown (fitLines n (roomyFit (fileAt b Eight n 0)))
   list-fit f m = rw (lines-at, le-leb 2 n f, le-leb n 512 m)
 
 -- ---- what a fit shows
@@ -61,32 +63,32 @@ unfolding fitLines
 fit-refused n E q e = rw e
 
 module _ (b : List ℕ) (n : ℕ) (C : List Float) (P : List ℕ) where
-  same-fit : C ≡ zeros 4088 → P ≡ noMarks 511 → fileFit (fileAt b n 0) C P (zeros 512) ≡ roomyFit (fileAt b n 0)
+  same-fit : C ≡ zeros 4599 → P ≡ noMarks 511 → fileFit (fileAt b Eight n 0) C P (noMarks 511) (zeros 512) ≡ roomyFit (fileAt b Eight n 0)
   unfolding roomyFit
   same-fit eC eP = rw (eC, eP)
 
-  module _ {C′ : List Float} {P′ : List ℕ} (r : Fitted) {k : ℕ} (l : Left (fileFit (fileAt b n 0) C P (zeros 512)) (fittedAnswer r) C′ P′) where
-    done-answer : r ≡ Curves k → fileFit (fileAt b n 0) C P (zeros 512) .answer ≡ ok k
+  module _ {C′ : List Float} {P′ : List ℕ} (r : Fitted) {k : ℕ} (l : Left (fileFit (fileAt b Eight n 0) C P (noMarks 511) (zeros 512)) (fittedAnswer r) C′ P′) where
+    done-answer : r ≡ Curves k → fileFit (fileAt b Eight n 0) C P (noMarks 511) (zeros 512) .answer ≡ ok k
     unfolding fittedAnswer
     done-answer e = sym (l .answer) ∙ ap fittedAnswer e
 
-    refused-answer : r ≡ Refused k → fileFit (fileAt b n 0) C P (zeros 512) .answer ≡ refused k
+    refused-answer : r ≡ Refused k → fileFit (fileAt b Eight n 0) C P (noMarks 511) (zeros 512) .answer ≡ refused k
     unfolding fittedAnswer
     refused-answer e = sym (l .answer) ∙ ap fittedAnswer e
 
     -- there are no more curves than places
     pub done-count : r ≡ Curves k → k ≤ length P′
-    done-count e = rw (l .firsts) (fit-count (fileAt b n 0) C P (zeros 512) k (done-answer e))
+    done-count e = rw (l .firsts) (fit-count (fileAt b Eight n 0) C P (noMarks 511) (zeros 512) k (done-answer e))
 
-    pub done-lines : C ≡ zeros 4088 → P ≡ noMarks 511 → r ≡ Curves k → shown (fitLines n (roomyFit (fileAt b n 0))) ≡ outlineLines n (take k P′) C′
-    done-lines eC eP e = rw (← same-fit eC eP, l .firsts, l .curves) (fit-done n (fileFit (fileAt b n 0) C P (zeros 512)) k (done-answer e))
+    pub done-lines : C ≡ zeros 4599 → P ≡ noMarks 511 → r ≡ Curves k → shown (fitLines n (roomyFit (fileAt b Eight n 0))) ≡ outlineLines n (take k P′) C′
+    done-lines eC eP e = rw (← same-fit eC eP, l .firsts, l .curves) (fit-done n (fileFit (fileAt b Eight n 0) C P (noMarks 511) (zeros 512)) k (done-answer e))
 
-    pub refused-lines : C ≡ zeros 4088 → P ≡ noMarks 511 → r ≡ Refused k → shown (fitLines n (roomyFit (fileAt b n 0))) ≡ refusalLine k
-    refused-lines eC eP e = rw (← same-fit eC eP) (fit-refused n (fileFit (fileAt b n 0) C P (zeros 512)) k (refused-answer e))
+    pub refused-lines : C ≡ zeros 4599 → P ≡ noMarks 511 → r ≡ Refused k → shown (fitLines n (roomyFit (fileAt b Eight n 0))) ≡ refusalLine k
+    refused-lines eC eP e = rw (← same-fit eC eP) (fit-refused n (fileFit (fileAt b Eight n 0) C P (noMarks 511) (zeros 512)) k (refused-answer e))
 
 -- ---- the entry
 
 -- the marks are within the bytes
-pub marks-in : {b : List ℕ} {n k : ℕ} → Laid b n k → 20 + 16 * n ≤ length b
-marks-in (plain s z x) = omega arith
+pub marks-in : {b : List ℕ} {form : Form} {n k : ℕ} → Laid b form n k → 20 + 16 * n ≤ length b
+marks-in (plain s f z x) = omega arith
 marks-in (full s d) = omega (arith, d .size)

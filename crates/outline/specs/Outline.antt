@@ -29,9 +29,9 @@ fitLines n E = do
   k ← E .answer
   ok (outlineLines n (take k (E .firsts)) (E .curves))
 
--- a file's fit, into zeros with room for 512 marks: 8 * 511 numbers of curves, 511 first marks, 512 parameters
+-- a file's fit, into zeros with room for 512 marks: 9 * 511 numbers of curves, 511 first marks and worst marks, 512 parameters
 unfoldable pub roomyFit : File → Ending
-roomyFit F = fileFit F (zeros 4088) (noMarks 511) (zeros 512)
+roomyFit F = fileFit F (zeros 4599) (noMarks 511) (noMarks 511) (zeros 512)
 
 -- 9, 1, 2, the fit's 5, 6 or 7, or the lines. Of the file's numbers only the tolerance and the marks count.
 unfoldable pub linesOf : List ℕ → Answer (List ℕ)

@@ -5,6 +5,7 @@ ghost use lib.ListN.{length};
 ghost use Rattle.text.specs.Put.{Put};
 ghost use Rattle.house.specs.Limits.{markBytes, marksAt};
 ghost use Rattle.house.specs.Held.{fileAt};
+ghost use Rattle.form.specs.declared.Form.the-variants as form;
 ghost use Rattle.desk.specs.Desk.{zeros, noMarks};
 ghost use Rattle.lines.specs.Handed.{shown, handed, listedAnswer, handOver};
 ghost use Rattle.outline.specs.Outline.{fitLines, roomyFit, listingOf};
@@ -28,10 +29,10 @@ pub const MOST_BYTES: usize = 65536;
 const MOST_LISTED: usize = 512;
 
 // Zeros for 511 curves. A function hides from its callers' proofs how the array is made.
-fn curve_room() -> [f64; 4088]
-    ensures { λ r. ⌜ (4088 ≡ length r) × (r ≡ zeros 4088) ⌝ }
+fn curve_room() -> [f64; 4599]
+    ensures { λ r. ⌜ (4599 ≡ length r) × (r ≡ zeros 4599) ⌝ }
 {
-    [0.0; 4088]
+    [0.0; 4599]
 }
 
 // Zeros for 511 first marks.
@@ -51,7 +52,7 @@ fn text_room() -> [u8; 78233]
 // The text for a file of n marks that is well formed.
 fn put_fit(file: &[u8], n: usize, text: &mut [u8]) -> usize
     requires { ⌜ (marksAt + markBytes * n ≤ length (now file)) × ((n ≤ 512) × (78233 ≤ length (now text))) ⌝ }
-    ensures { λ r. ⌜ (r ≤ 78233) × Put (now (text .entry)) 0 (shown (fitLines n (roomyFit (fileAt (now (file .entry)) n 0)))) (now (text .exit)) r ⌝ }
+    ensures { λ r. ⌜ (r ≤ 78233) × Put (now (text .entry)) 0 (shown (fitLines n (roomyFit (fileAt (now (file .entry)) form.Eight n 0)))) (now (text .exit)) r ⌝ }
 {
     let mut curves = curve_room();
     let mut firsts = first_room();
@@ -72,6 +73,7 @@ fn put_listing(file: &[u8], text: &mut [u8]) -> usize
     }
     let layout = find_layout(file);
     let Layout::Counts {
+        form: _,
         marks: n,
         curves: _,
     } = layout

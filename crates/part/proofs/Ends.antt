@@ -1,5 +1,5 @@
--- What the cutting wants of a part, on every input: its curve runs from the first mark to the last, with a parameter for each mark, and a cut
--- falls between them; where it refuses, it is by 6 or 7. Assumes nothing.
+-- What the cutting wants of a part, on every input: its curve runs from the first mark to the last, with a parameter for each mark, its worst
+-- mark is one of them, and a cut falls between them; where it refuses, it is by 6 or 7. Assumes nothing.
 use mathlib.Core.Path.{_≡_, refl, sym, ap, _∙_, subst}
 use mathlib.Core.Bool.{Bool, true, false, _||_, cond}
 use mathlib.Core.List.{List}
@@ -99,13 +99,13 @@ abbrev pub Stops : ℕ → Type 0
 Stops q = (6 ≤ q) × (q ≤ 7)
 
 abbrev pub Sound : List Float → Part → Type 0
-Sound ms (fits c ps) = (c .start ≡ markAt ms 0) × (c .end ≡ markAt ms (count ms - 1)) × (length ps ≡ count ms)
+Sound ms (fits c w ps) = (c .start ≡ markAt ms 0) × (c .end ≡ markAt ms (count ms - 1)) × (length ps ≡ count ms) × (w .at < count ms)
 Sound ms (cuts k) = (0 < k) × (k + 1 < count ms)
 Sound ms (fails q) = Stops q
 
 sound-line : (ms : List Float) (b : Bool) → count ms ≡ 2 → Sound ms (lined (unless 6 b (ok (lineOf (markAt ms 0) (markAt ms 1) .val))))
 unfolding lineOf
-sound-line ms true h = (refl, ap (markAt ms) (one (count ms) h), sym h)
+sound-line ms true h = (refl, ap (markAt ms) (one (count ms) h), sym h, omega arith)
   where
     one : (n : ℕ) → n ≡ 2 → 1 ≡ n - 1
     one n h = omega arith
@@ -119,12 +119,12 @@ sound-cut ms n k e l h = go (eqb k 0) (eqb k (n - 1)) refl refl h
     go false true p q r = let z : _≡_ {A = ℕ} 0 1 = cc in absurd (omega arith)
     go false false p q r = let a = eqb-false k 0 p in let b = eqb-false k (n - 1) q in (omega arith, omega arith)
 
-sound-judged : (ms : List Float) (tol : Float) (a : Trial) → Ready ms (count ms) a → (b : Bool) → Sound ms (judged (count ms) tol (unless 6 b (ok a)))
-sound-judged ms tol a r false = (omega arith, omega arith)
-sound-judged ms tol a r true = go (le (a .far .err) tol) (eqb (a .far .at) 0 || eqb (a .far .at) (count ms - 1)) refl
+sound-judged : (ms : List Float) (tol : Float) (a : Trial) → 2 ≤ count ms → Ready ms (count ms) a → (b : Bool) → Sound ms (judged (count ms) tol (unless 6 b (ok a)))
+sound-judged ms tol a h r false = (omega arith, omega arith)
+sound-judged ms tol a h r true = go (le (a .far .err) tol) (eqb (a .far .at) 0 || eqb (a .far .at) (count ms - 1)) refl
   where
-    go : (b c : Bool) → eqb (a .far .at) 0 || eqb (a .far .at) (count ms - 1) ≡ c → Sound ms (pick b (fits (a .curve) (a .params)) (pick c (fails 7) (cuts (a .far .at))))
-    go true c e = (r .start, r .end, r .many)
+    go : (b c : Bool) → eqb (a .far .at) 0 || eqb (a .far .at) (count ms - 1) ≡ c → Sound ms (pick b (fits (a .curve) (a .far) (a .params)) (pick c (fails 7) (cuts (a .far .at))))
+    go true c e = (r .start, r .end, r .many, omega (arith, r .within))
     go false true e = (omega arith, omega arith)
     go false false e = sound-cut ms (count ms) (a .far .at) refl (r .within) e
 
@@ -137,4 +137,4 @@ part-sound ms st et tol h = go (leb (count ms) 2) refl
 
     go : (b : Bool) → leb (count ms) 2 ≡ b → Sound ms (pick b (lined (unless 6 (lineOf (markAt ms 0) (markAt ms 1) .fine) (ok (lineOf (markAt ms 0) (markAt ms 1) .val)))) (judged (count ms) tol (unless 6 (tried (count ms) ms st et tol .fine) (ok (tried (count ms) ms st et tol .val)))))
     go true e = sound-line ms (lineOf (markAt ms 0) (markAt ms 1) .fine) (two (count ms) h (leb-true (count ms) 2 e))
-    go false e = sound-judged ms tol (tried (count ms) ms st et tol .val) (tried-ready (count ms) ms st et tol) (tried (count ms) ms st et tol .fine)
+    go false e = sound-judged ms tol (tried (count ms) ms st et tol .val) h (tried-ready (count ms) ms st et tol) (tried (count ms) ms st et tol .fine)

@@ -22,7 +22,7 @@ use Rattle.marks.specs.declared.Made.{Made}
 use Rattle.marks.specs.declared.Made.the-variants as made
 use Rattle.stages.specs.Chords.{chordsOf}
 use Rattle.stages.specs.Newton.{reparam}
-use Rattle.stages.specs.Worst.{maxError, farAnswer}
+use Rattle.stages.specs.Worst.{noWorst, maxError, farAnswer}
 use Rattle.stages.specs.declared.worst.Worst.{Worst}
 use Rattle.stages.specs.declared.worst.Far.{Far}
 use Rattle.stages.specs.declared.worst.Far.the-variants as far
@@ -237,13 +237,13 @@ pub did-judged : (n : ℕ) (tol : Float) (s : Solved) (p : List Float) → Did (
 unfolding verdict
 did-judged n tol s p = go (le (s .far .err) tol) (eqb (s .far .at) 0 || eqb (s .far .at) (n - 1))
   where
-    go : (b c : Bool) → Did (pick b (fits (s .curve) p) (pick c (fails 7) (cuts (s .far .at)))) (pickTried b (answer.Good (s .curve)) (pickTried c (answer.Refused 7) (answer.Cut (s .far .at)))) p
+    go : (b c : Bool) → Did (pick b (fits (s .curve) (s .far) p) (pick c (fails 7) (cuts (s .far .at)))) (pickTried b (answer.Good s) (pickTried c (answer.Refused 7) (answer.Cut (s .far .at)))) p
     go true c = (refl, refl)
     go false true = refl
     go false false = refl
 
 module _ (s : Solved) (n : ℕ) (tol : Float) where
-  pub picked-good : le (s .far .err) tol ≡ true → answer.Good (s .curve) ≡ verdict s n tol
+  pub picked-good : le (s .far .err) tol ≡ true → answer.Good s ≡ verdict s n tol
   unfolding verdict
   picked-good h = sym (rw h)
 
@@ -260,7 +260,7 @@ module _ (s : Solved) (n : ℕ) (tol : Float) where
 pub line-lost : (m : Answer Curve) (q : ℕ) (p : List Float) → m ≡ refused q → Did (lined m) (answer.Refused q) p
 line-lost m q p e = rw e refl
 
-pub line-done : (m : Answer Curve) (c : Curve) (p : List Float) → m ≡ ok c → p ≡ f0 ∷ f1 ∷ [] → Did (lined m) (answer.Good c) p
+pub line-done : (m : Answer Curve) (c : Curve) (p : List Float) → m ≡ ok c → p ≡ f0 ∷ f1 ∷ [] → Did (lined m) (answer.Good (record { curve = c; far = noWorst })) p
 line-done m c p e h = rw e (refl, h)
 
 pub two-set : (p : List Float) → length p ≡ 2 → set (set p 0 f0) 1 f1 ≡ f0 ∷ f1 ∷ []

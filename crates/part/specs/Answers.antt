@@ -34,11 +34,11 @@ pickTried false a b = b
 
 unfoldable pub verdict : Solved → ℕ → Float → Tried
 verdict s n tol =
-    pickTried (le (s .far .err) tol) (tried.Good (s .curve))
+    pickTried (le (s .far .err) tol) (tried.Good s)
     (pickTried (eqb (s .far .at) 0 || eqb (s .far .at) (n - 1)) (tried.Refused 7) (tried.Cut (s .far .at)))
 
 -- a part's answer r, and the parameters p that it leaves
 abbrev pub Did : Part → Tried → List Float → Type 0
-Did (fits c ps) r p = (r ≡ tried.Good c) × (p ≡ ps)
+Did (fits c w ps) r p = (r ≡ tried.Good (record { curve = c; far = w })) × (p ≡ ps)
 Did (cuts k) r p = r ≡ tried.Cut k
 Did (fails q) r p = r ≡ tried.Refused q

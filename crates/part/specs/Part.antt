@@ -10,11 +10,13 @@ use Rattle.plane.specs.declared.Point.{Point}
 use Rattle.plane.specs.declared.Curve.{Curve}
 use Rattle.marks.specs.Marks.{count, markAt}
 use Rattle.marks.specs.Line.{lineOf}
+use Rattle.stages.specs.Worst.{noWorst}
+use Rattle.stages.specs.declared.worst.Worst.{Worst}
 use Rattle.part.specs.Trial.{Trial, tried}
 
--- one curve with a parameter for each mark; or a cut at a mark; or a refusal
+-- one curve with its largest distance and the mark that has it, and a parameter for each mark; or a cut at a mark; or a refusal
 pub data Part : Type 0 where
-  fits : Curve → List Float → Part
+  fits : Curve → Worst → List Float → Part
   cuts : ℕ → Part
   fails : ℕ → Part
 
@@ -22,16 +24,16 @@ abbrev pub pick : Bool → Part → Part → Part
 pick true p q = p
 pick false p q = q
 
--- two marks: a line, with the parameters 0 and 1
+-- two marks: a line, off neither of them, with the parameters 0 and 1
 abbrev pub lined : Answer Curve → Part
-lined (ok c) = fits c (f0 ∷ f1 ∷ [])
+lined (ok c) = fits c noWorst (f0 ∷ f1 ∷ [])
 lined (refused q) = fails q
 
 -- n marks after the rounds: within the tolerance one curve, else a cut at the worst mark, which is 7 at the part's first or last mark
 abbrev pub judged : ℕ → Float → Answer Trial → Part
 judged n tol (refused q) = fails q
 judged n tol (ok a) =
-    pick (le (a .far .err) tol) (fits (a .curve) (a .params))
+    pick (le (a .far .err) tol) (fits (a .curve) (a .far) (a .params))
     (pick (eqb (a .far .at) 0 || eqb (a .far .at) (n - 1)) (fails 7) (cuts (a .far .at)))
 
 unfoldable pub partOf : List Float → Point → Point → Float → Part

@@ -34,9 +34,9 @@ enum Solution {
     Lost,
 }
 
-// What a part comes to: a curve, a cut at a mark, or a refusal by its number.
+// What a part comes to: a curve with its largest distance, a cut at a mark, or a refusal by its number.
 pub enum Tried {
-    Good(Curve),
+    Good(Solved),
     Cut(usize),
     Refused(u32),
 }
@@ -114,9 +114,8 @@ fn judge(s: Solved, n: usize, tolerance: f64) -> Tried
     requires { ⌜ 0 < n ⌝ }
     ensures { λ r. ⌜ r ≡ verdict s n tolerance ⌝ }
 {
-    let curve = s.curve;
     if s.far.err <= tolerance {
-        return Tried::Good(curve);
+        return Tried::Good(s);
     }
     let at = s.far.at;
     if at == 0 {
@@ -128,7 +127,7 @@ fn judge(s: Solved, n: usize, tolerance: f64) -> Tried
     Tried::Cut(at)
 }
 
-// The line of a part of two marks.
+// The line of a part of two marks, which are its ends, so neither is off it.
 fn try_line(marks: &[f64], params: &mut [f64]) -> Tried
     requires { ⌜ (length (now params) ≡ 2) × (length (now marks) ≡ 4) ⌝ }
     ensures { λ r. ⌜ Did (lined (outcome (lineOf (markAt (now (marks .entry)) 0) (markAt (now (marks .entry)) 1)))) r (now (params .exit)) ⌝ }
@@ -138,7 +137,8 @@ fn try_line(marks: &[f64], params: &mut [f64]) -> Tried
     let Made::Of(curve) = marks::fit_line(marks::mark_at(marks, 0), marks::mark_at(marks, 1)) else {
         return Tried::Refused(NOT_FINITE);
     };
-    Tried::Good(curve)
+    let far = Worst { err: 0.0, at: 0 };
+    Tried::Good(Solved { curve, far })
 }
 
 // One part, with the tangents at its ends: what it comes to, and its parameters in the lent slice.

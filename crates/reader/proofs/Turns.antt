@@ -1,4 +1,4 @@
--- Turns of the loop that copies records of kind 3. Assumes nothing.
+-- Turns of the loops that copy what stands in each record. Assumes nothing.
 use mathlib.Core.Path.{_≡_, refl, sym, ap, _∙_}
 use mathlib.Core.List.{List, [], _∷_, _++_, append-assoc, append-nil}
 use Prim.Native.Nat.{ℕ, zero, suc, _+_, _-_, _*_, _<_, _≤_}
@@ -6,66 +6,100 @@ use native.Mathlib.Numerals.{add-one}
 use native.Mathlib.Omega.{arith}
 use lib.ListN.{length, take, drop, set, length-append, length-drop, drop-of-length-le}
 use lib.Seq.{drop-drop, take-at, drop-at, take-all}
-use Rattle.house.specs.Bytes.{num, words}
-use Rattle.house.specs.Held.{firstsOf, curvesOf}
+use Rattle.form.specs.declared.Form.{Form}
+use Rattle.form.specs.declared.Form.the-variants.{Eight, Nine}
+use Rattle.form.specs.Form.{width, worstsFor}
+use Rattle.house.specs.Limits.{worstMarks, besides, bodyBytes, curveBytes}
+use Rattle.house.specs.Bytes.{num, row, words}
+use Rattle.house.specs.File.{paramsFor}
+use Rattle.house.specs.Held.{inEach, firstsOf, worstsOf, curvesOf, paramsAt}
 use Rattle.float.specs.Slices.{written}
 use Rattle.house.proofs.Rows.{length-words}
-use Rattle.grammar.proofs.Curves.{length-firsts, length-curves}
+use Rattle.grammar.proofs.Curves.{row-one, length-each}
+use Rattle.grammar.proofs.Formed.{params-some}
 use Rattle.house.proofs.Turns.{front-suc}
 
-firsts-suc : (i : ℕ) (b : List ℕ) → firstsOf (suc i) b ≡ firstsOf i b ++ (num 2 b (72 * i + 6) ∷ [])
-unfolding firstsOf
-firsts-suc zero b = refl
-firsts-suc (suc i) b =
-    let e : 72 + (72 * i + 6) ≡ 72 * suc i + 6 = omega arith in
-    ap (λ (l : List ℕ). num 2 b 6 ∷ l) (firsts-suc i (drop 72 b) ∙ rw (drop-drop, e))
+-- one more record
+each-suc : (f n p step i : ℕ) (b : List ℕ) → inEach f n p step (suc i) b ≡ inEach f n p step i b ++ row f n (drop (step * i + p) b)
+unfolding inEach
+each-suc f n p step zero b = let e : p ≡ step * 0 + p = omega arith in append-nil (row f n (drop p b)) ∙ ap (λ (x : ℕ). row f n (drop x b)) e
+each-suc f n p step (suc i) b =
+    let e : step + (step * i + p) ≡ step * suc i + p = omega arith in
+    let t : inEach f n p step (suc i) (drop step b) ≡ inEach f n p step i (drop step b) ++ row f n (drop (step * suc i + p) b) = each-suc f n p step i (drop step b) ∙ rw (drop-drop, e) in
+    ap (λ (l : List ℕ). row f n (drop p b) ++ l) t ∙ sym (append-assoc (row f n (drop p b)) (inEach f n p step i (drop step b)) (row f n (drop (step * suc i + p) b)))
 
-curves-suc : (i : ℕ) (b : List ℕ) → curvesOf (suc i) b ≡ curvesOf i b ++ words 8 (drop (72 * i + 8) b)
-unfolding curvesOf
-curves-suc zero b = append-nil (words 8 (drop 8 b))
-curves-suc (suc i) b =
-    let e : 72 + (72 * i + 8) ≡ 72 * suc i + 8 = omega arith in
-    let t : curvesOf (suc i) (drop 72 b) ≡ curvesOf i (drop 72 b) ++ words 8 (drop (72 * suc i + 8) b) = curves-suc i (drop 72 b) ∙ rw (drop-drop, e) in
-    ap (λ (l : List ℕ). words 8 (drop 8 b) ++ l) t ∙ sym (append-assoc (words 8 (drop 8 b)) (curvesOf i (drop 72 b)) (words 8 (drop (72 * suc i + 8) b)))
+module _ (b : List ℕ) (at p step : ℕ) where
+  each-next : (f n i : ℕ) → inEach f n p step (i + 1) (drop at b) ≡ inEach f n p step i (drop at b) ++ row f n (drop (at + step * i + p) b)
+  each-next f n i =
+      let e : at + (step * i + p) ≡ at + step * i + p = omega arith in
+      rw (add-one i, each-suc, drop-drop, e)
 
-pub firsts-turn : (b : List ℕ) (at : ℕ) (l : List ℕ) (i : ℕ) → i < length l
-    → set (firstsOf i (drop at b) ++ drop i l) i (num 2 b (at + 72 * i + 6)) ≡ firstsOf (i + 1) (drop at b) ++ drop (i + 1) l
-firsts-turn b at l i h =
-    let p : at + (72 * i + 6) ≡ at + 72 * i + 6 = omega arith in
-    let e : firstsOf (i + 1) (drop at b) ≡ firstsOf i (drop at b) ++ (num 2 b (at + 72 * i + 6) ∷ []) = rw (add-one i, firsts-suc, drop-drop, p) in
-    front-suc 0 (firstsOf i (drop at b)) l (num 2 b (at + 72 * i + 6)) i (length-firsts i (drop at b)) h
-    ∙ ap (λ (r : List ℕ). r ++ drop (i + 1) l) (sym e)
+  -- one mark number more
+  pub marks-turn : (l : List ℕ) (i : ℕ) → i < length l
+      → set (inEach 2 1 p step i (drop at b) ++ drop i l) i (num 2 b (at + step * i + p)) ≡ inEach 2 1 p step (i + 1) (drop at b) ++ drop (i + 1) l
+  marks-turn l i h =
+      let z : length (inEach 2 1 p step i (drop at b)) ≡ i = length-each 2 1 p step i (drop at b) ∙ omega arith in
+      let e : inEach 2 1 p step (i + 1) (drop at b) ≡ inEach 2 1 p step i (drop at b) ++ (num 2 b (at + step * i + p) ∷ []) = each-next 2 1 i ∙ rw row-one in
+      front-suc 0 (inEach 2 1 p step i (drop at b)) l (num 2 b (at + step * i + p)) i z h ∙ ap (λ (r : List ℕ). r ++ drop (i + 1) l) (sym e)
 
--- the front as it is, and eight more numbers
-curves-turn : (b : List ℕ) (at : ℕ) (l m : List ℕ) (i : ℕ) → m ≡ curvesOf i (drop at b) ++ drop (8 * i) l
-    → take (8 * i) m ++ written (words 8 (drop (at + 72 * i + 6 + 2) b)) (drop (8 * i) m) ≡ curvesOf (i + 1) (drop at b) ++ drop (8 * (i + 1)) l
-curves-turn b at l m i e =
-    let p : at + (72 * i + 8) ≡ at + 72 * i + 6 + 2 = omega arith in
-    let q : 8 * i + 8 ≡ 8 * (i + 1) = omega arith in
-    let t : take (8 * i) m ≡ curvesOf i (drop at b) = rw e (take-at (curvesOf i (drop at b)) (drop (8 * i) l) (8 * i) (length-curves i (drop at b))) in
-    let d : drop (8 * i) m ≡ drop (8 * i) l = rw e (drop-at (curvesOf i (drop at b)) (drop (8 * i) l) (8 * i) (length-curves i (drop at b))) in
-    let s : curvesOf (i + 1) (drop at b) ≡ curvesOf i (drop at b) ++ words 8 (drop (at + 72 * i + 6 + 2) b) = rw (add-one i, curves-suc, drop-drop, p) in
-    simp (t, d, s, length-words, drop-drop, q, append-assoc)
+  -- the front as it is, and n numbers more
+  rows-turn : (n : ℕ) (l m : List ℕ) (i : ℕ) → m ≡ inEach 8 n p step i (drop at b) ++ drop (n * i) l
+      → take (n * i) m ++ written (words n (drop (at + step * i + p) b)) (drop (n * i) m) ≡ inEach 8 n p step (i + 1) (drop at b) ++ drop (n * (i + 1)) l
+  rows-turn n l m i e =
+      let q : n * i + n ≡ n * (i + 1) = omega arith in
+      let z : length (inEach 8 n p step i (drop at b)) ≡ n * i = length-each 8 n p step i (drop at b) in
+      let t : take (n * i) m ≡ inEach 8 n p step i (drop at b) = rw e (take-at (inEach 8 n p step i (drop at b)) (drop (n * i) l) (n * i) z) in
+      let d : drop (n * i) m ≡ drop (n * i) l = rw e (drop-at (inEach 8 n p step i (drop at b)) (drop (n * i) l) (n * i) z) in
+      simp (t, d, each-next 8 n i, length-words, drop-drop, q, append-assoc)
 
--- the same where the part was lent: all from 8 * i on
-pub curves-put : (b : List ℕ) (at : ℕ) (l m last : List ℕ) (i : ℕ) → m ≡ curvesOf i (drop at b) ++ drop (8 * i) l → 8 * i ≤ length m
-    → last ≡ written (words 8 (drop (at + 72 * i + 6 + 2) b)) (take (length m - 8 * i) (drop (8 * i) m))
-    → take (8 * i) m ++ (last ++ drop (length m - 8 * i) (drop (8 * i) m)) ≡ curvesOf (i + 1) (drop at b) ++ drop (8 * (i + 1)) l
-curves-put b at l m last i e h s =
-    let g : length (drop (8 * i) m) ≤ length m - 8 * i = simp length-drop (omega arith) in
-    let t : take (length m - 8 * i) (drop (8 * i) m) ≡ drop (8 * i) m = take-all (length m - 8 * i) (drop (8 * i) m) g in
-    let d : drop (length m - 8 * i) (drop (8 * i) m) ≡ [] = drop-of-length-le (drop (8 * i) m) {i = length m - 8 * i} g in
-    let s′ : last ≡ written (words 8 (drop (at + 72 * i + 6 + 2) b)) (drop (8 * i) m) = s ∙ rw t in
-    rw (d, append-nil, s′) (curves-turn b at l m i e)
+  -- the same where the part was lent: all from n * i on
+  pub rows-put : (n : ℕ) (l m last : List ℕ) (i : ℕ) → m ≡ inEach 8 n p step i (drop at b) ++ drop (n * i) l → n * i ≤ length m
+      → last ≡ written (words n (drop (at + step * i + p) b)) (take (length m - n * i) (drop (n * i) m))
+      → take (n * i) m ++ (last ++ drop (length m - n * i) (drop (n * i) m)) ≡ inEach 8 n p step (i + 1) (drop at b) ++ drop (n * (i + 1)) l
+  rows-put n l m last i e h s =
+      let g : length (drop (n * i) m) ≤ length m - n * i = simp length-drop (omega arith) in
+      let t : take (length m - n * i) (drop (n * i) m) ≡ drop (n * i) m = take-all (length m - n * i) (drop (n * i) m) g in
+      let d : drop (length m - n * i) (drop (n * i) m) ≡ [] = drop-of-length-le (drop (n * i) m) {i = length m - n * i} g in
+      let s′ : last ≡ written (words n (drop (at + step * i + p) b)) (drop (n * i) m) = s ∙ rw t in
+      rw (d, append-nil, s′) (rows-turn n l m i e)
 
--- what holds after i turns
-pub record Fronts (b : List ℕ) (at k : ℕ) (P C p c : List ℕ) (i : ℕ) : Type 0 where
-  pub turns : i ≤ k
-  pub firsts : p ≡ firstsOf i (drop at b) ++ drop i P
-  pub curves : c ≡ curvesOf i (drop at b) ++ drop (8 * i) C
-  pub same-firsts : length p ≡ length P
-  pub same-curves : length c ≡ length C
+-- what holds of a slice after some turns: xs stands in front
+pub record Front (xs l out : List ℕ) (n : ℕ) : Type 0 where
+  pub whole : out ≡ xs ++ drop n l
+  pub same : length out ≡ length l
 
 -- a front replaced keeps the length
-pub same-front : (xs l r : List ℕ) (n : ℕ) → r ≡ xs ++ drop n l → length xs ≡ n → n ≤ length l → length r ≡ length l
-same-front xs l r n e x h = ap length e ∙ simp (length-append, length-drop, x) (omega arith)
+pub same-front : (xs l r : List ℕ) (n : ℕ) → r ≡ xs ++ drop n l → length xs ≡ n → n ≤ length l → Front xs l r n
+same-front xs l r n e x h = record { whole = e; same = ap length e ∙ simp (length-append, length-drop, x) (omega arith) }
+
+-- ---- worst marks: one in each record, or none
+
+none-each : (f p step k : ℕ) (b : List ℕ) → inEach f 0 p step k b ≡ []
+unfolding inEach row
+none-each f p step zero b = refl
+none-each f p step (suc k) b = none-each f p step k (drop step b)
+
+worsts-as : (form : Form) (p step k : ℕ) (b : List ℕ) → inEach 2 1 p step (worstsFor form k) b ≡ inEach 2 (worstMarks form) p step k b
+unfolding inEach
+worsts-as Eight p step k b = sym (none-each 2 p step k b)
+worsts-as Nine p step k b = refl
+
+pub worsts-few : (form : Form) (k : ℕ) → worstsFor form k ≤ k
+worsts-few Eight k = omega arith
+worsts-few Nine k = omega arith
+
+-- ---- what is copied, with sizes as they were worked out
+
+module _ (form : Form) (k : ℕ) (d : List ℕ) {r : ℕ} (er : r ≡ bodyBytes form) where
+  pub firsts-by : (P : List ℕ) {P′ : List ℕ} → P′ ≡ written (inEach 2 1 6 (6 + r) k d) P → P′ ≡ written (firstsOf form k d) P
+  firsts-by P h = rw er at h
+
+  pub worsts-by : (W : List ℕ) {m : ℕ} {W′ : List ℕ} → m ≡ worstsFor form k → W′ ≡ written (inEach 2 1 8 (6 + r) m d) W → W′ ≡ written (worstsOf form k d) W
+  worsts-by W em h = let g = rw (er, em) at h in rw (worsts-as form 8 (curveBytes form) k d) at g
+
+  pub curves-by : (C : List ℕ) {q n : ℕ} {C′ : List ℕ} → q ≡ 2 * besides form → n ≡ width form → C′ ≡ written (inEach 8 n (6 + q) (6 + r) k d) C → C′ ≡ written (curvesOf form k d) C
+  curves-by C eq en h = rw (er, eq, en) at h
+
+pub params-by : (b : List ℕ) (form : Form) (n k : ℕ) (Q : List ℕ) → 0 < k → {r : ℕ} {Q′ : List ℕ} → r ≡ bodyBytes form
+    → Q′ ≡ written (words n (drop (20 + 16 * n + (6 + r) * k + 6) b)) Q → Q′ ≡ written (words (paramsFor n k) (drop (paramsAt form n k) b)) Q
+params-by b form n k Q h er e = rw (params-some n h) (rw er at e)

@@ -8,6 +8,7 @@ use borrow.Author.Tests.{le-leb, lt-leb}
 use lib.Dec.{leb}
 use lib.ListN.{length}
 use Rattle.float.specs.Answer.{ok, refused, unless}
+use Rattle.form.specs.declared.Form.{Form}
 use Rattle.heads.specs.declared.Layout.the-variants as layout
 use Rattle.house.specs.Bytes.{num}
 use Rattle.house.specs.Held.{fileAt, fileOf}
@@ -21,45 +22,45 @@ use Rattle.grammar.proofs.Laid.{Laid, plain, full, laid-candidate}
 use Rattle.grammar.proofs.Rooms.{size-none, size-some, places}
 use Rattle.heads.proofs.Ways.{Told, untold}
 
-pub read-broken : (b : List ℕ) {M P C Q : List ℕ} → layoutOf b ≡ layout.Broken → outcome (refused 9) M P C Q ≡ readOf b M P C Q
+pub read-broken : (b : List ℕ) {M P W C Q : List ℕ} → layoutOf b ≡ layout.Broken → outcome (refused 9) M P W C Q ≡ readOf b M P W C Q
 unfolding readOf judged fileOf
 read-broken b e = rw (untold b e)
 
-module _ {b : List ℕ} {n k : ℕ} (t : Told b n k) where
-  judged-at : (m p c q : ℕ) → judged b m p c q ≡ unless 2 (leb n 4096) (unless 4 (leb (2 * n) m && room n k p c q) (ok (fileAt b n k)))
+module _ {b : List ℕ} {form : Form} {n k : ℕ} (t : Told b form n k) where
+  judged-at : (m p w c q : ℕ) → judged b m p w c q ≡ unless 2 (leb n 4096) (unless 4 (leb (2 * n) m && room form n k p w c q) (ok (fileAt b form n k)))
   unfolding judged fileOf
-  judged-at m p c q =
+  judged-at m p w c q =
       let half : 2 * n / 2 ≡ n = omega arith in
-      simp (t .file, laid-candidate (t .laid), length-words, length-firsts, half)
+      simp (t .file, laid-candidate (t .laid), length-words, length-firsts form, half)
 
-  module _ {M P C Q : List ℕ} where
-    pub read-many : 4096 < n → outcome (refused 2) M P C Q ≡ readOf b M P C Q
+  module _ {M P W C Q : List ℕ} where
+    pub read-many : 4096 < n → outcome (refused 2) M P W C Q ≡ readOf b M P W C Q
     unfolding readOf
-    read-many h = rw (judged-at (length M) (length P) (length C) (length Q), lt-leb n 4096 h)
+    read-many h = rw (judged-at (length M) (length P) (length W) (length C) (length Q), lt-leb n 4096 h)
 
     module _ (h : n ≤ 4096) where
-      pub read-few : length M < 2 * n → outcome (refused 4) M P C Q ≡ readOf b M P C Q
+      pub read-few : length M < 2 * n → outcome (refused 4) M P W C Q ≡ readOf b M P W C Q
       unfolding readOf
-      read-few m = rw (judged-at (length M) (length P) (length C) (length Q), le-leb n 4096 h, lt-leb (2 * n) (length M) m)
+      read-few m = rw (judged-at (length M) (length P) (length W) (length C) (length Q), le-leb n 4096 h, lt-leb (2 * n) (length M) m)
 
       module _ (m : 2 * n ≤ length M) where
-        pub read-short : room n k (length P) (length C) (length Q) ≡ false → outcome (refused 4) M P C Q ≡ readOf b M P C Q
+        pub read-short : room form n k (length P) (length W) (length C) (length Q) ≡ false → outcome (refused 4) M P W C Q ≡ readOf b M P W C Q
         unfolding readOf
-        read-short r = rw (judged-at (length M) (length P) (length C) (length Q), le-leb n 4096 h, le-leb (2 * n) (length M) m, r)
+        read-short r = rw (judged-at (length M) (length P) (length W) (length C) (length Q), le-leb n 4096 h, le-leb (2 * n) (length M) m, r)
 
-        pub read-given : room n k (length P) (length C) (length Q) ≡ true → {t : ℕ} {M′ P′ C′ Q′ : List ℕ} → t ≡ num 8 b 6 → Copied (fileAt b n k) M P C Q M′ P′ C′ Q′
-            → outcome (ok (record { tolerance = t; marks = n; curves = k })) M′ P′ C′ Q′ ≡ readOf b M P C Q
+        pub read-given : room form n k (length P) (length W) (length C) (length Q) ≡ true → {t : ℕ} {M′ P′ W′ C′ Q′ : List ℕ} → t ≡ num 8 b 6 → Copied (fileAt b form n k) M P W C Q M′ P′ W′ C′ Q′
+            → outcome (ok (record { form = form; tolerance = t; marks = n; curves = k })) M′ P′ W′ C′ Q′ ≡ readOf b M P W C Q
         unfolding readOf
         read-given r e f =
             let half : 2 * n / 2 ≡ n = omega arith in
-            simp (judged-at (length M) (length P) (length C) (length Q), le-leb n 4096 h, le-leb (2 * n) (length M) m, r, length-words, length-firsts, half, e, f .marks, f .firsts, f .curves, f .params)
+            simp (judged-at (length M) (length P) (length W) (length C) (length Q), le-leb n 4096 h, le-leb (2 * n) (length M) m, r, length-words, length-firsts form, half, e, f .marks, f .firsts, f .worsts, f .curves, f .params)
 
 -- and there is room to copy
-pub told-room : {b M P C Q : List ℕ} {n k : ℕ} → Told b n k → 2 * n ≤ length M → room n k (length P) (length C) (length Q) ≡ true → Room n k b M P C Q
-told-room {b} {M} {P} {C} {Q} {n} {k} t m r =
-    let s = places n k (length P) (length C) (length Q) r in
-    record { bytes = fits (t .laid); marks = m; firsts = s .firsts; curves = s .curves; params = s .params }
+pub told-room : {b M P W C Q : List ℕ} {form : Form} {n k : ℕ} → Told b form n k → 2 * n ≤ length M → room form n k (length P) (length W) (length C) (length Q) ≡ true → Room form n k b M P W C Q
+told-room {b} {M} {P} {W} {C} {Q} {form} {n} {k} t m r =
+    let s = places form n k (length P) (length W) (length C) (length Q) r in
+    record { bytes = fits (t .laid); marks = m; firsts = s .firsts; worsts = s .worsts; curves = s .curves; params = s .params }
   where
-    fits : Laid b n k → sizeFor n k ≤ length b
-    fits (plain s z x) = omega (arith, size-none n x)
-    fits (full s d) = omega (arith, size-some n (d .some), d .size)
+    fits : Laid b form n k → sizeFor form n k ≤ length b
+    fits (plain s z f x) = omega (arith, size-none form n x)
+    fits (full s d) = omega (arith, size-some form n (d .some), d .size)

@@ -5,6 +5,7 @@ use mathlib.Core.List.{List}
 use lib.Dec.{leb}
 use lib.ListN.{length}
 use Rattle.float.specs.Answer.{Answer, ok, refused, unless, _>>=_}
+use Rattle.form.specs.declared.Form.{Form}
 use Rattle.reader.specs.declared.Read.{Read}
 use Rattle.reader.specs.declared.Read.the-variants as read
 use Rattle.house.specs.Limits.{tooMany, noRoom, mostMarks}
@@ -13,30 +14,31 @@ use Rattle.house.specs.Held.{fileOf}
 use Rattle.float.specs.Slices.{written}
 use Rattle.house.specs.Slices.{room}
 
--- the file, if it is within the limits: m, p, c and q are the lengths of the slices for marks, first marks, curves and parameters
-abbrev pub within : File → ℕ → ℕ → ℕ → ℕ → Answer File
-within F m p c q =
+-- the file, if it is within the limits: m, p, w, c and q are the lengths of the slices for marks, first marks, worst marks, curves and parameters
+abbrev pub within : File → ℕ → ℕ → ℕ → ℕ → ℕ → Answer File
+within F m p w c q =
     unless tooMany (leb (marksIn F) mostMarks)
-    (unless noRoom (leb (length (F .marks)) m && room (marksIn F) (curvesIn F) p c q)
+    (unless noRoom (leb (length (F .marks)) m && room (F .form) (marksIn F) (curvesIn F) p w c q)
     (ok F))
 
-unfoldable pub judged : List ℕ → ℕ → ℕ → ℕ → ℕ → Answer File
-judged b m p c q = do
+unfoldable pub judged : List ℕ → ℕ → ℕ → ℕ → ℕ → ℕ → Answer File
+judged b m p w c q = do
   F ← fileOf b
-  within F m p c q
+  within F m p w c q
 
 -- what the answer holds of a file
 pub record Found : Type 0 where
+  pub form : Form
   pub tolerance : ℕ
   pub marks : ℕ
   pub curves : ℕ
 
 abbrev pub foundIn : File → Found
-foundIn F = record { tolerance = F .tolerance; marks = marksIn F; curves = curvesIn F }
+foundIn F = record { form = F .form; tolerance = F .tolerance; marks = marksIn F; curves = curvesIn F }
 
 -- the document's number and values for each case of the answer: `ok` is its number 0
 abbrev pub readAnswer : Read → Answer Found
-readAnswer (read.File t n k) = ok (record { tolerance = t; marks = n; curves = k })
+readAnswer (read.File form t n k) = ok (record { form = form; tolerance = t; marks = n; curves = k })
 readAnswer (read.Refused q) = refused q
 
 -- the answer, and the lent slices as they are left
@@ -44,17 +46,18 @@ pub record Outcome : Type 0 where
   pub answer : Answer Found
   pub marks : List ℕ
   pub firsts : List ℕ
+  pub worsts : List ℕ
   pub curves : List ℕ
   pub params : List ℕ
 
-abbrev pub outcome : Answer Found → List ℕ → List ℕ → List ℕ → List ℕ → Outcome
-outcome a M P C Q = record { answer = a; marks = M; firsts = P; curves = C; params = Q }
+abbrev pub outcome : Answer Found → List ℕ → List ℕ → List ℕ → List ℕ → List ℕ → Outcome
+outcome a M P W C Q = record { answer = a; marks = M; firsts = P; worsts = W; curves = C; params = Q }
 
 -- a file fills the first places of the slices, and a refusal leaves them
-abbrev pub settled : Answer File → List ℕ → List ℕ → List ℕ → List ℕ → Outcome
-settled (ok F) M P C Q = outcome (ok (foundIn F)) (written (F .marks) M) (written (F .firsts) P) (written (F .curves) C) (written (F .params) Q)
-settled (refused q) M P C Q = outcome (refused q) M P C Q
+abbrev pub settled : Answer File → List ℕ → List ℕ → List ℕ → List ℕ → List ℕ → Outcome
+settled (ok F) M P W C Q = outcome (ok (foundIn F)) (written (F .marks) M) (written (F .firsts) P) (written (F .worsts) W) (written (F .curves) C) (written (F .params) Q)
+settled (refused q) M P W C Q = outcome (refused q) M P W C Q
 
 -- from the bytes, and the slices as they were lent
-unfoldable pub readOf : List ℕ → List ℕ → List ℕ → List ℕ → List ℕ → Outcome
-readOf b M P C Q = settled (judged b (length M) (length P) (length C) (length Q)) M P C Q
+unfoldable pub readOf : List ℕ → List ℕ → List ℕ → List ℕ → List ℕ → List ℕ → Outcome
+readOf b M P W C Q = settled (judged b (length M) (length P) (length W) (length C) (length Q)) M P W C Q

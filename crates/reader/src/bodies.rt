@@ -1,4 +1,7 @@
 // What a house file holds, copied. Nothing is copied before all heads are right.
+use form::Form;
+use form::width;
+use form::worsts_for;
 use house::bytes::copy_words;
 use house::bytes::two;
 use house::sizes;
@@ -6,49 +9,79 @@ ghost use mathlib.Core.Path.{_≡_};
 ghost use Prim.Native.Nat.{_+_, _*_, _≤_};
 ghost use lib.ListN.{length, drop};
 ghost use Rattle.float.specs.Slices.{written};
-ghost use Rattle.house.specs.Limits.{curveNumbers, curveBytes};
+ghost use Rattle.form.specs.Form.{width, worstsFor};
+ghost use Rattle.house.specs.Limits.{markField, numberField, curveBytes};
 ghost use Rattle.house.specs.Layout.{Room, Copied};
-ghost use Rattle.house.specs.Held.{firstsOf, curvesOf, fileAt};
+ghost use Rattle.house.specs.Held.{inEach, firstsOf, worstsOf, curvesOf, fileAt};
 
-// The bodies of k records of kind 3 from `at` on, into the first places.
-fn copy_curves(b: &[u8], at: usize, k: usize, firsts: &mut [u32], curves: &mut [u64])
-    requires { ⌜ (at + curveBytes * k ≤ length (now b)) × ((k ≤ length (now firsts)) × (curveNumbers * k ≤ length (now curves))) ⌝ }
-    ensures { λ _. ⌜ (now (firsts .exit) ≡ written (firstsOf k (drop at (now (b .entry)))) (now (firsts .entry))) × (now (curves .exit) ≡ written (curvesOf k (drop at (now (b .entry)))) (now (curves .entry))) ⌝ }
+// The mark number at the place p of each of k records of `step` bytes from `at` on, into the first places.
+fn copy_marks(b: &[u8], at: usize, p: usize, step: usize, k: usize, out: &mut [u32])
+    requires { ⌜ (at + step * k ≤ length (now b)) × ((p + markField ≤ step) × (k ≤ length (now out))) ⌝ }
+    ensures { λ _. ⌜ now (out .exit) ≡ written (inEach markField 1 p step k (drop at (now (b .entry)))) (now (out .entry)) ⌝ }
 {
     let mut i = 0;
     while i < k {
-        let body = at + sizes::CURVE_BYTES * i + sizes::HEAD_BYTES;
-        firsts[i] = two(b, body) as u32;
-        let j = sizes::CURVE_NUMBERS * i;
-        copy_words(
-            b,
-            body + sizes::FIRST_FIELD,
-            sizes::CURVE_NUMBERS,
-            &mut curves[j..],
-        );
+        out[i] = two(b, at + step * i + p) as u32;
         i += 1;
     }
+}
+
+// The n numbers at the place p of each of k records of `step` bytes from `at` on, into the first places.
+fn copy_rows(b: &[u8], at: usize, p: usize, n: usize, step: usize, k: usize, out: &mut [u64])
+    requires { ⌜ (at + step * k ≤ length (now b)) × ((p + numberField * n ≤ step) × (n * k ≤ length (now out))) ⌝ }
+    ensures { λ _. ⌜ now (out .exit) ≡ written (inEach numberField n p step k (drop at (now (b .entry)))) (now (out .entry)) ⌝ }
+{
+    let mut i = 0;
+    while i < k {
+        let j = n * i;
+        copy_words(b, at + step * i + p, n, &mut out[j..]);
+        i += 1;
+    }
+}
+
+// The bodies of k curves from `at` on, into the first places.
+fn copy_curves(
+    b: &[u8],
+    at: usize,
+    form: Form,
+    k: usize,
+    firsts: &mut [u32],
+    worsts: &mut [u32],
+    curves: &mut [u64],
+)
+    requires { ⌜ (at + curveBytes form * k ≤ length (now b)) × ((k ≤ length (now firsts)) × ((worstsFor form k ≤ length (now worsts)) × (width form * k ≤ length (now curves)))) ⌝ }
+    ensures { λ _. ⌜ (now (firsts .exit) ≡ written (firstsOf form k (drop at (now (b .entry)))) (now (firsts .entry))) × ((now (worsts .exit) ≡ written (worstsOf form k (drop at (now (b .entry)))) (now (worsts .entry))) × (now (curves .exit) ≡ written (curvesOf form k (drop at (now (b .entry)))) (now (curves .entry)))) ⌝ }
+{
+    let step = sizes::HEAD_BYTES + sizes::body_bytes(form);
+    copy_marks(b, at, sizes::HEAD_BYTES, step, k, firsts);
+    let second = sizes::HEAD_BYTES + sizes::MARK_FIELD;
+    copy_marks(b, at, second, step, worsts_for(form, k), worsts);
+    let numbers = sizes::HEAD_BYTES + sizes::beside_bytes(form);
+    copy_rows(b, at, numbers, width(form), step, k, curves);
 }
 
 // The numbers of a file of n marks and k curves, into the first places of the slices.
 pub fn copy_file(
     b: &[u8],
+    form: Form,
     n: usize,
     k: usize,
     marks: &mut [u64],
     firsts: &mut [u32],
+    worsts: &mut [u32],
     curves: &mut [u64],
     params: &mut [u64],
 )
-    requires { ⌜ Room n k (now b) (now marks) (now firsts) (now curves) (now params) ⌝ }
-    ensures { λ _. ⌜ Copied (fileAt (now (b .entry)) n k) (now (marks .entry)) (now (firsts .entry)) (now (curves .entry)) (now (params .entry)) (now (marks .exit)) (now (firsts .exit)) (now (curves .exit)) (now (params .exit)) ⌝ }
+    requires { ⌜ Room form n k (now b) (now marks) (now firsts) (now worsts) (now curves) (now params) ⌝ }
+    ensures { λ _. ⌜ Copied (fileAt (now (b .entry)) form n k) (now (marks .entry)) (now (firsts .entry)) (now (worsts .entry)) (now (curves .entry)) (now (params .entry)) (now (marks .exit)) (now (firsts .exit)) (now (worsts .exit)) (now (curves .exit)) (now (params .exit)) ⌝ }
 {
     copy_words(b, sizes::MARKS_AT, sizes::MARK_NUMBERS * n, marks);
     if k == 0 {
         return;
     }
     let end = sizes::MARKS_AT + sizes::MARK_BYTES * n;
-    copy_curves(b, end, k, firsts, curves);
-    let last = end + sizes::CURVE_BYTES * k + sizes::HEAD_BYTES;
+    copy_curves(b, end, form, k, firsts, worsts, curves);
+    let step = sizes::HEAD_BYTES + sizes::body_bytes(form);
+    let last = end + step * k + sizes::HEAD_BYTES;
     copy_words(b, last, n, params);
 }

@@ -5,6 +5,7 @@ use bodies::copy_file;
 use float::refusal::BADLY_FORMED;
 use float::refusal::NO_ROOM;
 use float::refusal::TOO_MANY;
+use form::Form;
 use heads::Layout;
 use heads::find_layout;
 use house::bytes::eight;
@@ -13,9 +14,10 @@ use house::sizes::has_room;
 ghost use mathlib.Core.Path.{_≡_};
 ghost use Rattle.reader.specs.Reader.{outcome, readAnswer, readOf};
 
-// What a file holds beside the slices: its tolerance, and how many marks and curves; or why it is not read.
+// What a file holds beside the slices: how its curves are stored, its tolerance, and how many marks and curves; or why it is not read.
 pub enum Read {
     File {
+        form: Form,
         tolerance: u64,
         marks: usize,
         curves: usize,
@@ -28,13 +30,15 @@ pub fn read_file(
     file: &[u8],
     marks: &mut [u64],
     firsts: &mut [u32],
+    worsts: &mut [u32],
     curves: &mut [u64],
     params: &mut [u64],
 ) -> Read
-    ensures { λ r. ⌜ outcome (readAnswer r) (now (marks .exit)) (now (firsts .exit)) (now (curves .exit)) (now (params .exit)) ≡ readOf (now (file .entry)) (now (marks .entry)) (now (firsts .entry)) (now (curves .entry)) (now (params .entry)) ⌝ }
+    ensures { λ r. ⌜ outcome (readAnswer r) (now (marks .exit)) (now (firsts .exit)) (now (worsts .exit)) (now (curves .exit)) (now (params .exit)) ≡ readOf (now (file .entry)) (now (marks .entry)) (now (firsts .entry)) (now (worsts .entry)) (now (curves .entry)) (now (params .entry)) ⌝ }
 {
     let found = find_layout(file);
     let Layout::Counts {
+        form,
         marks: n,
         curves: k,
     } = found
@@ -47,9 +51,18 @@ pub fn read_file(
     if marks.len() < sizes::MARK_NUMBERS * n {
         return Read::Refused(NO_ROOM);
     }
-    if has_room(n, k, firsts.len(), curves.len(), params.len()) {
-        copy_file(file, n, k, marks, firsts, curves, params);
+    if has_room(
+        form,
+        n,
+        k,
+        firsts.len(),
+        worsts.len(),
+        curves.len(),
+        params.len(),
+    ) {
+        copy_file(file, form, n, k, marks, firsts, worsts, curves, params);
         return Read::File {
+            form,
             tolerance: eight(file, sizes::HEAD_BYTES),
             marks: n,
             curves: k,

@@ -136,6 +136,14 @@ pub fn take_some(line: &[u8], at: usize, count: usize, out: &mut [f64]) -> usize
     take_floats(line, at, &mut out[from..count])
 }
 
+// The numbers from place n on, or all where there are fewer.
+pub fn lent_behind(xs: &mut [f64], n: usize) -> &mut [f64] {
+    if n <= xs.len() {
+        return &mut xs[n..];
+    }
+    xs
+}
+
 // The first n numbers, or all where there are fewer.
 pub fn front(xs: &[f64], n: usize) -> &[f64] {
     let from: usize = 0;

@@ -5,6 +5,7 @@ use crate::outline;
 use crate::outline::Fit;
 use crate::single;
 use bytes::scan;
+use form::Form;
 use libc::STDOUT_FILENO;
 use ring::Outline;
 
@@ -26,12 +27,14 @@ fn answered(line: &[u8]) -> bool {
         10 => outline::blocks_case(Fit::Source, line, end),
         11 => outline::blocks_case(Fit::Loop, line, end),
         12 => outline::blocks_case(Fit::Joined, line, end),
-        13 => listing::check_case(Outline::Open, line, end),
+        13 => listing::check_case(Outline::Open, Form::Eight, line, end),
         14 => outline::blocks_case(Fit::Ring, line, end),
-        15 => listing::check_case(Outline::Closed, line, end),
+        15 => listing::check_case(Outline::Closed, Form::Eight, line, end),
         16 => single::distance_case(line, end),
         17 => single::blocks_case(line, end),
         18 => single::size_case(line, end),
+        19 => listing::check_case(Outline::Open, Form::Nine, line, end),
+        20 => listing::check_case(Outline::Closed, Form::Nine, line, end),
         _ => false,
     }
 }

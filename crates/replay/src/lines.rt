@@ -81,7 +81,7 @@ fn take_lines(line: &mut [u8; 1048577]) {
     }
 }
 
-// A `check` line with 4,200 marks and as many curves has some 832,000 bytes.
+// A `check_worst` line with 4,200 marks and as many curves has some 950,000 bytes.
 pub fn run() {
     let mut line = [0u8; 1048577];
     take_lines(&mut line);

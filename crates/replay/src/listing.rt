@@ -3,15 +3,19 @@ ghost use Prim.Native.Nat.{_≤_};
 use crate::cursor::NOWHERE;
 use crate::cursor::front;
 use crate::cursor::front_marks;
+use crate::cursor::lent_behind;
 use crate::cursor::take_count;
 use crate::cursor::take_float;
-use crate::cursor::take_floats;
 use crate::cursor::take_some;
 use crate::print::print_accepted;
 use crate::print::print_refused;
 use checker::Checked;
 use checker::Fault;
 use checker::Place;
+use form::CURVE_NUMBERS;
+use form::Form;
+use form::RECORD_NUMBERS;
+use form::width;
 use libc::STDOUT_FILENO;
 use ring::Outline;
 
@@ -26,33 +30,42 @@ fn narrow(x: u64) -> u32 {
     (x % 0x1_0000_0000) as u32
 }
 
-// The curve number i: its first mark and its eight numbers.
-fn take_one(line: &[u8], at: usize, i: usize, firsts: &mut [u32], curves: &mut [f64]) -> usize {
-    if i >= firsts.len() {
+// The mark number i of a list of them.
+fn take_mark(line: &[u8], at: usize, i: usize, marks: &mut [u32]) -> usize {
+    if i >= marks.len() {
         return NOWHERE;
     }
-    if i >= curves.len() / 8 {
-        return NOWHERE;
-    }
-    let from = 8 * i;
-    let to = from + 8;
-    let first = take_count(line, at, MOST_FIRST);
-    firsts[i] = narrow(first.x);
-    take_floats(line, first.then, &mut curves[from..to])
+    let mark = take_count(line, at, MOST_FIRST);
+    marks[i] = narrow(mark.x);
+    mark.then
 }
 
-// The next `count` curves.
+// The worst mark of curve number i, where the form keeps one.
+fn take_worst(form: Form, line: &[u8], at: usize, i: usize, worsts: &mut [u32]) -> usize {
+    match form {
+        Form::Eight => at,
+        Form::Nine => take_mark(line, at, i, worsts),
+    }
+}
+
+// The next `count` curves, each its first mark, its worst mark where the form keeps one, and its numbers.
 fn take_curves(
+    form: Form,
     line: &[u8],
     at: usize,
     count: usize,
     firsts: &mut [u32],
+    worsts: &mut [u32],
     curves: &mut [f64],
 ) -> usize {
     let mut place = at;
+    let mut taken: usize = 0;
     let mut i: usize = 0;
     while i < count {
-        place = take_one(line, place, i, firsts, curves);
+        place = take_mark(line, place, i, firsts);
+        place = take_worst(form, line, place, i, worsts);
+        place = take_some(line, place, width(form), lent_behind(curves, taken));
+        taken = std::num::wrapping_add_usize(taken, width(form));
         i += 1;
     }
     place
@@ -72,6 +85,7 @@ fn say_fault(fault: Fault) {
         Fault::B(p) => say_place(b'B', p),
         Fault::C(p) => say_place(b'C', p),
         Fault::D(p) => say_place(b'D', p),
+        Fault::E(p) => say_place(b'E', p),
     }
 }
 
@@ -84,8 +98,8 @@ fn say_checked(r: Checked) {
     }
 }
 
-// What the call for a list, or for a ring's, says.
-fn checked(
+// What the call for a list of eight numbers a curve, or for a ring's, says.
+fn checked_eight(
     outline: Outline,
     marks: &[f64],
     tolerance: f64,
@@ -100,33 +114,67 @@ fn checked(
     }
 }
 
+// What the call for a list with worst marks, or for a ring's, says.
+fn checked_nine(
+    outline: Outline,
+    marks: &[f64],
+    tolerance: f64,
+    k: usize,
+    curves: &[f64],
+    firsts: &[u32],
+    worsts: &[u32],
+    params: &[f64],
+) -> Checked {
+    match outline {
+        Outline::Open => checker::check_worst(marks, tolerance, k, curves, firsts, worsts, params),
+        Outline::Closed => {
+            checker::check_worst_ring(marks, tolerance, k, curves, firsts, worsts, params)
+        }
+    }
+}
+
 // What the checker says of the list of k curves and `times` parameters that stands at the start of these slices.
 fn say_list(
     outline: Outline,
+    form: Form,
     marks: &[f64],
     tolerance: f64,
     k: usize,
     times: usize,
     curves: &[f64],
     firsts: &[u32],
+    worsts: &[u32],
     params: &[f64],
 )
     requires { ⌜ k ≤ 8192 ⌝ }
 {
-    say_checked(checked(
-        outline,
-        marks,
-        tolerance,
-        k,
-        front(curves, 8 * k),
-        front_marks(firsts, k),
-        front(params, times),
-    ));
+    match form {
+        Form::Eight => say_checked(checked_eight(
+            outline,
+            marks,
+            tolerance,
+            k,
+            front(curves, CURVE_NUMBERS * k),
+            front_marks(firsts, k),
+            front(params, times),
+        )),
+        Form::Nine => say_checked(checked_nine(
+            outline,
+            marks,
+            tolerance,
+            k,
+            front(curves, RECORD_NUMBERS * k),
+            front_marks(firsts, k),
+            front_marks(worsts, k),
+            front(params, times),
+        )),
+    }
 }
 
 // A list after its marks, with `times` parameters: `at` is the place before the number of its curves.
 fn list_case(
     outline: Outline,
+    form: Form,
     line: &[u8],
     at: usize,
     tolerance: f64,
@@ -134,22 +182,33 @@ fn list_case(
     marks: &[f64],
 ) -> bool {
     let mut firsts = [0u32; 8192];
-    let mut curves = [0.0; 65536];
+    let mut worsts = [0u32; 8192];
+    let mut curves = [0.0; 73728];
     let mut params = [0.0; 4201];
     let count = take_count(line, at, MOST_CURVES);
     let k = count.x as usize;
-    let then = take_curves(line, count.then, k, &mut firsts, &mut curves);
+    let then = take_curves(
+        form,
+        line,
+        count.then,
+        k,
+        &mut firsts,
+        &mut worsts,
+        &mut curves,
+    );
     if take_some(line, then, times, &mut params) != line.len() {
         return false;
     }
     say_list(
         outline,
+        form,
         marks,
         tolerance,
         k,
         times,
         &curves,
         &firsts,
+        &worsts,
         &params,
     );
     true
@@ -165,8 +224,8 @@ fn params_of(outline: Outline, n: usize) -> usize
     }
 }
 
-// check TOL N X0 Y0 .. K F0 C8 F1 C8 .. T0 .. T(N-1), and check_ring with one parameter more
-pub fn check_case(outline: Outline, line: &[u8], at: usize) -> bool {
+// check TOL N X0 Y0 .. K F0 C8 F1 C8 .. T0 .. T(N-1), and check_ring with one parameter more; check_worst and check_worst_ring with F0 W0 C9 for F0 C8
+pub fn check_case(outline: Outline, form: Form, line: &[u8], at: usize) -> bool {
     let mut marks = [0.0; 8400];
     let tolerance = take_float(line, at);
     let count = take_count(line, tolerance.then, MOST_MARKS);
@@ -174,6 +233,7 @@ pub fn check_case(outline: Outline, line: &[u8], at: usize) -> bool {
     let then = take_some(line, count.then, 2 * n, &mut marks);
     list_case(
         outline,
+        form,
         line,
         then,
         tolerance.x,

@@ -10,13 +10,15 @@
 //     source TOL X0 Y0 .., loop TOL X0 Y0 .., joined TOL X0 Y0 .., ring TOL X0 Y0 ..
 //     check TOL N X0 Y0 .. K F0 C8 F1 C8 .. T0 .. T(N-1)
 //     check_ring TOL N X0 Y0 .. K F0 C8 F1 C8 .. T0 .. TN                    a ring has a parameter more than it has marks
+//     check_worst TOL N X0 Y0 .. K F0 W0 C9 F1 W1 C9 .. T0 .. T(N-1)         C9: eight numbers and the largest distance, which is of mark W
+//     check_worst_ring TOL N X0 Y0 .. K F0 W0 C9 F1 W1 C9 .. T0 .. TN
 //     distance C8 PX PY T                                                    how far the list checker finds a mark from its curve
 //     blocks N                                                               into how many blocks a joined fit cuts N marks
 //     size N                                                                 of how many marks a block is, where an outline has N
 //
 // An accepted case answers 0 and its numbers: the root; x y; a b c d; both halves; t; t and squared distance; for a fit K, then for each curve its
-// first mark and eight numbers, then every parameter; the distance; the count; the size. A refused case answers its number alone. `check` and `check_ring` answer 0, `FAULT A 3 0` (kind,
-// curve, mark), or the refusal. A line that is none of these answers BAD, and the next is taken.
+// first mark, its worst mark and nine numbers, then every parameter; the distance; the count; the size. A refused case answers its number alone. A checker's case answers 0,
+// `FAULT A 3 0` (kind, curve, mark), or the refusal. A line that is none of these answers BAD, and the next is taken.
 mod cursor;
 mod dispatch;
 mod kind;

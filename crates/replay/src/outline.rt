@@ -8,6 +8,7 @@ use crate::print::print_accepted;
 use crate::print::print_floats;
 use crate::print::print_refused;
 use cut::Fitted;
+use form::RECORD_NUMBERS;
 use plane::Point;
 
 // Which fit.
@@ -25,16 +26,17 @@ fn fit_by(
     tolerance: f64,
     curves: &mut [f64],
     firsts: &mut [u32],
+    worsts: &mut [u32],
     params: &mut [f64],
 ) -> Fitted {
     match fit {
         Fit::Direct(start, end) => {
-            fit::fit_curve_cubic(marks, start, end, tolerance, curves, firsts, params)
+            fit::fit_curve_cubic(marks, start, end, tolerance, curves, firsts, worsts, params)
         }
-        Fit::Source => fit::fit_curve(marks, tolerance, curves, firsts, params),
-        Fit::Loop => fit::fit_curve_loop(marks, tolerance, curves, firsts, params),
-        Fit::Joined => fit::fit_joined(marks, tolerance, curves, firsts, params),
-        Fit::Ring => fit::fit_ring(marks, tolerance, curves, firsts, params),
+        Fit::Source => fit::fit_curve(marks, tolerance, curves, firsts, worsts, params),
+        Fit::Loop => fit::fit_curve_loop(marks, tolerance, curves, firsts, worsts, params),
+        Fit::Joined => fit::fit_joined(marks, tolerance, curves, firsts, worsts, params),
+        Fit::Ring => fit::fit_ring(marks, tolerance, curves, firsts, worsts, params),
     }
 }
 
@@ -59,42 +61,65 @@ fn wide(x: u32) -> u64 {
     x as u64
 }
 
-// The eight numbers of the curve number i.
-fn curve_at(curves: &[f64], i: usize) -> &[f64] {
-    if i >= curves.len() / 8 {
+// The numbers of the record number i.
+fn record_at(curves: &[f64], i: usize) -> &[f64] {
+    if i >= curves.len() / RECORD_NUMBERS {
         return curves;
     }
-    let from = 8 * i;
-    let to = from + 8;
+    let from = RECORD_NUMBERS * i;
+    let to = from + RECORD_NUMBERS;
     &curves[from..to]
 }
 
-// The curves, each its first mark and eight numbers.
-fn print_curves(curves: &[f64], firsts: &[u32]) {
+// The mark number i of a list of them.
+fn print_mark(marks: &[u32], i: usize) {
+    if i < marks.len() {
+        cases::print_next_count(wide(marks[i]));
+    }
+}
+
+// The curves, each its first mark, its worst mark and its record.
+fn print_curves(curves: &[f64], firsts: &[u32], worsts: &[u32]) {
     let mut i: usize = 0;
     while i < firsts.len() {
-        cases::print_next_count(wide(firsts[i]));
-        print_floats(curve_at(curves, i));
+        print_mark(firsts, i);
+        print_mark(worsts, i);
+        print_floats(record_at(curves, i));
         i += 1;
     }
 }
 
 // How many curves, the curves, and the parameters.
-fn print_fit(k: usize, curves: &[f64], firsts: &[u32], params: &[f64]) {
+fn print_fit(k: usize, curves: &[f64], firsts: &[u32], worsts: &[u32], params: &[f64]) {
     print_accepted();
     cases::print_next_count(k as u64);
-    print_curves(curves, front_marks(firsts, k));
+    print_curves(curves, front_marks(firsts, k), worsts);
     print_floats(params);
 }
 
 // A fit's answer.
 fn say_fit(fit: Fit, marks: &[f64], tolerance: f64) {
-    let mut curves = [0.0; 32768];
+    let mut curves = [0.0; 36864];
     let mut firsts = [0u32; 4096];
+    let mut worsts = [0u32; 4096];
     let mut params = [0.0; 4097];
-    let fitted = fit_by(fit, marks, tolerance, &mut curves, &mut firsts, &mut params);
+    let fitted = fit_by(
+        fit,
+        marks,
+        tolerance,
+        &mut curves,
+        &mut firsts,
+        &mut worsts,
+        &mut params,
+    );
     match fitted {
-        Fitted::Curves(k) => print_fit(k, &curves, &firsts, front(&params, params_of(fit, marks))),
+        Fitted::Curves(k) => print_fit(
+            k,
+            &curves,
+            &firsts,
+            &worsts,
+            front(&params, params_of(fit, marks)),
+        ),
         Fitted::Refused(q) => print_refused(q),
     }
 }

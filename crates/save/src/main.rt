@@ -4,13 +4,13 @@ use piped::print_listed;
 use saving::save_fit;
 
 // Room for a file, in a function of its own: an array that is made where it is used is long in every goal.
-fn file_room() -> [u8; 393171] {
-    [0; 393171]
+fn file_room() -> [u8; 434121] {
+    [0; 434121]
 }
 
 // Room for the longest file.
-fn text_room() -> [u8; 393170] {
-    [0; 393170]
+fn text_room() -> [u8; 434120] {
+    [0; 434120]
 }
 
 // One byte more is read than is fitted, so that too long a file is seen.

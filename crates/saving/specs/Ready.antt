@@ -8,12 +8,14 @@ use lib.Ieee.{Float}
 use Rattle.house.specs.Bytes.{allFit}
 
 -- marks and k curves that a file can hold, in slices with room for 4,096 marks
-pub record Ready (M : List ℕ) (k : ℕ) (P : List ℕ) (C Q : List Float) : Type 0 where
+pub record Ready (M : List ℕ) (k : ℕ) (P W : List ℕ) (C Q : List Float) : Type 0 where
   pub even : length M % 2 ≡ 0
   pub few : length M ≤ 8192
   pub some : 0 < k
   pub fewer : k < length M / 2
   pub firsts : length P ≡ 4095
-  pub curves : length C ≡ 32760
+  pub worsts : length W ≡ 4095
+  pub curves : length C ≡ 36855
   pub params : length Q ≡ 4096
   pub fit : allFit 2 (take k P) ≡ true
+  pub worst-fit : allFit 2 (take k W) ≡ true

@@ -2,6 +2,7 @@
 use Prim.Native.Nat.{ℕ}
 use mathlib.Core.List.{List}
 use Rattle.float.specs.Answer.{Answer, ok, _>>=_}
+use Rattle.form.specs.declared.Form.the-variants.{Nine}
 use Rattle.fit.specs.Fit.{Ending}
 use Rattle.lines.specs.Handed.{shown}
 use Rattle.house.specs.File.{File, bytesOf}
@@ -11,13 +12,13 @@ use Rattle.file_fit.specs.FileFit.{bitsFit}
 
 -- the joined fit of a tolerance and marks, into zeros with room for 4,096 marks
 unfoldable pub roomyFit : ℕ → List ℕ → Ending
-roomyFit t M = bitsFit t M (zeros 32760) (noMarks 4095) (zeros 4096)
+roomyFit t M = bitsFit t M (zeros 36855) (noMarks 4095) (noMarks 4095) (zeros 4096)
 
--- the file of a tolerance, marks and a fit that ends as E, or the fit's refusal
+-- the file of a tolerance, marks and a fit that ends as E, with a worst mark for each curve, or the fit's refusal
 unfoldable pub fileWith : ℕ → List ℕ → Ending → Answer File
 fileWith t M E = do
   k ← E .answer
-  ok (fileFor t M k (E .firsts) (patterns (E .curves)) (patterns (E .params)))
+  ok (fileFor Nine t M k (E .firsts) (E .worsts) (patterns (E .curves)) (patterns (E .params)))
 
 -- 9, 2, the fit's 1, 5, 6 or 7, or the file of its fit. Of the file's numbers only the tolerance and the marks count.
 unfoldable pub savedFile : List ℕ → Answer File

@@ -5,6 +5,7 @@ ghost use lib.ListN.{length};
 ghost use Rattle.lines.specs.Lines.{refusalLine};
 ghost use Rattle.lines.specs.Handed.{shown, handed, listedAnswer, handOver};
 ghost use Rattle.house.specs.File.{bytesOf};
+ghost use Rattle.form.specs.declared.Form.the-variants as form;
 ghost use Rattle.writer.specs.Writer.{writeAnswer, fileFor};
 ghost use Rattle.desk.specs.Desk.{patterns};
 ghost use Rattle.saving.specs.Saving.{roomyFit, fileWith, bytesIn, savedOf};
@@ -15,6 +16,7 @@ use desk::copy_patterns;
 use desk::open_file;
 use fit::fit_joined;
 use float::of_bits;
+use form::Form;
 use lines::Listed;
 use lines::hand_over;
 use lines::put_refusal;
@@ -54,18 +56,29 @@ fn hand_file(
     marks: &[u64],
     k: usize,
     firsts: &[u32],
+    worsts: &[u32],
     curves: &[f64],
     params: &[f64],
     out: &mut [u8],
 ) -> Listed
-    requires { ⌜ Ready (now marks) k (now firsts) (now curves) (now params) ⌝ }
-    ensures { λ r. ⌜ handed (listedAnswer r) (now (out .exit)) ≡ handOver (bytesOf (fileFor tolerance (now (marks .entry)) k (now (firsts .entry)) (patterns (now (curves .entry))) (patterns (now (params .entry))))) (now (out .entry)) ⌝ }
+    requires { ⌜ Ready (now marks) k (now firsts) (now worsts) (now curves) (now params) ⌝ }
+    ensures { λ r. ⌜ handed (listedAnswer r) (now (out .exit)) ≡ handOver (bytesOf (fileFor form.Nine tolerance (now (marks .entry)) k (now (firsts .entry)) (now (worsts .entry)) (patterns (now (curves .entry))) (patterns (now (params .entry))))) (now (out .entry)) ⌝ }
 {
     let mut cs = desk::curve_patterns();
     let mut ps = desk::param_patterns();
     copy_patterns(curves, &mut cs);
     copy_patterns(params, &mut ps);
-    as_listed(write_file(tolerance, marks, k, firsts, &cs, &ps, out))
+    as_listed(write_file(
+        Form::Nine,
+        tolerance,
+        marks,
+        k,
+        firsts,
+        worsts,
+        &cs,
+        &ps,
+        out,
+    ))
 }
 
 // The joined fit of a file's marks, as a file.
@@ -76,6 +89,7 @@ fn hand_fit(tolerance: u64, marks: &[u64], out: &mut [u8]) -> Listed
     let mut ms = desk::mark_floats();
     let mut curves = desk::curve_floats();
     let mut firsts = desk::first_marks();
+    let mut worsts = desk::first_marks();
     let mut params = desk::param_floats();
     copy_floats(marks, &mut ms);
     let m = marks.len();
@@ -84,12 +98,13 @@ fn hand_fit(tolerance: u64, marks: &[u64], out: &mut [u8]) -> Listed
         of_bits(tolerance),
         &mut curves,
         &mut firsts,
+        &mut worsts,
         &mut params,
     );
     let Fitted::Curves(k) = fitted else {
         return hand_refusal(file_fit::refusal_of(fitted), out);
     };
-    hand_file(tolerance, marks, k, &firsts, &curves, &params, out)
+    hand_file(tolerance, marks, k, &firsts, &worsts, &curves, &params, out)
 }
 
 // Fits the outline of a house file and writes it with its curves into the first bytes of `out`; a file that is refused gives the one line that names its refusal. Curves
@@ -99,10 +114,19 @@ pub fn save_fit(file: &[u8], out: &mut [u8]) -> Listed
 {
     let mut marks = desk::mark_patterns();
     let mut firsts = desk::first_marks();
+    let mut worsts = desk::first_marks();
     let mut curves = desk::curve_patterns();
     let mut params = desk::param_patterns();
-    let read = open_file(file, &mut marks, &mut firsts, &mut curves, &mut params);
+    let read = open_file(
+        file,
+        &mut marks,
+        &mut firsts,
+        &mut worsts,
+        &mut curves,
+        &mut params,
+    );
     let Read::File {
+        form: _,
         tolerance,
         marks: n,
         curves: _,

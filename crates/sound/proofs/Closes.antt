@@ -6,6 +6,7 @@ use mathlib.Core.List.{List}
 use lib.ListN.{length}
 use lib.Ieee.{Float}
 use Rattle.marks.specs.Marks.{count, markAt}
+use Rattle.form.specs.declared.Form.{Form}
 use Rattle.ring.specs.Ring.{whole, Even}
 use Rattle.ring.specs.declared.Outline.the-variants.{Closed}
 use Rattle.ring.proofs.Whole.{whole-count, given, comes-back}
@@ -17,8 +18,8 @@ use Rattle.sound.specs.Sound.{Sound}
 use Rattle.sound.specs.Closes.{Closes, RingCloses}
 use Rattle.sound.proofs.Sound.{judged, passes-sound}
 
-pub sound-closes : (ms : List Float) (tol : Float) (k : ℕ) (cs : List Float) (fs : List ℕ) (ps : List Float) → Even ms → Sound (whole Closed ms) tol k cs fs ps → Closes ms k cs
-sound-closes ms tol k cs fs ps even s =
+pub sound-closes : (form : Form) (ms : List Float) (tol : Float) (k : ℕ) (cs : List Float) (fs ws : List ℕ) (ps : List Float) → Even ms → Sound form (whole Closed ms) tol k cs fs ws ps → Closes form ms k cs
+sound-closes form ms tol k cs fs ws ps even s =
     let some = s .some in
     let all = whole-count Closed ms even in
     let e = ending (count (whole Closed ms)) k fs (k - 1) (omega arith) in
@@ -27,6 +28,6 @@ sound-closes ms tol k cs fs ps even s =
     (rw first at (s .begins 0 some), rw last at (s .ends (k - 1) (omega arith)))
 
 pub ring-closes : RingCloses
-ring-closes ms tol k cs fs ps h =
-    let g = passed-for 4096 Closed k ms tol (length cs) (length fs) (length ps) (judged Closed ms tol k cs fs ps passed h .0) in
-    sound-closes ms tol k cs fs ps (passed-even g) (passes-sound Closed ms tol k cs fs ps h)
+ring-closes form ms tol k cs fs ws ps h =
+    let g = passed-for 4096 Closed form k ms tol (length cs) (length fs) (length ws) (length ps) (judged Closed form ms tol k cs fs ws ps passed h .0) in
+    sound-closes form ms tol k cs fs ws ps (passed-even g) (passes-sound Closed form ms tol k cs fs ws ps h)

@@ -10,6 +10,7 @@ use lib.Ieee.{Float, nan}
 use borrow.Author.Tests.{eqb-true, eq-eqb}
 use Rattle.float.specs.Answer.{ok, refused}
 use Rattle.marks.specs.Marks.{count}
+use Rattle.form.specs.declared.Form.{Form}
 use Rattle.ring.specs.Ring.{whole}
 use Rattle.ring.specs.declared.Outline.{Outline}
 use Rattle.gate.specs.Gate.{gateFor}
@@ -23,14 +24,15 @@ use Rattle.sound.proofs.Unit.{timed-unit, timed-first, timed-last, time
 use Rattle.sound.proofs.Under.{home, risen-of}
 use Rattle.sound.proofs.Passes.{Clear, clear, clear-passes}
 
-module _ (ms : List Float) (tol : Float) (k : ℕ) (cs : List Float) (fs : List ℕ) (ps : List Float) where
-  pub checked-sound : listChecked ms tol k cs fs ps ≡ passed → Sound ms tol k cs fs ps
+module _ (form : Form) (ms : List Float) (tol : Float) (k : ℕ) (cs : List Float) (fs ws : List ℕ) (ps : List Float) where
+  pub checked-sound : listChecked form ms tol k cs fs ws ps ≡ passed → Sound form ms tol k cs fs ws ps
   unfolding listChecked
   checked-sound h =
-      let b = both-pass (listed (count ms) k fs) (inTurn k (curveChecked ms tol k cs fs ps)) h in
-      sound (risen (count ms) k fs (b .0)) (λ j l. clear ms tol k cs fs ps j (turn-each (curveChecked ms tol k cs fs ps) k (b .1) j l))
+      let b = both-pass (listed (count ms) k fs) (inTurn k (curveChecked form ms tol k cs fs ws ps)) h in
+      let r = risen (count ms) k fs (b .0) in
+      sound r (λ j l. clear form ms tol k cs fs ws ps j (span (count ms) k fs j r l .starts) (turn-each (curveChecked form ms tol k cs fs ws ps) k (b .1) j l))
     where
-      sound : Risen (count ms) k fs → ((j : ℕ) → j < k → Clear ms tol k cs fs ps j) → Sound ms tol k cs fs ps
+      sound : Risen (count ms) k fs → ((j : ℕ) → j < k → Clear form ms tol k cs fs ws ps j) → Sound form ms tol k cs fs ws ps
       sound r c = record {
         some = r .some;
         from-first = r .from-zero;
@@ -51,15 +53,17 @@ module _ (ms : List Float) (tol : Float) (k : ℕ) (cs : List Float) (fs : List 
             sym (timed-last (count ms) (firstAt fs (k - 1)) (count ms - 1) (getD ps (count ms - 1) nan) (λ s. omega arith) (omega arith))
             ∙ c (k - 1) (omega arith) .times (count ms - 1) (omega arith) (omega arith);
         near-enough = λ j l i f u. c j l .nears i f u;
+        worst-is = λ n j l. c j l .keeps n .mark;
+        distance-kept = λ n j l. c j l .keeps n .bits;
       }
 
-  pub sound-checked : Sound ms tol k cs fs ps → listChecked ms tol k cs fs ps ≡ passed
+  pub sound-checked : Sound form ms tol k cs fs ws ps → listChecked form ms tol k cs fs ws ps ≡ passed
   unfolding listChecked
   sound-checked s =
       let r = risen-of (count ms) k fs (s .some) (s .from-first) (s .two-or-more) in
-      rw (listed-of (count ms) k fs r) (turn-all (curveChecked ms tol k cs fs ps) k (λ j l. clear-passes ms tol k cs fs ps j (one r j l) (let p = span (count ms) k fs j r l in let q = p .starts in omega arith)))
+      rw (listed-of (count ms) k fs r) (turn-all (curveChecked form ms tol k cs fs ws ps) k (λ j l. clear-passes form ms tol k cs fs ws ps j (one r j l) (span (count ms) k fs j r l .starts)))
     where
-      one : Risen (count ms) k fs → (j : ℕ) → j < k → Clear ms tol k cs fs ps j
+      one : Risen (count ms) k fs → (j : ℕ) → j < k → Clear form ms tol k cs fs ws ps j
       one r j l = record {
         numbers = s .numbers j l;
         begins = s .begins j l;
@@ -69,18 +73,19 @@ module _ (ms : List Float) (tol : Float) (k : ℕ) (cs : List Float) (fs : List 
             let q = p .stops in
             timed-of (count ms) (firstAt fs j) i (getD ps i nan) (λ e. rw e (s .zero-at-first j l)) (λ e. let d : i ≡ count ms - 1 = omega arith in rw d (s .one-at-last)) (s .within-unit i (omega arith));
         nears = λ i f u. s .near-enough j l i f u;
+        keeps = λ n. record { mark = s .worst-is n j l; bits = s .distance-kept n j l };
       }
 
 -- the marks that an outline runs over
-module _ (o : Outline) (ms : List Float) (tol : Float) (k : ℕ) (cs : List Float) (fs : List ℕ) (ps : List Float) where
+module _ (o : Outline) (form : Form) (ms : List Float) (tol : Float) (k : ℕ) (cs : List Float) (fs ws : List ℕ) (ps : List Float) where
   abbrev gate : ℕ
-  gate = gateFor 4096 o k ms tol (length cs) (length fs) (length ps)
+  gate = gateFor 4096 o form k ms tol (length cs) (length fs) (length ws) (length ps)
 
   abbrev checked : Verdict
-  checked = listChecked (whole o ms) tol k cs fs ps
+  checked = listChecked form (whole o ms) tol k cs fs ws ps
 
   -- a verdict is given exactly where the gate gives 0
-  pub judged : (v : Verdict) → checkOf o ms tol k cs fs ps ≡ ok v → (gate ≡ 0) × (checked ≡ v)
+  pub judged : (v : Verdict) → checkOf o form ms tol k cs fs ws ps ≡ ok v → (gate ≡ 0) × (checked ≡ v)
   unfolding checkOf
   judged v h = go (eqb gate 0) refl h
     where
@@ -88,9 +93,9 @@ module _ (o : Outline) (ms : List Float) (tol : Float) (k : ℕ) (cs : List Floa
       go true e h = (eqb-true gate 0 e, cc)
       go false e h = let z : _≡_ {A = ℕ} 0 1 = cc in absurd (omega arith)
 
-  pub passes-sound : checkOf o ms tol k cs fs ps ≡ ok passed → Sound (whole o ms) tol k cs fs ps
-  passes-sound h = checked-sound (whole o ms) tol k cs fs ps (judged passed h .1)
+  pub passes-sound : checkOf o form ms tol k cs fs ws ps ≡ ok passed → Sound form (whole o ms) tol k cs fs ws ps
+  passes-sound h = checked-sound form (whole o ms) tol k cs fs ws ps (judged passed h .1)
 
-  pub sound-passes : gate ≡ 0 → Sound (whole o ms) tol k cs fs ps → checkOf o ms tol k cs fs ps ≡ ok passed
+  pub sound-passes : gate ≡ 0 → Sound form (whole o ms) tol k cs fs ws ps → checkOf o form ms tol k cs fs ws ps ≡ ok passed
   unfolding checkOf
-  sound-passes g s = rw (eq-eqb gate 0 g) (ap ok (sound-checked (whole o ms) tol k cs fs ps s))
+  sound-passes g s = rw (eq-eqb gate 0 g) (ap ok (sound-checked form (whole o ms) tol k cs fs ws ps s))

@@ -9,4 +9,5 @@ pub use steps::reparameterize;
 pub use worst::Far;
 pub use worst::Worst;
 pub use worst::error_at;
+pub use worst::larger;
 pub use worst::max_error_for_curve;

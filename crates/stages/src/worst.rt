@@ -29,7 +29,7 @@ pub fn error_at(marks: &[f64], c: Curve, k: usize, t: f64) -> f64
 }
 
 // The larger of two, the first of equals.
-fn larger(w: Worst, e: f64, k: usize) -> Worst
+pub fn larger(w: Worst, e: f64, k: usize) -> Worst
     ensures { λ r. ⌜ r ≡ largerOf w e k ⌝ }
 {
     if e > w.err {

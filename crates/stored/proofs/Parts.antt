@@ -11,6 +11,8 @@ use lib.Ieee.Fits.{add-fits, sub-fits, div-fits}
 use Rattle.float.specs.Number.{f0, f1, f3, clamp01}
 use Rattle.float.specs.Calc.{Calc, give, _>>=_, _-!_, _/!_}
 use Rattle.float.specs.Answer.{ok, unless, outcome}
+use Rattle.float.specs.Folds.{upto}
+use Rattle.root.proofs.Nearest.{sqrt-fits}
 use Rattle.plane.specs.Plane.{plus, distanceOf}
 use Rattle.plane.specs.declared.Point.{Point}
 use Rattle.plane.specs.declared.Curve.{Curve}
@@ -21,6 +23,8 @@ use Rattle.marks.specs.Marks.{count, markAt}
 use Rattle.marks.specs.Line.{lineOf}
 use Rattle.stages.specs.Chords.{chordsOf}
 use Rattle.stages.specs.Newton.{stepAt, reparam}
+use Rattle.stages.specs.Worst.{errorOf, larger, worstAt, worst, maxError}
+use Rattle.stages.specs.declared.worst.Worst.{Worst}
 use Rattle.squares.specs.declared.solve.Alphas.{Alphas}
 use Rattle.squares.specs.Solve.{f1e-6, curveOf, placeOf}
 use Rattle.squares.specs.Squares.{generateOf}
@@ -30,12 +34,13 @@ use Rattle.part.specs.Part.{fits as one}
 use Rattle.tangents.specs.declared.Ways.{Ways}
 use Rattle.tangents.specs.declared.Cutting.{Cutting}
 use Rattle.tangents.specs.Ways.{over}
-use Rattle.cut.specs.Run.{Run, refused, done, flat, join, runOf}
+use Rattle.cut.specs.Run.{Beside, Run, refused, done, flat, join, runOf}
 use Rattle.cut.proofs.Run.{run-by}
 use Rattle.blocks.specs.Blocks.{blockAt, blocksFrom}
 use Rattle.accepted.proofs.Within.{block-count}
 use Rattle.accepted.proofs.ByBlocks.{blocks-by}
-use Rattle.ends.specs.Ends.{FitsP}
+use Rattle.ends.specs.Ends.{FitsP, worstOf}
+use Rattle.ends.proofs.Worst.{error-fits}
 use Rattle.stored.proofs.Values.{Held, none, more, held-append, held-take, held-drop, held-get, held-each, held-mark}
 
 -- ---- a curve
@@ -118,15 +123,36 @@ reparam-held : (ms : List Float) (c : Curve) {ts : List Float} → Held ts → H
 unfolding reparam stepAt
 reparam-held ms c {ts} h = held-each _ (λ k. step-held c (markAt ms k) (getD ts k nan) (held-get h k)) (length ts)
 
+-- ---- the largest distance
+
+larger-held : (w : Worst) (e : Float) (k : ℕ) → T (fits binary64 (w .err)) → T (fits binary64 e) → T (fits binary64 (larger w e k .err))
+unfolding larger
+larger-held w e k h g = go (lt (w .err) e)
+  where
+    go : (b : Bool) → T (fits binary64 (cond {A = Worst} b (record { err = e; at = k }) w .err))
+    go true = g
+    go false = h
+
+worst-held : (ms : List Float) (c : Curve) (ts : List Float) (n : ℕ) → T (fits binary64 (worstOf ms c ts n .err))
+unfolding upto worstAt
+worst-held ms c ts zero = zero-held
+worst-held ms c ts (suc n) = larger-held (worstOf ms c ts n) (errorOf (markAt ms n) c (getD ts n nan) .val) n (worst-held ms c ts n) (error-fits (markAt ms n) c (getD ts n nan))
+
+far-held : (ms : List Float) (c : Curve) (ts : List Float) → T (fits binary64 (maxError ms c ts .val .err))
+unfolding maxError worst
+far-held ms c ts = sqrt-fits (worstOf ms c ts (length ts) .err) (worst-held ms c ts (length ts))
+
 -- ---- the rounds
 
 abbrev HeldTrial : Trial → Type 0
-HeldTrial a = HeldCurve (a .curve) × Held (a .params)
+HeldTrial a = HeldCurve (a .curve) × (T (fits binary64 (a .far .err)) × Held (a .params))
 
 module _ {ms : List Float} (h : Held ms) (st et : Point) where
   attempt-held : (c : Curve) {ts : List Float} → Held ts → HeldTrial (attempt ms st et c ts .val)
   unfolding attempt
-  attempt-held c {ts} k = (generate-held h (reparam ms c ts .val) st et, reparam-held ms c k)
+  attempt-held c {ts} k =
+      let us = reparam ms c ts .val in
+      (generate-held h us st et, (far-held ms (generateOf ms us st et .val) us, reparam-held ms c k))
 
   module _ (tol : Float) where
     improve-held : (k : ℕ) (a : Trial) → HeldTrial a → HeldTrial (improve k ms st et tol a .val)
@@ -134,7 +160,7 @@ module _ {ms : List Float} (h : Held ms) (st et : Point) where
     improve-held zero a t = t
     improve-held (suc k) a t =
         let b = attempt ms st et (a .curve) (a .params) .val in
-        let n = attempt-held (a .curve) (t .1) in
+        let n = attempt-held (a .curve) (t .1 .1) in
         either HeldTrial (lt enough (div binary64 (b .far .err) (a .far .err)) || le (b .far .err) tol) (give b) (improve k ms st et tol b) n (improve-held k b n)
 
     tried-held : (n : ℕ) → HeldTrial (tried n ms st et tol .val)
@@ -149,7 +175,7 @@ module _ {ms : List Float} (h : Held ms) (st et : Point) where
 -- ---- one part
 
 abbrev HeldPart : Part → Type 0
-HeldPart (one c ps) = HeldCurve c × Held ps
+HeldPart (one c w ps) = HeldCurve c × (T (fits binary64 (w .err)) × Held ps)
 HeldPart (cuts k) = Unit {0}
 HeldPart (fails q) = Unit {0}
 
@@ -158,14 +184,14 @@ pick-part true X Y h k = h
 pick-part false X Y h k = k
 
 lined-held : (b : Bool) (c : Curve) → HeldCurve c → HeldPart (lined (unless 6 b (ok c)))
-lined-held true c h = (h, more zero-held (more one-held none))
+lined-held true c h = (h, (zero-held, more zero-held (more one-held none)))
 lined-held false c h = tt
 
 judged-held : (n : ℕ) (tol : Float) (b : Bool) (a : Trial) → HeldTrial a → HeldPart (judged n tol (unless 6 b (ok a)))
 judged-held n tol false a h = tt
 judged-held n tol true a h =
     let late = eqb (a .far .at) 0 || eqb (a .far .at) (n - 1) in
-    pick-part (le (a .far .err) tol) (one (a .curve) (a .params)) (pick late (fails 7) (cuts (a .far .at))) h (pick-part late (fails 7) (cuts (a .far .at)) tt tt)
+    pick-part (le (a .far .err) tol) (one (a .curve) (a .far) (a .params)) (pick late (fails 7) (cuts (a .far .at))) h (pick-part late (fails 7) (cuts (a .far .at)) tt tt)
 
 part-held : (ms : List Float) → Held ms → (st et : Point) (tol : Float) → HeldPart (partOf ms st et tol)
 unfolding partOf outcome
@@ -183,10 +209,10 @@ HeldLists cs ps = Held cs × Held ps
 
 abbrev HeldRun : Run → Type 0
 HeldRun (refused q) = Unit {0}
-HeldRun (done cs fs ps) = HeldLists cs ps
+HeldRun (done cs bs ps) = HeldLists cs ps
 
-flat-held : (c : Curve) → HeldCurve c → Held (flat c)
-flat-held c h = more (h .0 .0) (more (h .0 .1) (more (h .1 .0 .0) (more (h .1 .0 .1) (more (h .1 .1 .0 .0) (more (h .1 .1 .0 .1) (more (h .1 .1 .1 .0) (more (h .1 .1 .1 .1) none)))))))
+flat-held : (c : Curve) (x : Float) → HeldCurve c → T (fits binary64 x) → Held (flat c x)
+flat-held c x h f = more (h .0 .0) (more (h .0 .1) (more (h .1 .0 .0) (more (h .1 .0 .1) (more (h .1 .1 .0 .0) (more (h .1 .1 .0 .1) (more (h .1 .1 .1 .0) (more (h .1 .1 .1 .1) (more f none))))))))
 
 join-held : (k : ℕ) (R R′ : Run) → HeldRun R → HeldRun R′ → HeldRun (join k R R′)
 join-held k (refused q) R′ l r = tt
@@ -196,20 +222,20 @@ join-held k (done c f p) (done c′ f′ p′) l r = (held-append (l .0) (r .0),
 run-held : (tol : Float) (ms : List Float) (first : ℕ) (s e : Point) → 2 ≤ count ms → Held ms → HeldRun (runOf ms first s e tol)
 run-held tol ms first s e h =
     run-by tol (λ ms X. Held ms → HeldPart X) (λ ms s e h k. part-held ms k s e tol) (λ ms first R. Held ms → HeldRun R)
-    (λ ms first c ps h sd p k. (flat-held c (p k .0), p k .1))
+    (λ ms first c w ps h sd p k. (flat-held c (w .err) (p k .0) (p k .1 .0), p k .1 .1))
     (λ ms first q s k. tt)
     (λ ms first k R R′ i j l r m. join-held k R R′ (l (held-take (2 * k + 2) m)) (r (held-drop (2 * k) m)))
     ms first s e h
 
 -- the lists of a fit by blocks that meet
 module _ (k : Cutting) (meet : over k ≡ 1) (ms : List Float) (n size : ℕ) (tol : Float) (h : Held ms) (even : length ms ≡ 2 * n) where
-  block-held : (from to : ℕ) (w : Ways) (cs : List Float) (fs : List ℕ) (ps : List Float) → from + 2 ≤ to → to ≤ n → runOf (blockAt ms from to) from (w .start) (w .end) tol ≡ done cs fs ps → HeldLists cs ps
-  block-held from to w cs fs ps l m q =
+  block-held : (from to : ℕ) (w : Ways) (cs : List Float) (bs : List Beside) (ps : List Float) → from + 2 ≤ to → to ≤ n → runOf (blockAt ms from to) from (w .start) (w .end) tol ≡ done cs bs ps → HeldLists cs ps
+  block-held from to w cs bs ps l m q =
       let c : count (blockAt ms from to) ≡ to - from = block-count ms n even from to l m in
-      let r : HeldRun (done cs fs ps) = rw q at (run-held tol (blockAt ms from to) from (w .start) (w .end) (omega (arith, c)) (held-take (2 * to - 2 * from) (held-drop (2 * from) h))) in
+      let r : HeldRun (done cs bs ps) = rw q at (run-held tol (blockAt ms from to) from (w .start) (w .end) (omega (arith, c)) (held-take (2 * to - 2 * from) (held-drop (2 * from) h))) in
       r
 
-  pub blocks-held : (cs : List Float) (fs : List ℕ) (ps : List Float) → 0 < size → 2 ≤ n → blocksFrom k ms n size tol 0 ≡ done cs fs ps → Held cs × Held ps
+  pub blocks-held : (cs : List Float) (bs : List Beside) (ps : List Float) → 0 < size → 2 ≤ n → blocksFrom k ms n size tol 0 ≡ done cs bs ps → Held cs × Held ps
   blocks-held =
-      blocks-by k meet ms n size tol (λ f g cs fs ps. HeldLists cs ps) block-held
-      (λ f g e cs cs′ fs fs′ ps ps′ l x y. (held-append (x .0) (y .0), held-append (held-take (g - f) (x .1)) (y .1)))
+      blocks-by k meet ms n size tol (λ f g cs bs ps. HeldLists cs ps) block-held
+      (λ f g e cs cs′ bs bs′ ps ps′ l x y. (held-append (x .0) (y .0), held-append (held-take (g - f) (x .1)) (y .1)))

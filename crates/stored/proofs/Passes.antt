@@ -5,12 +5,15 @@ use Prim.Native.Nat.{ℕ, _-_, _*_, _/_, _<_, _≤_}
 use native.Mathlib.Omega.{arith}
 use borrow.Author.Tests.{le-leb, ne-eqb}
 use lib.Seq.{take-at}
-use lib.ListN.{length, take, drop}
+use lib.ListN.{length, take, drop, length-map}
 use lib.Ieee.{Float, binary64, ofBits, toBits}
 use Rattle.float.specs.Answer.{Answer, ok, refused}
 use Rattle.float.specs.Slices.{written}
 use Rattle.marks.specs.Marks.{count}
 use Rattle.marks.specs.Block.{blockSize}
+use Rattle.form.specs.Form.{recordNumbers}
+use Rattle.form.specs.declared.Form.the-variants.{Nine}
+use Rattle.cut.specs.Run.{Beside, firstsOf, worstsOf}
 use Rattle.ring.specs.declared.Outline.the-variants.{Open}
 use Rattle.tangents.specs.declared.Cutting.the-variants.{Joined}
 use Rattle.tangents.specs.Ways.{over}
@@ -25,6 +28,7 @@ use Rattle.accepted.proofs.Laid.{laid-many, laid-curves}
 use Rattle.accepted.proofs.Theorem.{Given, blocks-given, laid-sound}
 use Rattle.lines.specs.Lines.{twoLine}
 use Rattle.house.specs.File.{File, bytesOf, marksIn, curvesIn}
+use Rattle.house.proofs.Forms.{form-some}
 use Rattle.grammar.proofs.Answers.{not-refused}
 use Rattle.grammar.proofs.Formed.{Formed, full, forming, params-some}
 use Rattle.grammar.proofs.Rooms.{size-some}
@@ -43,30 +47,38 @@ use Rattle.stored.proofs.Parts.{blocks-held}
 
 -- ---- the list of a joined fit, by itself
 
-module _ (ms : List Float) (tol : Float) (k : ℕ) (C C′ : List Float) (F F′ : List ℕ) (P P′ : List Float) (d : Given ms tol k C C′ F F′ P P′ Joined) where
+module _ (ms : List Float) (tol : Float) (k : ℕ) (C C′ : List Float) (F F′ W W′ : List ℕ) (P P′ : List Float) (d : Given ms tol k C C′ F F′ W W′ P P′ Joined) where
   -- as long as its curves and marks want
-  pub curves-long : length (d .cs) ≡ 8 * k
-  curves-long = laid-curves (d .laid) ∙ ap (λ (n : ℕ). 8 * n) (sym (d .many))
+  pub curves-long : length (d .cs) ≡ recordNumbers * k
+  curves-long = laid-curves (d .laid) ∙ ap (λ (n : ℕ). recordNumbers * n) (sym (d .many))
+
+  pub firsts-long : length (firstsOf (d .bs)) ≡ k
+  firsts-long = length-map (d .bs) (λ b. b .first) ∙ sym (d .many)
+
+  pub worsts-long : length (worstsOf (d .bs)) ≡ k
+  worsts-long = length-map (d .bs) (λ b. b .worst) ∙ sym (d .many)
 
   pub params-long : length (d .ps) ≡ count ms
   params-long = let two = d .gate .two in laid-many (d .laid) ∙ omega arith
 
-  same : {cs cs′ : List Float} {fs fs′ : List ℕ} {ps ps′ : List Float} {j : ℕ} → cs ≡ cs′ → fs ≡ fs′ → ps ≡ ps′ → k ≡ j → Sound ms tol j cs′ fs′ ps′ → Sound ms tol k cs fs ps
-  same a b c e s = rw (a, b, c, e) s
+  same : {cs cs′ : List Float} {fs fs′ ws ws′ : List ℕ} {ps ps′ : List Float} {j : ℕ} → cs ≡ cs′ → fs ≡ fs′ → ws ≡ ws′ → ps ≡ ps′ → k ≡ j → Sound Nine ms tol j cs′ fs′ ws′ ps′ → Sound Nine ms tol k cs fs ws ps
+  same a b w c e s = rw (a, b, w, c, e) s
 
-  sound : Sound ms tol k (d .cs) (d .fs) (d .ps)
+  sound : Sound Nine ms tol k (d .cs) (firstsOf (d .bs)) (worstsOf (d .bs)) (d .ps)
   sound =
       let two = d .gate .two in
-      same (sym (append-nil (d .cs))) (sym (append-nil (d .fs))) (sym (append-nil (d .ps))) (d .many) (laid-sound ms tol (d .cs) (d .fs) (d .ps) [] [] [] (omega arith) (d .laid))
+      same (sym (append-nil (d .cs))) (sym (append-nil (firstsOf (d .bs)))) (sym (append-nil (worstsOf (d .bs)))) (sym (append-nil (d .ps))) (d .many)
+      (laid-sound ms tol (d .cs) (d .bs) (d .ps) [] [] [] [] (omega arith) (d .laid))
 
-  pub given-passes : checkOf Open ms tol k (d .cs) (d .fs) (d .ps) ≡ ok passed
+  pub given-passes : checkOf Open Nine ms tol k (d .cs) (firstsOf (d .bs)) (worstsOf (d .bs)) (d .ps) ≡ ok passed
   given-passes =
       let g = d .gate in
       let c = curves-long in
       let p = params-long in
-      let m = d .many in
-      sound-passes Open ms tol k (d .cs) (d .fs) (d .ps)
-      (passes 4096 Open k ms tol (length (d .cs)) (length (d .fs)) (length (d .ps)) (record { even = g .even; two = g .two; most = g .most; curves = omega arith; firsts = omega arith; params = omega arith; near = g .near; usable = g .usable }))
+      let f = firsts-long in
+      let w = worsts-long in
+      sound-passes Open Nine ms tol k (d .cs) (firstsOf (d .bs)) (worstsOf (d .bs)) (d .ps)
+      (passes 4096 Open Nine k ms tol (length (d .cs)) (length (firstsOf (d .bs))) (length (worstsOf (d .bs))) (length (d .ps)) (record { even = g .even; two = g .two; most = g .most; curves = omega arith; firsts = omega arith; worsts = omega arith; params = omega arith; near = g .near; usable = g .usable }))
       sound
 
 -- ---- its file
@@ -74,10 +86,10 @@ module _ (ms : List Float) (tol : Float) (k : ℕ) (C C′ : List Float) (F F′
 front-patterns : (xs l : List Float) {m : List Float} (i : ℕ) → m ≡ written xs l → length xs ≡ i → take i (patterns m) ≡ patterns xs
 front-patterns xs l i e h = rw (e, map-append (toBits binary64) xs (drop (length xs) l)) (take-at (patterns xs) (patterns (drop (length xs) l)) i (length-patterns xs ∙ h))
 
-abbrev fileOver : ℕ → List ℕ → List ℕ → List Float → List Float → File
-fileOver t M fs cs ps = record { tolerance = t; marks = M; firsts = fs; curves = patterns cs; params = patterns ps }
+abbrev fileOver : ℕ → List ℕ → List Beside → List Float → List Float → File
+fileOver t M bs cs ps = record { form = Nine; tolerance = t; marks = M; firsts = firstsOf bs; worsts = worstsOf bs; curves = patterns cs; params = patterns ps }
 
-module _ (t : ℕ) (M : List ℕ) (k : ℕ) (C C′ : List Float) (F F′ : List ℕ) (P P′ : List Float) (d : Given (floats M) (ofBits binary64 t) k C C′ F F′ P P′ Joined) where
+module _ (t : ℕ) (M : List ℕ) (k : ℕ) (C C′ : List Float) (F F′ W W′ : List ℕ) (P P′ : List Float) (d : Given (floats M) (ofBits binary64 t) k C C′ F F′ W W′ P P′ Joined) where
   abbrev ms : List Float
   ms = floats M
 
@@ -85,7 +97,7 @@ module _ (t : ℕ) (M : List ℕ) (k : ℕ) (C C′ : List Float) (F F′ : List
   tol = ofBits binary64 t
 
   abbrev G : File
-  G = fileOver t M (d .fs) (d .cs) (d .ps)
+  G = fileOver t M (d .bs) (d .cs) (d .ps)
 
   half : count ms ≡ length M / 2
   half = rw (length-floats M)
@@ -96,19 +108,21 @@ module _ (t : ℕ) (M : List ℕ) (k : ℕ) (C C′ : List Float) (F F′ : List
       let two = d .gate .two in
       let e = d .gate .even in
       let size = size-within (count ms) (blockSize (count ms)) refl in
-      blocks-held Joined refl ms (count ms) (blockSize (count ms)) tol (held-floats M) (omega arith) (d .cs) (d .fs) (d .ps) (omega arith) (omega arith) (d .is-done)
+      blocks-held Joined refl ms (count ms) (blockSize (count ms)) tol (held-floats M) (omega arith) (d .cs) (d .bs) (d .ps) (omega arith) (omega arith) (d .is-done)
 
-  same-file : 0 < k → fileFor t M k F′ (patterns C′) (patterns P′) ≡ G
+  same-file : 0 < k → fileFor Nine t M k F′ W′ (patterns C′) (patterns P′) ≡ G
   unfolding fileFor
   same-file some =
       rw (
+        form-some Nine some,
         params-some (length M / 2) some,
-        front (d .fs) F k (d .firsts) (sym (d .many)),
-        front-patterns (d .cs) C (8 * k) (d .curves) (curves-long ms tol k C C′ F F′ P P′ d),
-        front-patterns (d .ps) P (length M / 2) (d .params) (params-long ms tol k C C′ F F′ P P′ d ∙ half),
+        front (firstsOf (d .bs)) F k (d .firsts) (firsts-long ms tol k C C′ F F′ W W′ P P′ d),
+        front (worstsOf (d .bs)) W k (d .worsts) (worsts-long ms tol k C C′ F F′ W W′ P P′ d),
+        front-patterns (d .cs) C (recordNumbers * k) (d .curves) (curves-long ms tol k C C′ F F′ W W′ P P′ d),
+        front-patterns (d .ps) P (length M / 2) (d .params) (params-long ms tol k C C′ F F′ W W′ P P′ d ∙ half),
       )
 
-  module _ (n j : ℕ) (O : File) (o : Formed O n j) (in-tolerance : O .tolerance ≡ t) (in-marks : O .marks ≡ M) (few-marks : n ≤ 4096) (l : Listing M k F′) where
+  module _ (n j : ℕ) (O : File) (o : Formed O n j) (in-tolerance : O .tolerance ≡ t) (in-marks : O .marks ≡ M) (few-marks : n ≤ 4096) (l : Listing M k F′ W′) where
     marks-long : length M ≡ 2 * n
     marks-long = sym (ap length in-marks) ∙ o .sized .marks
 
@@ -121,16 +135,18 @@ module _ (t : ℕ) (M : List ℕ) (k : ℕ) (C C′ : List Float) (F F′ : List
         record {
           sized = record {
             marks = m;
-            firsts = sym (d .many);
-            curves = length-patterns (d .cs) ∙ curves-long ms tol k C C′ F F′ P P′ d;
-            params = length-patterns (d .ps) ∙ params-long ms tol k C C′ F F′ P P′ d ∙ rw (params-some n (l .some)) (omega arith);
+            firsts = firsts-long ms tol k C C′ F F′ W W′ P P′ d;
+            worsts = worsts-long ms tol k C C′ F F′ W W′ P P′ d;
+            curves = length-patterns (d .cs) ∙ curves-long ms tol k C C′ F F′ W W′ P P′ d;
+            params = length-patterns (d .ps) ∙ params-long ms tol k C C′ F F′ W W′ P P′ d ∙ rw (params-some n (l .some)) (omega arith);
           };
           way = full (l .some) (omega arith);
           few = o .few;
           fit = record {
             tolerance = rw (← in-tolerance) (o .fit .tolerance);
             marks = rw (← in-marks) (o .fit .marks);
-            firsts = rw (front (d .fs) F k (d .firsts) (sym (d .many))) at (l .fit);
+            firsts = rw (front (firstsOf (d .bs)) F k (d .firsts) (firsts-long ms tol k C C′ F F′ W W′ P P′ d)) at (l .fit);
+            worsts = rw (front (worstsOf (d .bs)) W k (d .worsts) (worsts-long ms tol k C C′ F F′ W W′ P P′ d)) at (l .worst-fit);
             curves = bits-fit (v .0);
             params = bits-fit (v .1);
           };
@@ -141,40 +157,40 @@ module _ (t : ℕ) (M : List ℕ) (k : ℕ) (C C′ : List Float) (F F′ : List
 
     taken : fileIn (bytesOf G) ≡ ok G
     taken =
-        let s = length-bytes (whole-file .sized) ∙ size-some n (l .some) in
+        let s = length-bytes (whole-file .sized) ∙ size-some Nine n (l .some) in
         let less = l .fewer in
         let m = marks-long in
         let c = count-marks in
         roomy (bytesOf G)
-        ∙ rw (le-leb (length (bytesOf G)) 393170 (omega arith), file-bytes-file G (forming whole-file)) (rw (le-leb (marksIn G) 4096 (omega arith)))
+        ∙ rw (le-leb (length (bytesOf G)) 434120 (omega arith), file-bytes-file G (forming whole-file)) (rw (le-leb (marksIn G) 4096 (omega arith)))
 
     list-passes : listIn G ≡ ok passed
     unfolding listIn
-    list-passes = let v = values in rw (back (v .0), back (v .1), ← d .many) (given-passes ms tol k C C′ F F′ P P′ d)
+    list-passes = let v = values in rw (back (v .0), back (v .1), firsts-long ms tol k C C′ F F′ W W′ P P′ d) (given-passes ms tol k C C′ F F′ W W′ P P′ d)
 
     file-passes : judgementOf (bytesOf G) ≡ twoLine passedWord (marksIn G) (curvesIn G)
     unfolding lineOf fileLine verdictIn
-    file-passes = let some = l .some in rw (taken, ne-eqb (curvesIn G) 0 (λ e. omega (arith, d .many)), list-passes)
+    file-passes = let some = l .some in rw (taken, ne-eqb (curvesIn G) 0 (λ e. omega (arith, firsts-long ms tol k C C′ F F′ W W′ P P′ d)), list-passes)
 
 -- ---- whatever is saved
 
 -- an ending that is an answer of k curves
-answered : (E : Ending) (k : ℕ) → E .answer ≡ ok k → ending (ok k) (E .curves) (E .firsts) (E .params) ≡ E
+answered : (E : Ending) (k : ℕ) → E .answer ≡ ok k → ending (ok k) (E .curves) (E .firsts) (E .worsts) (E .params) ≡ E
 answered E k a = rw (← a) refl
 
 -- a fit of a file that is taken
 fit-passes : (b : List ℕ) (O : File) → fileIn b ≡ ok O → (k : ℕ) (E : Ending) → E ≡ roomyFit (O .tolerance) (O .marks) → E .answer ≡ ok k → (F : File)
-    → fileFor (O .tolerance) (O .marks) k (E .firsts) (patterns (E .curves)) (patterns (E .params)) ≡ F → judgementOf (bytesOf F) ≡ twoLine passedWord (marksIn F) (curvesIn F)
+    → fileFor Nine (O .tolerance) (O .marks) k (E .firsts) (E .worsts) (patterns (E .curves)) (patterns (E .params)) ≡ F → judgementOf (bytesOf F) ≡ twoLine passedWord (marksIn F) (curvesIn F)
 unfolding roomyFit over
 fit-passes b O x k E e a F q =
     let t = O .tolerance in
     let M = O .marks in
     let h = answered E k a ∙ e in
-    let d = blocks-given (floats M) (ofBits binary64 t) k (zeros 32760) (E .curves) (noMarks 4095) (E .firsts) (zeros 4096) (E .params) Joined refl h in
-    let l = fit-listing M (ofBits binary64 t) k (zeros 32760) (E .curves) (noMarks 4095) (E .firsts) (zeros 4096) (E .params) h in
+    let d = blocks-given (floats M) (ofBits binary64 t) k (zeros 36855) (E .curves) (noMarks 4095) (E .firsts) (noMarks 4095) (E .worsts) (zeros 4096) (E .params) Joined refl h in
+    let l = fit-listing M (ofBits binary64 t) k (zeros 36855) (E .curves) (noMarks 4095) (E .firsts) (noMarks 4095) (E .worsts) (zeros 4096) (E .params) h in
     let f = file-formed b x in
-    let same = same-file t M k (zeros 32760) (E .curves) (noMarks 4095) (E .firsts) (zeros 4096) (E .params) d (l .some) in
-    is-passed F (sym q ∙ same) (file-passes t M k (zeros 32760) (E .curves) (noMarks 4095) (E .firsts) (zeros 4096) (E .params) d (marksIn O) (curvesIn O) O (f .0) refl refl (f .1) l)
+    let same = same-file t M k (zeros 36855) (E .curves) (noMarks 4095) (E .firsts) (noMarks 4095) (E .worsts) (zeros 4096) (E .params) d (l .some) in
+    is-passed F (sym q ∙ same) (file-passes t M k (zeros 36855) (E .curves) (noMarks 4095) (E .firsts) (noMarks 4095) (E .worsts) (zeros 4096) (E .params) d (marksIn O) (curvesIn O) O (f .0) refl refl (f .1) l)
   where
     is-passed : (F : File) {G : File} → F ≡ G → judgementOf (bytesOf G) ≡ twoLine passedWord (marksIn G) (curvesIn G) → judgementOf (bytesOf F) ≡ twoLine passedWord (marksIn F) (curvesIn F)
     is-passed F e h = rw e h

@@ -12,11 +12,11 @@ pub agree : {A : Type 0} {x y d : A} → x ≡ d → y ≡ d → x ≡ y
 agree p q = p ∙ sym q
 
 pub same-read : (r s : Read) → readAnswer r ≡ readAnswer s → r ≡ s
-same-read (read.File t n k) (read.File t′ n′ k′) e =
-    let f : _≡_ {A = Found} (record { tolerance = t; marks = n; curves = k }) (record { tolerance = t′; marks = n′; curves = k′ }) = cc in
-    λ i. read.File (f i .tolerance) (f i .marks) (f i .curves)
-same-read (read.File t n k) (read.Refused q) e = not-refused q e
-same-read (read.Refused q) (read.File t n k) e = not-refused q (sym e)
+same-read (read.File f t n k) (read.File f′ t′ n′ k′) e =
+    let g : _≡_ {A = Found} (record { form = f; tolerance = t; marks = n; curves = k }) (record { form = f′; tolerance = t′; marks = n′; curves = k′ }) = cc in
+    λ i. read.File (g i .form) (g i .tolerance) (g i .marks) (g i .curves)
+same-read (read.File f t n k) (read.Refused q) e = not-refused q e
+same-read (read.Refused q) (read.File f t n k) e = not-refused q (sym e)
 same-read (read.Refused q) (read.Refused q′) e = cc
 
 pub same-wrote : (r s : Wrote) → writeAnswer r ≡ writeAnswer s → r ≡ s

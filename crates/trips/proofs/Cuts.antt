@@ -5,15 +5,19 @@ use mathlib.Core.List.{List, [], _∷_, _++_}
 use Prim.Native.Nat.{ℕ, _+_, _*_, _<_, _^_}
 use native.Mathlib.Omega.{arith}
 use lib.ListN.{length, take, drop, length-append, length-drop}
-use lib.Seq.{take-at, drop-at, length-take-le}
+use lib.Seq.{take-at, drop-at}
 use Rattle.float.specs.Answer.{refused}
-use Rattle.house.specs.Limits.{badlyFormed}
+use Rattle.form.specs.declared.Form.{Form}
+use Rattle.form.specs.Form.{width}
+use Rattle.house.specs.Limits.{badlyFormed, worstMarks, curveKind, bodyBytes}
 use Rattle.house.specs.Bytes.{num, le, les}
-use Rattle.house.specs.File.{Record, rec, framed, flat, File, curveRecords, fitRecords, recordsOf, wellFormed}
+use Rattle.house.specs.File.{Record, rec, framed, flat, File, bodyOf, curveRecords, fitRecords, recordsOf, wellFormed}
 use Rattle.reader.specs.Reader.{settled, readOf}
+use Rattle.house.proofs.Forms.{body-few, worsts-each, kind-few}
 use Rattle.house.proofs.Numbers.{length-le}
 use Rattle.house.proofs.Rows.{length-les}
 use Rattle.grammar.proofs.Records.{length-framed, framed-head, framed-body}
+use Rattle.grammar.proofs.Curves.{length-body}
 use Rattle.grammar.proofs.Formed.{Sized, Formed, formed, params-some}
 use Rattle.trips.proofs.Accepted.{refuses}
 
@@ -62,12 +66,13 @@ append : {rs ss : List Record} → Framable rs → Framable ss → Framable (rs 
 append none g = g
 append (more h l f) g = more h l (append f g)
 
-curves-framable : (P C : List ℕ) → length C ≡ 8 * length P → Framable (curveRecords P C)
+curves-framable : (form : Form) (P W C : List ℕ) → length W ≡ worstMarks form * length P → length C ≡ width form * length P → Framable (curveRecords form P W C)
 unfolding curveRecords
-curves-framable [] C h = none
-curves-framable (p ∷ P) C h =
-    let l : length (take 8 C) ≡ 8 = length-take-le 8 C (omega arith) in
-    more {r = rec 3 (le 2 p ++ les (take 8 C))} (omega arith) (simp (length-append, length-le, length-les, l) (omega arith)) (curves-framable P (drop 8 C) (simp length-drop (omega arith)))
+curves-framable form [] W C hw hc = none
+curves-framable form (p ∷ P) W C hw hc =
+    let l : length (bodyOf form p W C) ≡ bodyBytes form = length-body form p W C (omega arith) (omega arith) in
+    more {r = rec (curveKind form) (bodyOf form p W C)} (omega (arith, kind-few form)) (omega (arith, l, body-few form))
+    (curves-framable form P (drop (worstMarks form) W) (drop (width form) C) (simp length-drop (omega arith)) (simp length-drop (omega arith)))
 
 pub framable : {F : File} {n k : ℕ} → Formed F n k → Framable (recordsOf F)
 unfolding recordsOf fitRecords
@@ -78,14 +83,16 @@ framable {F} {n} {k} f =
     s : Sized F n k
     s = f .sized
 
-    rest : (P : List ℕ) → length P ≡ k → Framable (fitRecords P (F .curves) (F .params))
+    rest : (P : List ℕ) → length P ≡ k → Framable (fitRecords (F .form) P (F .worsts) (F .curves) (F .params))
     rest [] h = none
     rest (p ∷ P) h =
         let some : 0 < k = omega arith in
         let q : length (F .params) ≡ n = s .params ∙ params-some n some in
-        append (curves-framable (p ∷ P) (F .curves) (omega (arith, s .curves))) (more {r = rec 4 (les (F .params))} (omega arith) (omega (arith, length-les (F .params), f .few)) none)
+        let w : length (F .worsts) ≡ worstMarks (F .form) * length (p ∷ P) = rw h (s .worsts ∙ worsts-each (F .form) k) in
+        let c : length (F .curves) ≡ width (F .form) * length (p ∷ P) = rw h (s .curves) in
+        append (curves-framable (F .form) (p ∷ P) (F .worsts) (F .curves) w c) (more {r = rec 4 (les (F .params))} (omega arith) (omega (arith, length-les (F .params), f .few)) none)
 
 -- ---- what is out of turn
 
-pub out-of-turn : {rs : List Record} → Framable rs → ((F : File) → wellFormed F ≡ true → recordsOf F ≡ rs → ⊥) → (M P C Q : List ℕ) → readOf (flat rs) M P C Q ≡ settled (refused badlyFormed) M P C Q
-out-of-turn f never M P C Q = refuses M P C Q (λ F h. never F (h .formed) (one-cut (framable (formed F (h .formed))) f (h .bytes)))
+pub out-of-turn : {rs : List Record} → Framable rs → ((F : File) → wellFormed F ≡ true → recordsOf F ≡ rs → ⊥) → (M P W C Q : List ℕ) → readOf (flat rs) M P W C Q ≡ settled (refused badlyFormed) M P W C Q
+out-of-turn f never M P W C Q = refuses M P W C Q (λ F h. never F (h .formed) (one-cut (framable (formed F (h .formed))) f (h .bytes)))

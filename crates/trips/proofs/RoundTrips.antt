@@ -7,20 +7,23 @@ use native.Mathlib.Omega.{arith}
 use lib.ListN.{length, take, drop, length-append}
 use lib.Seq.{take-at}
 use Rattle.float.specs.Answer.{Answer, ok}
+use Rattle.form.specs.declared.Form.{Form}
+use Rattle.form.specs.Form.{width, worstsFor}
 use Rattle.reader.specs.declared.Read.{Read}
 use Rattle.reader.specs.declared.Read.the-variants as read
 use Rattle.writer.specs.declared.Wrote.{Wrote}
 use Rattle.writer.specs.declared.Wrote.the-variants as wrote
 use Rattle.house.specs.Bytes.{allFit}
-use Rattle.house.specs.File.{File, Holds, bytesOf, marksIn, curvesIn, paramsFor, wellFormed}
+use Rattle.house.specs.File.{File, Holds, bytesOf, marksIn, curvesIn, formFor, paramsFor, wellFormed}
 use Rattle.house.specs.Held.{fileOf}
 use Rattle.float.specs.Slices.{written}
 use Rattle.house.specs.Slices.{room}
 use Rattle.reader.specs.Reader.{Found, Outcome, outcome, readAnswer, readOf}
 use Rattle.writer.specs.Writer.{fileFor, Writing, writing, writeAnswer, writeOf}
+use Rattle.house.proofs.Forms.{form-some, worsts-formed, width-formed, suits-formed}
 use Rattle.house.proofs.Numbers.{fit-take}
-use Rattle.grammar.proofs.Formed.{Formed, formed, turn, turning, forming}
-use Rattle.grammar.proofs.Rooms.{places}
+use Rattle.grammar.proofs.Formed.{Turn, plain, full, Formed, formed, turn, turning, forming}
+use Rattle.grammar.proofs.Rooms.{Places, places}
 use Rattle.grammar.proofs.Grammar.{holds-file, file-holds}
 use Rattle.writer.proofs.Accepted.{Sound, write-accepts}
 use Rattle.trips.proofs.Accepted.{Taken, read-accepts, read-accepted, write-accepted}
@@ -45,92 +48,114 @@ long-written : (xs l : List ℕ) → length xs ≤ length (written xs l)
 long-written xs l = simp length-append (omega arith)
 
 -- what is written is well formed
-module _ {t : ℕ} {M : List ℕ} {k : ℕ} {P C Q : List ℕ} (s : Sound M k P C Q) where
-  formed-for : t < 256 ^ 8 → allFit 8 M ≡ true → allFit 8 C ≡ true → allFit 8 Q ≡ true → Formed (fileFor t M k P C Q) (length M / 2) k
+module _ {form : Form} {t : ℕ} {M : List ℕ} {k : ℕ} {P W C Q : List ℕ} (s : Sound form M k P W C Q) where
+  formed-for : t < 256 ^ 8 → allFit 8 M ≡ true → allFit 8 C ≡ true → allFit 8 Q ≡ true → Formed (fileFor form t M k P W C Q) (length M / 2) k
   unfolding fileFor
   formed-for ht hm hc hq = record {
-    sized = sized-for t M k P C Q (s .even) (s .places);
-    way = turn (length M / 2) k (s .fewer);
+    sized = sized-for form t M k P W C Q (s .even) (s .places);
+    way = turn (formFor form k) (length M / 2) k (suits-formed form k) (s .fewer);
     few = omega (arith, s .few);
-    fit = record { tolerance = ht; marks = hm; firsts = s .firsts; curves = fit-take 8 (8 * k) C hc; params = fit-take 8 (paramsFor (length M / 2) k) Q hq };
+    fit = record { tolerance = ht; marks = hm; firsts = s .firsts; worsts = s .worsts; curves = fit-take 8 (width form * k) C hc; params = fit-take 8 (paramsFor (length M / 2) k) Q hq };
   }
 
--- what a reader is to give back: the tolerance, the counts, and the numbers in front
-pub record Returned (t : ℕ) (M : List ℕ) (k : ℕ) (P C Q : List ℕ) (a : Answer Found) (M₀ P₀ C₀ Q₀ M′ P′ C′ Q′ : List ℕ) : Type 0 where
-  pub answer : a ≡ ok (record { tolerance = t; marks = length M / 2; curves = k })
+-- what a reader is to give back: the form, the tolerance, the counts, and the numbers in front
+pub record Returned (form : Form) (t : ℕ) (M : List ℕ) (k : ℕ) (P W C Q : List ℕ) (a : Answer Found) (M₀ P₀ W₀ C₀ Q₀ M′ P′ W′ C′ Q′ : List ℕ) : Type 0 where
+  pub answer : a ≡ ok (record { form = formFor form k; tolerance = t; marks = length M / 2; curves = k })
   pub marks : M′ ≡ written M M₀
   pub firsts : P′ ≡ written (take k P) P₀
-  pub curves : C′ ≡ written (take (8 * k) C) C₀
+  pub worsts : W′ ≡ written (take (worstsFor form k) W) W₀
+  pub curves : C′ ≡ written (take (width form * k) C) C₀
   pub params : Q′ ≡ written (take (paramsFor (length M / 2) k) Q) Q₀
 
+-- room by the form as given is room by the form as stored
+places-formed : (form : Form) (n k p w c q : ℕ) → Places form n k p w c q → Places (formFor form k) n k p w c q
+places-formed form n k p w c q s = record {
+  firsts = s .firsts;
+  worsts = omega (arith, worsts-formed form k, s .worsts);
+  curves = omega (arith, width-formed form k, s .curves);
+  params = s .params;
+}
+
 -- written then read: the same numbers, bit for bit
-pub written-then-read : (t : ℕ) (M : List ℕ) (k : ℕ) (P C Q O M₀ P₀ C₀ Q₀ : List ℕ) (len : ℕ) (O′ : List ℕ) (r : Read) (M′ P′ C′ Q′ : List ℕ)
+pub written-then-read : (form : Form) (t : ℕ) (M : List ℕ) (k : ℕ) (P W C Q O M₀ P₀ W₀ C₀ Q₀ : List ℕ) (len : ℕ) (O′ : List ℕ) (r : Read) (M′ P′ W′ C′ Q′ : List ℕ)
     → t < 2 ^ 64
     → allFit 8 M ≡ true
     → allFit 8 C ≡ true
     → allFit 8 Q ≡ true
-    → writing (writeAnswer (wrote.Bytes len)) O′ ≡ writeOf t M k P C Q O
+    → writing (writeAnswer (wrote.Bytes len)) O′ ≡ writeOf form t M k P W C Q O
     → length M ≤ length M₀
-    → room (length M / 2) k (length P₀) (length C₀) (length Q₀) ≡ true
-    → outcome (readAnswer r) M′ P′ C′ Q′ ≡ readOf (take len O′) M₀ P₀ C₀ Q₀
-    → Returned t M k P C Q (readAnswer r) M₀ P₀ C₀ Q₀ M′ P′ C′ Q′
+    → room form (length M / 2) k (length P₀) (length W₀) (length C₀) (length Q₀) ≡ true
+    → outcome (readAnswer r) M′ P′ W′ C′ Q′ ≡ readOf (take len O′) M₀ P₀ W₀ C₀ Q₀
+    → Returned form t M k P W C Q (readAnswer r) M₀ P₀ W₀ C₀ Q₀ M′ P′ W′ C′ Q′
 unfolding fileFor
-written-then-read t M k P C Q O M₀ P₀ C₀ Q₀ len O′ r M′ P′ C′ Q′ ht hm hc hq w long roomy e =
+written-then-read form t M k P W C Q O M₀ P₀ W₀ C₀ Q₀ len O′ r M′ P′ W′ C′ Q′ ht hm hc hq w long roomy e =
     let p = write-accepted w in
-    let F : File = fileFor t M k P C Q in
+    let F : File = fileFor form t M k P W C Q in
     let f = formed-for {t = t} (p .sound) ht hm hc hq in
     let b : take len O′ ≡ bytesOf F = rw (p .out, p .answer) (front-written (bytesOf F) O) in
     let h : Holds (take len O′) F = record { formed = forming f; bytes = sym b } in
     let ek : curvesIn F ≡ k = f .sized .firsts in
-    let taken : Taken F M₀ P₀ C₀ Q₀ = record { few = p .sound .few; marks = long; places = rw ek (places (length M / 2) k (length P₀) (length C₀) (length Q₀) roomy) } in
+    let s = places form (length M / 2) k (length P₀) (length W₀) (length C₀) (length Q₀) roomy in
+    let taken : Taken F M₀ P₀ W₀ C₀ Q₀ = record { few = p .sound .few; marks = long; places = rw ek (places-formed form (length M / 2) k (length P₀) (length W₀) (length C₀) (length Q₀) s) } in
     let q = e ∙ read-accepts h taken in
     record {
       answer = ap (λ (o : Outcome). o .answer) q ∙ rw ek;
       marks = ap (λ (o : Outcome). o .marks) q;
       firsts = ap (λ (o : Outcome). o .firsts) q;
+      worsts = ap (λ (o : Outcome). o .worsts) q;
       curves = ap (λ (o : Outcome). o .curves) q;
       params = ap (λ (o : Outcome). o .params) q;
     }
 
+-- the form that a well formed file has is the one that its curves give
+formed-form : {form : Form} {n k : ℕ} → Turn form n k → formFor form k ≡ form
+formed-form {form} {n} {k} (plain e z) = rw (e, z)
+formed-form {form} {n} {k} (full some few) = form-some form some
+
 -- read then written: the same bytes
-module _ {b M P C Q : List ℕ} {F : File} (h : Holds b F) (s : Taken F M P C Q) (O : List ℕ) (l : length b ≤ length O) where
-  rewritten : writeOf (F .tolerance) (take (2 * marksIn F) (written (F .marks) M)) (curvesIn F) (written (F .firsts) P) (written (F .curves) C) (written (F .params) Q) O ≡ writing (ok (length b)) (written b O)
+module _ {b M P W C Q : List ℕ} {F : File} (h : Holds b F) (s : Taken F M P W C Q) (O : List ℕ) (l : length b ≤ length O) where
+  rewritten : writeOf (F .form) (F .tolerance) (take (2 * marksIn F) (written (F .marks) M)) (curvesIn F) (written (F .firsts) P) (written (F .worsts) W) (written (F .curves) C) (written (F .params) Q) O ≡ writing (ok (length b)) (written b O)
   unfolding fileFor
   rewritten =
       let f = formed F (h .formed) in
       let em : take (2 * marksIn F) (written (F .marks) M) ≡ F .marks = rw (← f .sized .marks) (front-written (F .marks) M) in
       let ep : take (curvesIn F) (written (F .firsts) P) ≡ F .firsts = front-written (F .firsts) P in
-      let ec : take (8 * curvesIn F) (written (F .curves) C) ≡ F .curves = rw (← f .sized .curves) (front-written (F .curves) C) in
+      let ew : take (worstsFor (F .form) (curvesIn F)) (written (F .worsts) W) ≡ F .worsts = rw (← f .sized .worsts) (front-written (F .worsts) W) in
+      let ec : take (width (F .form) * curvesIn F) (written (F .curves) C) ≡ F .curves = rw (← f .sized .curves) (front-written (F .curves) C) in
       let eq : take (paramsFor (marksIn F) (curvesIn F)) (written (F .params) Q) ≡ F .params = rw (← f .sized .params) (front-written (F .params) Q) in
-      let G : File = fileFor (F .tolerance) (F .marks) (curvesIn F) (written (F .firsts) P) (written (F .curves) C) (written (F .params) Q) in
-      let same : G ≡ F = simp (ep, ec, eq) in
+      let ef : formFor (F .form) (curvesIn F) ≡ F .form = formed-form (f .way) in
+      let G : File = fileFor (F .form) (F .tolerance) (F .marks) (curvesIn F) (written (F .firsts) P) (written (F .worsts) W) (written (F .curves) C) (written (F .params) Q) in
+      let same : G ≡ F = simp (ef, ep, ew, ec, eq) in
       let bytes : bytesOf G ≡ b = ap bytesOf same ∙ h .bytes in
-      let sound : Sound (F .marks) (curvesIn F) (written (F .firsts) P) (written (F .curves) C) (written (F .params) Q) =
+      let sound : Sound (F .form) (F .marks) (curvesIn F) (written (F .firsts) P) (written (F .worsts) W) (written (F .curves) C) (written (F .params) Q) =
       record {
         even = omega (arith, f .sized .marks);
         few = s .few;
         places = record {
           firsts = long-written (F .firsts) P;
+          worsts = omega (arith, f .sized .worsts, long-written (F .worsts) W);
           curves = omega (arith, f .sized .curves, long-written (F .curves) C);
           params = omega (arith, f .sized .params, long-written (F .params) Q);
         };
         fewer = turning (f .way);
         firsts = rw ep (f .fit .firsts);
+        worsts = rw ew (f .fit .worsts);
       } in
       rw em (rw bytes at (write-accepts (F .tolerance) O sound (rw bytes l)))
 
-pub read-then-written : (b M P C Q O : List ℕ) (t n k : ℕ) (M′ P′ C′ Q′ : List ℕ) (w : Wrote) (O′ : List ℕ)
-    → outcome (readAnswer (read.File t n k)) M′ P′ C′ Q′ ≡ readOf b M P C Q
+pub read-then-written : (b M P W C Q O : List ℕ) (form : Form) (t n k : ℕ) (M′ P′ W′ C′ Q′ : List ℕ) (w : Wrote) (O′ : List ℕ)
+    → outcome (readAnswer (read.File form t n k)) M′ P′ W′ C′ Q′ ≡ readOf b M P W C Q
     → length b ≤ length O
-    → writing (writeAnswer w) O′ ≡ writeOf t (take (2 * n) M′) k P′ C′ Q′ O
+    → writing (writeAnswer w) O′ ≡ writeOf form t (take (2 * n) M′) k P′ W′ C′ Q′ O
     → (writeAnswer w ≡ ok (length b)) × (O′ ≡ written b O)
-read-then-written b M P C Q O t n k M′ P′ C′ Q′ w O′ e l q =
+read-then-written b M P W C Q O form t n k M′ P′ W′ C′ Q′ w O′ e l q =
     let a = read-accepted e in
     let F : File = a .file in
+    let eo : form ≡ F .form = ap (λ (f : Found). f .form) (a .answer) in
     let et : t ≡ F .tolerance = ap (λ (f : Found). f .tolerance) (a .answer) in
     let en : n ≡ marksIn F = ap (λ (f : Found). f .marks) (a .answer) in
     let ek : k ≡ curvesIn F = ap (λ (f : Found). f .curves) (a .answer) in
-    let z : writeOf t (take (2 * n) M′) k P′ C′ Q′ O ≡ writing (ok (length b)) (written b O) =
-    (λ i. writeOf (et i) (take (2 * en i) (a .marks i)) (ek i) (a .firsts i) (a .curves i) (a .params i) O) ∙ rewritten (a .holds) (a .taken) O l in
+    let z : writeOf form t (take (2 * n) M′) k P′ W′ C′ Q′ O ≡ writing (ok (length b)) (written b O) =
+    (λ i. writeOf (eo i) (et i) (take (2 * en i) (a .marks i)) (ek i) (a .firsts i) (a .worsts i) (a .curves i) (a .params i) O) ∙ rewritten (a .holds) (a .taken) O l in
     let y = q ∙ z in
     (ap (λ (o : Writing). o .answer) y, ap (λ (o : Writing). o .out) y)

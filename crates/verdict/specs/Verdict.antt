@@ -8,7 +8,7 @@ use Rattle.float.specs.Answer.{Answer, ok, _>>=_}
 use Rattle.ring.specs.declared.Outline.the-variants.{Open}
 use Rattle.checker.specs.declared.Place.{Place}
 use Rattle.checker.specs.declared.Fault.{Fault}
-use Rattle.checker.specs.declared.Fault.the-variants.{A, B, C, D}
+use Rattle.checker.specs.declared.Fault.the-variants.{A, B, C, D, E}
 use Rattle.checker.specs.Check.{Verdict, passed, fault, checkOf}
 use Rattle.lines.specs.Lines.{oneLine, twoLine}
 use Rattle.lines.specs.Handed.{shown}
@@ -35,15 +35,16 @@ faultLine (A p) = placeLine (faultWord 65) p
 faultLine (B p) = placeLine (faultWord 66) p
 faultLine (C p) = placeLine (faultWord 67) p
 faultLine (D p) = placeLine (faultWord 68) p
+faultLine (E p) = placeLine (faultWord 69) p
 
 -- a verdict on n marks and k curves
 abbrev pub verdictLine : ℕ → ℕ → Verdict → List ℕ
 verdictLine n k passed = twoLine passedWord n k
 verdictLine n k (fault f) = faultLine f
 
--- what the list checker says of a file's curves
+-- what the list checker says of a file's curves, by the record that they are stored in
 unfoldable pub listIn : File → Answer Verdict
-listIn F = checkOf Open (floats (F .marks)) (ofBits binary64 (F .tolerance)) (curvesIn F) (floats (F .curves)) (F .firsts) (floats (F .params))
+listIn F = checkOf Open (F .form) (floats (F .marks)) (ofBits binary64 (F .tolerance)) (curvesIn F) (floats (F .curves)) (F .firsts) (F .worsts) (floats (F .params))
 
 -- the line of what it says of n marks and k curves, or its refusal
 unfoldable pub verdictIn : ℕ → ℕ → Answer Verdict → Answer (List ℕ)

@@ -12,17 +12,21 @@ ghost use Rattle.verdict.specs.Verdict.{placeLine, faultLine, verdictIn,
 use checker::Checked;
 use checker::Fault;
 use checker::Place;
-use checker::check_list;
+use checker::check;
 use desk::copy_floats;
 use desk::open_file;
 use desk::refusal_of;
 use float::of_bits;
+use form::Form;
+use form::width;
+use form::worsts_for;
 use lines::Listed;
 use lines::hand_over;
 use lines::put_one;
 use lines::put_refusal;
 use lines::put_two;
 use reader::Read;
+use ring::Outline;
 
 // Room for the longest line.
 fn line_room() -> [u8; 64]
@@ -49,6 +53,7 @@ fn put_fault(text: &mut [u8], fault: Fault) -> usize
         Fault::B(p) => put_place(text, b"FAULT B ", p),
         Fault::C(p) => put_place(text, b"FAULT C ", p),
         Fault::D(p) => put_place(text, b"FAULT D ", p),
+        Fault::E(p) => put_place(text, b"FAULT E ", p),
     }
 }
 
@@ -66,15 +71,17 @@ fn put_verdict(text: &mut [u8], n: usize, k: usize, checked: Checked) -> usize
 
 // The checker on the numbers of a file.
 fn check_file(
+    form: Form,
     tolerance: u64,
     marks: &[u64],
     k: usize,
     firsts: &[u32],
+    worsts: &[u32],
     curves: &[u64],
     params: &[u64],
 ) -> Checked
-    requires { ⌜ (length (now marks) ≤ 8192) × ((length (now curves) ≤ 32760) × (length (now params) ≤ 4096)) ⌝ }
-    ensures { λ r. ⌜ checkedAnswer r ≡ checkOf outline.Open (floats (now (marks .entry))) (ofBits binary64 tolerance) k (floats (now (curves .entry))) (now (firsts .entry)) (floats (now (params .entry))) ⌝ }
+    requires { ⌜ (length (now marks) ≤ 8192) × ((length (now curves) ≤ 36855) × (length (now params) ≤ 4096)) ⌝ }
+    ensures { λ r. ⌜ checkedAnswer r ≡ checkOf outline.Open form (floats (now (marks .entry))) (ofBits binary64 tolerance) k (floats (now (curves .entry))) (now (firsts .entry)) (now (worsts .entry)) (floats (now (params .entry))) ⌝ }
 {
     let mut ms = desk::mark_floats();
     let mut cs = desk::curve_floats();
@@ -85,7 +92,17 @@ fn check_file(
     let m = marks.len();
     let c = curves.len();
     let p = params.len();
-    check_list(&ms[..m], of_bits(tolerance), k, &cs[..c], firsts, &ps[..p])
+    check(
+        Outline::Open,
+        form,
+        &ms[..m],
+        of_bits(tolerance),
+        k,
+        &cs[..c],
+        firsts,
+        worsts,
+        &ps[..p],
+    )
 }
 
 // The line for any bytes.
@@ -95,10 +112,19 @@ fn put_judgement(file: &[u8], text: &mut [u8]) -> usize
 {
     let mut marks = desk::mark_patterns();
     let mut firsts = desk::first_marks();
+    let mut worsts = desk::first_marks();
     let mut curves = desk::curve_patterns();
     let mut params = desk::param_patterns();
-    let read = open_file(file, &mut marks, &mut firsts, &mut curves, &mut params);
+    let read = open_file(
+        file,
+        &mut marks,
+        &mut firsts,
+        &mut worsts,
+        &mut curves,
+        &mut params,
+    );
     let Read::File {
+        form,
         tolerance,
         marks: n,
         curves: k,
@@ -110,12 +136,15 @@ fn put_judgement(file: &[u8], text: &mut [u8]) -> usize
         return put_one(text, b"NO CURVES ", n as u64);
     }
     let m = 2 * n;
-    let c = 8 * k;
+    let w = worsts_for(form, k);
+    let c = width(form) * k;
     let checked = check_file(
+        form,
         tolerance,
         &marks[..m],
         k,
         &firsts[..k],
+        &worsts[..w],
         &curves[..c],
         &params[..n],
     );

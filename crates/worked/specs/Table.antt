@@ -14,6 +14,7 @@ use Rattle.plane.specs.Plane.{at, unitOf}
 use Rattle.plane.specs.declared.Curve.{Curve}
 use Rattle.marks.specs.Block.{blockSize}
 use Rattle.marks.specs.Tangent.{half}
+use Rattle.form.specs.Form.{recordNumbers}
 use Rattle.cubic.specs.Basis.{pointAt}
 use Rattle.cubic.specs.Subdivide.{subdivide4Of}
 use Rattle.cubic.specs.declared.split.Halves.{Halves}
@@ -45,7 +46,7 @@ halves = subdivide4Of half (arch .start) (arch .cp1) (arch .cp2) (arch .end)
 
 -- the joined fit of (0,0), (4,0) within 0.5, in lent slices of zeros with room for one curve
 abbrev pub twoMarks : Ending
-twoMarks = fitOf Joined (f0 ∷ f0 ∷ four ∷ f0 ∷ []) half (replicate 8 f0) (replicate 1 0) (replicate 2 f0)
+twoMarks = fitOf Joined (f0 ∷ f0 ∷ four ∷ f0 ∷ []) half (replicate recordNumbers f0) (replicate 1 0) (replicate 1 0) (replicate 2 f0)
 
 -- a fold at (0,0): the marks before and after it are (1,0)
 abbrev pub fold : Joint
@@ -65,7 +66,7 @@ pub record Table : Type 0 where
   pub middle : pointAt arch half ≡ give (at half three-quarters)
   pub left : halves .val .left ≡ record { start = at f0 f0; cp1 = at f0 half; cp2 = at quarter three-quarters; end = at half three-quarters }
   pub fine : halves .fine ≡ true
-  pub line : twoMarks ≡ ending (ok 1) (f0 ∷ f0 ∷ n64 0x3ff5_1eb8_51eb_851f ∷ f0 ∷ n64 0x4005_1eb8_51eb_851f ∷ f0 ∷ four ∷ f0 ∷ []) (0 ∷ []) (f0 ∷ f1 ∷ [])
+  pub line : twoMarks ≡ ending (ok 1) (f0 ∷ f0 ∷ n64 0x3ff5_1eb8_51eb_851f ∷ f0 ∷ n64 0x4005_1eb8_51eb_851f ∷ f0 ∷ four ∷ f0 ∷ f0 ∷ []) (0 ∷ []) (0 ∷ []) (f0 ∷ f1 ∷ [])
   pub root0 : sqrt binary64 f0 ≡ f0
   pub rootQuarter : sqrt binary64 quarter ≡ half
   pub root4 : sqrt binary64 four ≡ f2

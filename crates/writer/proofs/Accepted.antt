@@ -6,6 +6,8 @@ use Prim.Native.Nat.{ℕ, _/_, _%_, _≤_}
 use borrow.Author.Tests.{le-leb, eq-eqb}
 use lib.ListN.{length, take}
 use Rattle.float.specs.Answer.{ok}
+use Rattle.form.specs.declared.Form.{Form}
+use Rattle.form.specs.Form.{worstsFor}
 use Rattle.house.specs.Bytes.{allFit}
 use Rattle.house.specs.File.{bytesOf, fewer}
 use Rattle.float.specs.Slices.{written}
@@ -13,22 +15,24 @@ use Rattle.writer.specs.Writer.{fileFor, checked, writing, writeOf}
 use Rattle.grammar.proofs.Rooms.{Places, placing}
 
 -- the numbers and the slices make a file that the writer takes
-pub record Sound (M : List ℕ) (k : ℕ) (P C Q : List ℕ) : Type 0 where
+pub record Sound (form : Form) (M : List ℕ) (k : ℕ) (P W C Q : List ℕ) : Type 0 where
   pub even : length M % 2 ≡ 0
   pub few : length M / 2 ≤ 4096
-  pub places : Places (length M / 2) k (length P) (length C) (length Q)
+  pub places : Places form (length M / 2) k (length P) (length W) (length C) (length Q)
   pub fewer : fewer k (length M / 2) ≡ true
   pub firsts : allFit 2 (take k P) ≡ true
+  pub worsts : allFit 2 (take (worstsFor form k) W) ≡ true
 
-pub write-accepts : (t : ℕ) {M : List ℕ} {k : ℕ} {P C Q : List ℕ} (O : List ℕ) → Sound M k P C Q → length (bytesOf (fileFor t M k P C Q)) ≤ length O
-    → writeOf t M k P C Q O ≡ writing (ok (length (bytesOf (fileFor t M k P C Q)))) (written (bytesOf (fileFor t M k P C Q)) O)
+pub write-accepts : (t : ℕ) (O : List ℕ) {form : Form} {M : List ℕ} {k : ℕ} {P W C Q : List ℕ} → Sound form M k P W C Q → length (bytesOf (fileFor form t M k P W C Q)) ≤ length O
+    → writeOf form t M k P W C Q O ≡ writing (ok (length (bytesOf (fileFor form t M k P W C Q)))) (written (bytesOf (fileFor form t M k P W C Q)) O)
 unfolding writeOf checked
-write-accepts t {M} {k} {P} {C} {Q} O s h =
+write-accepts t O {form} {M} {k} {P} {W} {C} {Q} s h =
     rw (
       eq-eqb (length M % 2) 0 (s .even),
       le-leb (length M / 2) 4096 (s .few),
       placing (s .places),
-      le-leb (length (bytesOf (fileFor t M k P C Q))) (length O) h,
+      le-leb (length (bytesOf (fileFor form t M k P W C Q))) (length O) h,
       s .fewer,
       s .firsts,
+      s .worsts,
     )

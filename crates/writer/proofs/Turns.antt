@@ -1,20 +1,27 @@
 -- Turns of the writer's loops, and records that are put one after another. Assumes nothing.
-use mathlib.Core.Path.{_≡_, refl, sym, ap, _∙_}
-use mathlib.Core.Bool.{true}
+use mathlib.Core.Path.{_≡_, refl, sym, _∙_}
+use mathlib.Core.Bool.{true, _&&_}
 use mathlib.Core.List.{List, [], _∷_, _++_, append-assoc, append-nil}
-use Prim.Native.Nat.{ℕ, _+_, _-_, _*_, _<_, _≤_, _^_}
+use Prim.Native.Nat.{ℕ, suc, _+_, _-_, _*_, _<_, _≤_, _^_}
 use native.Mathlib.Numerals.{add-one}
 use native.Mathlib.Omega.{arith}
-use lib.ListN.{length, take, drop, getD, length-append, length-drop}
-use lib.Seq.{take-add, take-suc, take-all, take-length, take-append-le, drop-append-le, length-take-le, getD-take, sets}
-use Rattle.house.specs.Bytes.{le, les, allFit}
-use Rattle.house.specs.File.{rec, framed, flat, curveRecords}
+use lib.ListN.{length, take, drop, getD, length-append, length-take, length-drop}
+use lib.Seq.{drop-cons, take-add, take-suc, take-all, take-length, take-append-le, drop-append-le, length-take-le, getD-take, sets}
+use Rattle.form.specs.declared.Form.{Form}
+use Rattle.form.specs.declared.Form.the-variants.{Eight, Nine}
+use Rattle.form.specs.Form.{width, worstsFor}
+use Rattle.house.specs.Limits.{worstMarks, besides, curveKind, bodyBytes, curveBytes}
+use Rattle.house.specs.Bytes.{le, rowBytes, les, allFit}
+use Rattle.house.specs.File.{rec, framed, flat, bodyOf, curveRecords, fewer}
+use Rattle.writer.specs.Writer.{marksFit}
+use Rattle.house.proofs.Forms.{worsts-each}
 use Rattle.house.proofs.Numbers.{fit-cons, fit-append, fit-at, length-le}
-use Rattle.house.proofs.Rows.{length-les}
-use Rattle.grammar.proofs.Curves.{length-flat}
+use Rattle.house.proofs.Rows.{length-bytes, length-les}
+use Rattle.grammar.proofs.Curves.{empty, length-body, length-flat}
+use Rattle.house.proofs.Turns.{put-both}
 use Rattle.text.proofs.Stores.{sets-append}
 
--- ---- first marks that fit: one more, and one that does not
+-- ---- mark numbers that fit: one more, and one that does not
 
 module _ (P : List ℕ) (k i : ℕ) (h : i < k) (l : k ≤ length P) where
   pub fits-more : allFit 2 (take i P) ≡ true → getD P i 0 < 256 ^ 2 → allFit 2 (take (i + 1) P) ≡ true
@@ -30,48 +37,88 @@ module _ (P : List ℕ) (k i : ℕ) (h : i < k) (l : k ≤ length P) where
       let s = fit-at 2 (take k P) i f (omega arith) in
       omega arith
 
--- ---- records of kind 3: one more
+-- without curves there is nothing to hold
+pub holds-none : (form : Form) (n k : ℕ) (P W : List ℕ) → k ≡ 0 → true ≡ fewer k n && marksFit form k P W
+unfolding allFit
+holds-none Eight n k P W e = rw e
+holds-none Nine n k P W e = rw e
 
-curves-snoc : (P C c8 : List ℕ) (p : ℕ) → length C ≡ 8 * length P → length c8 ≡ 8 → flat (curveRecords (P ++ (p ∷ [])) (C ++ c8)) ≡ flat (curveRecords P C) ++ framed (rec 3 (le 2 p ++ les c8))
-unfolding flat curveRecords
-curves-snoc [] [] c8 p h l = let t : take 8 c8 ≡ c8 = take-all 8 c8 (omega arith) in rw (t, append-nil)
-curves-snoc [] (c ∷ C) c8 p h l = absurd (omega arith)
-curves-snoc (x ∷ P) C c8 p h l =
-    let t : take 8 (C ++ c8) ≡ take 8 C = take-append-le 8 C c8 (omega arith) in
-    let d : drop 8 (C ++ c8) ≡ drop 8 C ++ c8 = drop-append-le 8 C c8 (omega arith) in
-    let i = curves-snoc P (drop 8 C) c8 p (simp length-drop (omega arith)) l in
-    rw (t, d, i) (sym (append-assoc (framed (rec 3 (le 2 x ++ les (take 8 C)))) (flat (curveRecords P (drop 8 C))) (framed (rec 3 (le 2 p ++ les c8)))))
+-- ---- curves
 
--- a turn: head, first mark, eight numbers
-pub curves-put : (l P C : List ℕ) (at i : ℕ) → i < length P → 8 * (i + 1) ≤ length C
-    → sets (sets (sets (sets l at (flat (curveRecords (take i P) (take (8 * i) C)))) (at + 72 * i) (le 4 68 ++ le 2 3)) (at + 72 * i + 6) (le 2 (getD P i 0))) (at + 72 * i + 6 + 2) (les (take 8 (drop (8 * i) C)))
-    ≡ sets l at (flat (curveRecords (take (i + 1) P) (take (8 * (i + 1)) C)))
-curves-put l P C at i h g =
-    let rs : List ℕ = flat (curveRecords (take i P) (take (8 * i) C)) in
-    let hd : List ℕ = le 4 68 ++ le 2 3 in
-    let p : ℕ = getD P i 0 in
-    let c8 : List ℕ = take 8 (drop (8 * i) C) in
-    let lf : length (take i P) ≡ i = length-take-le i P (omega arith) in
-    let lc : length (take (8 * i) C) ≡ 8 * i = length-take-le (8 * i) C (omega arith) in
-    let l8 : length c8 ≡ 8 = length-take-le 8 (drop (8 * i) C) (simp length-drop (omega arith)) in
-    let lp : length rs ≡ 72 * i = length-flat (take i P) (take (8 * i) C) (omega arith) ∙ rw lf in
-    let z : 2 + length (le 2 p ++ les c8) ≡ 68 = simp (length-append, length-le, length-les, l8) in
-    let e8 : 8 * i + 8 ≡ 8 * (i + 1) = omega arith in
-    let tc : take (8 * (i + 1)) C ≡ take (8 * i) C ++ c8 = rw (← e8, take-add) in
-    let tf : take (i + 1) P ≡ take i P ++ (p ∷ []) = rw (add-one i, take-suc P i 0) in
-    let all : flat (curveRecords (take (i + 1) P) (take (8 * (i + 1)) C)) ≡ rs ++ framed (rec 3 (le 2 p ++ les c8)) = rw (tf, tc) (curves-snoc (take i P) (take (8 * i) C) c8 p (omega arith) l8) in
-    let spread : rs ++ framed (rec 3 (le 2 p ++ les c8)) ≡ ((rs ++ hd) ++ le 2 p) ++ les c8 = simp (append-assoc, z) in
-    let s1 = sets-append rs hd l at in
-    let s2 = sets-append (rs ++ hd) (le 2 p) l at in
-    let s3 = sets-append ((rs ++ hd) ++ le 2 p) (les c8) l at in
-    let p1 : at + length rs ≡ at + 72 * i = ap (λ (x : ℕ). at + x) lp in
-    let p2 : at + length (rs ++ hd) ≡ at + 72 * i + 6 = simp (length-append, lp, length-le) (omega arith) in
-    let p3 : at + length ((rs ++ hd) ++ le 2 p) ≡ at + 72 * i + 6 + 2 = simp (length-append, lp, length-le) (omega arith) in
-    sym (rw (all, spread) (s3 ∙ rw (p3, s2, p2, s1, p1)))
+-- the mark numbers of one: its first mark alone, or its worst mark too
+pub beside-one : (l : List ℕ) (at : ℕ) (form : Form) (p i : ℕ) (W : List ℕ) → form ≡ Eight → sets l at (le 2 p) ≡ sets l at (le 2 p ++ rowBytes 2 (take (worstMarks form) (drop (worstsFor form i) W)))
+unfolding rowBytes
+beside-one l at form p i W e = rw (e, append-nil)
 
--- eight numbers of all from i on
-pub eight-of : (C : List ℕ) (i : ℕ) → take 8 (take (length C - i) (drop i C)) ≡ take 8 (drop i C)
-eight-of C i = let t : take (length C - i) (drop i C) ≡ drop i C = take-all (length C - i) (drop i C) (simp length-drop (omega arith)) in rw t
+pub beside-two : (l : List ℕ) (at : ℕ) (form : Form) (p i : ℕ) (W : List ℕ) → form ≡ Nine → i < length W
+    → sets (sets l at (le 2 p)) (at + 2) (le 2 (getD W i 0)) ≡ sets l at (le 2 p ++ rowBytes 2 (take (worstMarks form) (drop (worstsFor form i) W)))
+unfolding rowBytes
+beside-two l at form p i W e h = let d : drop i W ≡ getD W i 0 ∷ drop (suc i) W = drop-cons W i 0 h in put-both l at 2 2 p (getD W i 0) ∙ rw (e, d, append-nil)
+
+module _ (form : Form) where
+  -- one record: head, mark numbers, numbers
+  pub curve-put : (l : List ℕ) (at p : ℕ) (W C : List ℕ) → worstMarks form ≤ length W → width form ≤ length C
+      → sets (sets (sets l at (le 4 (2 + bodyBytes form) ++ le 2 (curveKind form))) (at + 6) (le 2 p ++ rowBytes 2 (take (worstMarks form) W))) (at + 6 + 2 * besides form) (les (take (width form) C))
+      ≡ sets l at (framed (rec (curveKind form) (bodyOf form p W C)))
+  curve-put l at p W C hw hc =
+      let hd : List ℕ = le 4 (2 + bodyBytes form) ++ le 2 (curveKind form) in
+      let ms : List ℕ = le 2 p ++ rowBytes 2 (take (worstMarks form) W) in
+      let ns : List ℕ = les (take (width form) C) in
+      let z : length (bodyOf form p W C) ≡ bodyBytes form = length-body form p W C hw hc in
+      let lw : length (take (worstMarks form) W) ≡ worstMarks form = length-take-le (worstMarks form) W hw in
+      let spread : framed (rec (curveKind form) (bodyOf form p W C)) ≡ (hd ++ ms) ++ ns = rw z (simp append-assoc) in
+      let s1 = sets-append hd ms l at in
+      let s2 = sets-append (hd ++ ms) ns l at in
+      let p1 : at + length hd ≡ at + 6 = simp (length-append, length-le) in
+      let p2 : at + length (hd ++ ms) ≡ at + 6 + 2 * besides form = simp (length-append, length-le, length-bytes, lw) (omega arith) in
+      sym (rw spread (s2 ∙ rw (p2, s1, p1)))
+
+  -- one record more
+  curves-snoc : (P W C w c : List ℕ) (p : ℕ) → length W ≡ worstMarks form * length P → length C ≡ width form * length P
+      → flat (curveRecords form (P ++ (p ∷ [])) (W ++ w) (C ++ c)) ≡ flat (curveRecords form P W C) ++ framed (rec (curveKind form) (bodyOf form p w c))
+  unfolding flat curveRecords
+  curves-snoc [] W C w c p hw hc =
+      let eW : W ≡ [] = empty W (omega arith) in
+      let eC : C ≡ [] = empty C (omega arith) in
+      rw (eW, eC, append-nil)
+  curves-snoc (x ∷ P) W C w c p hw hc =
+      let tw : take (worstMarks form) (W ++ w) ≡ take (worstMarks form) W = take-append-le (worstMarks form) W w (omega arith) in
+      let dw : drop (worstMarks form) (W ++ w) ≡ drop (worstMarks form) W ++ w = drop-append-le (worstMarks form) W w (omega arith) in
+      let tc : take (width form) (C ++ c) ≡ take (width form) C = take-append-le (width form) C c (omega arith) in
+      let dc : drop (width form) (C ++ c) ≡ drop (width form) C ++ c = drop-append-le (width form) C c (omega arith) in
+      let i = curves-snoc P (drop (worstMarks form) W) (drop (width form) C) w c p (simp length-drop (omega arith)) (simp length-drop (omega arith)) in
+      rw (tw, dw, tc, dc, i)
+      (sym (append-assoc (framed (rec (curveKind form) (bodyOf form x W C))) (flat (curveRecords form P (drop (worstMarks form) W) (drop (width form) C))) (framed (rec (curveKind form) (bodyOf form p w c)))))
+
+  pub curves-put : (l P W C : List ℕ) (at i : ℕ) → i < length P → worstsFor form (i + 1) ≤ length W → width form * (i + 1) ≤ length C
+      → sets (sets l at (flat (curveRecords form (take i P) (take (worstsFor form i) W) (take (width form * i) C)))) (at + curveBytes form * i)
+      (framed (rec (curveKind form) (bodyOf form (getD P i 0) (drop (worstsFor form i) W) (drop (width form * i) C))))
+      ≡ sets l at (flat (curveRecords form (take (i + 1) P) (take (worstsFor form (i + 1)) W) (take (width form * (i + 1)) C)))
+  curves-put l P W C at i h hw hc =
+      let rs : List ℕ = flat (curveRecords form (take i P) (take (worstsFor form i) W) (take (width form * i) C)) in
+      let p : ℕ = getD P i 0 in
+      let w : List ℕ = take (worstMarks form) (drop (worstsFor form i) W) in
+      let c : List ℕ = take (width form) (drop (width form * i) C) in
+      let ew : worstsFor form i + worstMarks form ≡ worstsFor form (i + 1) = omega (arith, worsts-each form i, worsts-each form (i + 1)) in
+      let ec : width form * i + width form ≡ width form * (i + 1) = omega arith in
+      let lp : length (take i P) ≡ i = length-take-le i P (omega arith) in
+      let lw : length (take (worstsFor form i) W) ≡ worstMarks form * length (take i P) = rw lp (length-take-le (worstsFor form i) W (omega arith) ∙ worsts-each form i) in
+      let lc : length (take (width form * i) C) ≡ width form * length (take i P) = rw lp (length-take-le (width form * i) C (omega arith)) in
+      let lr : length rs ≡ curveBytes form * i = length-flat form (take i P) (take (worstsFor form i) W) (take (width form * i) C) lw lc ∙ rw lp in
+      let tp : take (i + 1) P ≡ take i P ++ (p ∷ []) = rw (add-one i, take-suc P i 0) in
+      let tw : take (worstsFor form (i + 1)) W ≡ take (worstsFor form i) W ++ w = rw (← ew, take-add) in
+      let tc : take (width form * (i + 1)) C ≡ take (width form * i) C ++ c = rw (← ec, take-add) in
+      let sw : take (worstMarks form) w ≡ w = take-all (worstMarks form) w (simp length-take (omega arith)) in
+      let sc : take (width form) c ≡ c = take-all (width form) c (simp length-take (omega arith)) in
+      let fr : List ℕ = framed (rec (curveKind form) (bodyOf form p (drop (worstsFor form i) W) (drop (width form * i) C))) in
+      let all : flat (curveRecords form (take (i + 1) P) (take (worstsFor form (i + 1)) W) (take (width form * (i + 1)) C)) ≡ rs ++ fr =
+      rw (tp, tw, tc) (curves-snoc (take i P) (take (worstsFor form i) W) (take (width form * i) C) w c p lw lc ∙ rw (sw, sc)) in
+      let s = sets-append rs fr l at in
+      sym (rw all (s ∙ rw lr))
+
+-- n numbers of all from i on
+pub some-of : (n : ℕ) (C : List ℕ) (i : ℕ) → take n (take (length C - i) (drop i C)) ≡ take n (drop i C)
+some-of n C i = let t : take (length C - i) (drop i C) ≡ drop i C = take-all (length C - i) (drop i C) (simp length-drop (omega arith)) in rw t
 
 -- ---- kinds 1 and 2, one behind the other
 

@@ -1,4 +1,7 @@
 // Putting a house file together, record after record, where it is known to fit.
+use form::Form;
+use form::width;
+use form::worsts_for;
 use house::bytes::put_eight;
 use house::bytes::put_four;
 use house::bytes::put_two;
@@ -7,27 +10,28 @@ use house::sizes;
 ghost use mathlib.Core.Path.{_≡_};
 ghost use mathlib.Core.Bool.{_&&_};
 ghost use mathlib.Core.List.{_++_, _∷_, []};
-ghost use Prim.Native.Nat.{_+_, _*_, _/_, _%_, _≤_};
-ghost use lib.ListN.{length, take};
+ghost use Prim.Native.Nat.{_+_, _*_, _/_, _%_, _<_, _≤_};
+ghost use lib.ListN.{length, take, drop, getD};
 ghost use lib.Seq.{sets};
-ghost use Rattle.house.specs.Limits.{lengthField, kindField, firstField, numberField, markNumbers, curveNumbers, headBytes, curveBytes, marksAt, toleranceKind, marksKind};
-ghost use Rattle.house.specs.Bytes.{le, les, allFit};
-ghost use Rattle.house.specs.File.{rec, flat, curveRecords, bytesOf, fewer};
+ghost use Rattle.form.specs.Form.{width, worstsFor};
+ghost use Rattle.house.specs.Limits.{lengthField, kindField, markField, numberField, markNumbers, worstMarks, besides, headBytes, curveBytes, marksAt, toleranceKind, marksKind, curveKind};
+ghost use Rattle.house.specs.Bytes.{le, rowBytes, les, allFit};
+ghost use Rattle.house.specs.File.{rec, framed, flat, bodyOf, curveRecords, bytesOf, fewer};
 ghost use Rattle.house.specs.Layout.{Room};
 ghost use Rattle.float.specs.Slices.{written};
-ghost use Rattle.writer.specs.Writer.{fileFor};
+ghost use Rattle.writer.specs.Writer.{fileFor, marksFit};
 
-// The first number that a first mark's field does not hold.
-const FIRST_TOP: u32 = 65536;
+// The first number that the field of a mark's number does not hold.
+const MARK_TOP: u32 = 65536;
 
-// Whether the first k first marks fit their field.
-fn firsts_fit(firsts: &[u32], k: usize) -> bool
-    requires { ⌜ k ≤ length (now firsts) ⌝ }
-    ensures { λ r. ⌜ r ≡ allFit firstField (take k (now (firsts .entry))) ⌝ }
+// Whether the first k mark numbers fit their field.
+fn marks_fit(marks: &[u32], k: usize) -> bool
+    requires { ⌜ k ≤ length (now marks) ⌝ }
+    ensures { λ r. ⌜ r ≡ allFit markField (take k (now (marks .entry))) ⌝ }
 {
     let mut i = 0;
     while i < k {
-        if firsts[i] >= FIRST_TOP {
+        if marks[i] >= MARK_TOP {
             return false;
         }
         i += 1;
@@ -35,10 +39,10 @@ fn firsts_fit(firsts: &[u32], k: usize) -> bool
     true
 }
 
-// Whether a file can hold k curves, with these first marks, beside n marks.
-pub fn can_hold(n: usize, k: usize, firsts: &[u32]) -> bool
-    requires { ⌜ k ≤ length (now firsts) ⌝ }
-    ensures { λ r. ⌜ r ≡ fewer k n && allFit firstField (take k (now (firsts .entry))) ⌝ }
+// Whether a file can hold k curves, with these first and worst marks, beside n marks.
+pub fn can_hold(form: Form, n: usize, k: usize, firsts: &[u32], worsts: &[u32]) -> bool
+    requires { ⌜ (k ≤ length (now firsts)) × (worstsFor form k ≤ length (now worsts)) ⌝ }
+    ensures { λ r. ⌜ r ≡ fewer k n && (marksFit form k (now (firsts .entry)) (now (worsts .entry))) ⌝ }
 {
     if k == 0 {
         return true;
@@ -46,7 +50,10 @@ pub fn can_hold(n: usize, k: usize, firsts: &[u32]) -> bool
     if n <= k {
         return false;
     }
-    firsts_fit(firsts, k)
+    if marks_fit(firsts, k) {
+        return marks_fit(worsts, worsts_for(form, k));
+    }
+    false
 }
 
 // A record's length and kind, at `at`.
@@ -71,41 +78,77 @@ fn put_marks(out: &mut [u8], tolerance: u64, marks: &[u64])
     put_words(out, sizes::MARKS_AT, marks, len);
 }
 
-// Records of kind 3 for the first k curves, at `at`.
-fn put_curves(out: &mut [u8], at: usize, firsts: &[u32], curves: &[u64], k: usize)
-    requires { ⌜ (at + curveBytes * k ≤ length (now out)) × ((k ≤ length (now firsts)) × (curveNumbers * k ≤ length (now curves))) ⌝ }
-    ensures { λ _. ⌜ now (out .exit) ≡ sets (now (out .entry)) at (flat (curveRecords (take k (now (firsts .entry))) (take (curveNumbers * k) (now (curves .entry))))) ⌝ }
+// The mark numbers of curve i, at `at`: its first mark, and its worst mark where it is kept.
+fn put_beside(out: &mut [u8], at: usize, form: Form, firsts: &[u32], worsts: &[u32], i: usize)
+    requires { ⌜ (at + markField * besides form ≤ length (now out)) × ((i < length (now firsts)) × (worstsFor form (i + 1) ≤ length (now worsts))) ⌝ }
+    ensures { λ _. ⌜ now (out .exit) ≡ sets (now (out .entry)) at (le markField (getD (now (firsts .entry)) i 0) ++ rowBytes markField (take (worstMarks form) (drop (worstsFor form i) (now (worsts .entry))))) ⌝ }
 {
+    put_two(out, at, firsts[i] as u64);
+    let Form::Nine = form else {
+        return;
+    };
+    put_two(out, at + sizes::MARK_FIELD, worsts[i] as u64);
+}
+
+// The record of curve i, at `at`.
+fn put_curve(
+    out: &mut [u8],
+    at: usize,
+    form: Form,
+    firsts: &[u32],
+    worsts: &[u32],
+    curves: &[u64],
+    i: usize,
+)
+    requires { ⌜ (at + curveBytes form ≤ length (now out)) × ((i < length (now firsts)) × ((worstsFor form (i + 1) ≤ length (now worsts)) × (width form * (i + 1) ≤ length (now curves)))) ⌝ }
+    ensures { λ _. ⌜ now (out .exit) ≡ sets (now (out .entry)) at (framed (rec (curveKind form) (bodyOf form (getD (now (firsts .entry)) i 0) (drop (worstsFor form i) (now (worsts .entry))) (drop (width form * i) (now (curves .entry)))))) ⌝ }
+{
+    let size = sizes::KIND_FIELD + sizes::body_bytes(form);
+    put_head(out, at, size as u64, sizes::curve_kind(form));
+    let body = at + sizes::HEAD_BYTES;
+    put_beside(out, body, form, firsts, worsts, i);
+    let numbers = body + sizes::beside_bytes(form);
+    let n = width(form);
+    let j = n * i;
+    put_words(out, numbers, &curves[j..], n);
+}
+
+// The records of the first k curves, at `at`.
+fn put_curves(
+    out: &mut [u8],
+    at: usize,
+    form: Form,
+    firsts: &[u32],
+    worsts: &[u32],
+    curves: &[u64],
+    k: usize,
+)
+    requires { ⌜ (at + curveBytes form * k ≤ length (now out)) × ((k ≤ length (now firsts)) × ((worstsFor form k ≤ length (now worsts)) × (width form * k ≤ length (now curves)))) ⌝ }
+    ensures { λ _. ⌜ now (out .exit) ≡ sets (now (out .entry)) at (flat (curveRecords form (take k (now (firsts .entry))) (take (worstsFor form k) (now (worsts .entry))) (take (width form * k) (now (curves .entry))))) ⌝ }
+{
+    let step = sizes::HEAD_BYTES + sizes::body_bytes(form);
     let mut i = 0;
     while i < k {
-        let head = at + sizes::CURVE_BYTES * i;
-        put_head(out, head, sizes::CURVE_LENGTH, sizes::CURVE_KIND);
-        let body = head + sizes::HEAD_BYTES;
-        put_two(out, body, firsts[i] as u64);
-        let j = sizes::CURVE_NUMBERS * i;
-        put_words(
-            out,
-            body + sizes::FIRST_FIELD,
-            &curves[j..],
-            sizes::CURVE_NUMBERS,
-        );
+        put_curve(out, at + step * i, form, firsts, worsts, curves, i);
         i += 1;
     }
 }
 
 // The whole file, in the first bytes, which have room for it.
 pub fn put_file(
+    form: Form,
     tolerance: u64,
     marks: &[u64],
     k: usize,
     firsts: &[u32],
+    worsts: &[u32],
     curves: &[u64],
     params: &[u64],
     out: &mut [u8],
 )
     requires { ⌜ length (now marks) % markNumbers ≡ 0 ⌝ }
-    requires { ⌜ Room (length (now marks) / markNumbers) k (now out) (now marks) (now firsts) (now curves) (now params) ⌝ }
-    ensures { λ _. ⌜ now (out .exit) ≡ written (bytesOf (fileFor tolerance (now (marks .entry)) k (now (firsts .entry)) (now (curves .entry)) (now (params .entry)))) (now (out .entry)) ⌝ }
+    requires { ⌜ Room form (length (now marks) / markNumbers) k (now out) (now marks) (now firsts) (now worsts) (now curves) (now params) ⌝ }
+    ensures { λ _. ⌜ now (out .exit) ≡ written (bytesOf (fileFor form tolerance (now (marks .entry)) k (now (firsts .entry)) (now (worsts .entry)) (now (curves .entry)) (now (params .entry)))) (now (out .entry)) ⌝ }
 {
     put_marks(out, tolerance, marks);
     if k == 0 {
@@ -113,8 +156,8 @@ pub fn put_file(
     }
     let n = marks.len() / sizes::MARK_NUMBERS;
     let end = sizes::MARKS_AT + sizes::MARK_BYTES * n;
-    put_curves(out, end, firsts, curves, k);
-    let last = end + sizes::CURVE_BYTES * k;
+    put_curves(out, end, form, firsts, worsts, curves, k);
+    let last = end + (sizes::HEAD_BYTES + sizes::body_bytes(form)) * k;
     let size = sizes::KIND_FIELD + sizes::NUMBER_FIELD * n;
     put_head(out, last, size as u64, sizes::PARAMS_KIND);
     put_words(out, last + sizes::HEAD_BYTES, params, n);

@@ -12,8 +12,8 @@ use Rattle.blocks.proofs.fit_round.Statement.{statement}
 use Rattle.blocks.proofs.fit_round.Tie as tie
 
 -- the front of the array
-abbrev front : (c : tie.After-lay-round) → take (2 * length (c .before .before .before .before .before .before .before .args .params .now)) (c .lay-round .last .1 .1 .0) ≡ drop (2 * c .before .before .before .before .before .before .before .args .from) (whole Closed (c .before .before .before .before .before .before .before .args .marks .now))
-front c = laid-front _ _ _ (c .lay-round .ensures) (c .before .before .before .before .before .before .before .pre .1 .even)
+abbrev front : (c : tie.After-lay-round) → take (2 * length (c .before .before .before .before .before .before .before .before .args .params .now)) (c .lay-round .last .1 .1 .0) ≡ drop (2 * c .before .before .before .before .before .before .before .before .args .from) (whole Closed (c .before .before .before .before .before .before .before .before .args .marks .now))
+front c = laid-front _ _ _ (c .lay-round .ensures) (c .before .before .before .before .before .before .before .before .pre .1 .even)
 
 block-room-requires : tie.Need-block-room-requires
 block-room-requires c κs = search needs
@@ -34,7 +34,7 @@ slice-aggregate-fit-part : tie.Need-slice-aggregate-fit-part
 slice-aggregate-fit-part c = sym (length-take-le _ _ (omega (arith, c .before .before .lay-round .kept .1 .1 .0)))
 
 fit-part-requires : tie.Need-fit-part-requires
-fit-part-requires c κs = same-room _ _ (c .before .before .before .before .before .before .before .before .before .before .before .before .args .from) _ _ _ (sym (front (c .before .before .before .before .before))) (c .before .before .before .before .before .before .before .before .before .before .before .before .pre .1)
+fit-part-requires c κs = same-room _ _ (c .before .before .before .before .before .before .before .before .before .before .before .before .before .before .args .from) _ _ _ _ (sym (front (c .before .before .before .before .before .before))) (c .before .before .before .before .before .before .before .before .before .before .before .before .before .before .pre .1)
 
 same-length : tie.Need-same-length
 same-length c = search needs
@@ -45,8 +45,11 @@ same-length-2 c = search needs
 same-length-3 : tie.Need-same-length-3
 same-length-3 c = search needs
 
+same-length-4 : tie.Need-same-length-4
+same-length-4 c = search needs
+
 returns : tie.Need-returns
-returns c = same-marks _ _ (c .before .before .before .before .before .before .before .before .before .before .before .before .before .before .before .before .before .before .before .args .from) (c .before .before .before .before .before .before .before .before .before .before .before .before .before .before .before .before .before .before .before .args .start) (c .before .before .before .before .before .before .before .before .before .before .before .before .before .before .before .before .before .before .before .args .end) (c .before .before .before .before .before .before .before .before .before .before .before .before .before .before .before .before .before .before .before .args .tolerance) _ _ _ _ _ _ (front (c .before .before .before .before .before .before .before .before .before .before .before .before)) (c .before .before .before .before .before .before .fit-part .ensures)
+returns c = same-marks _ _ (c .before .before .before .before .before .before .before .before .before .before .before .before .before .before .before .before .before .before .before .before .before .before .before .args .from) (c .before .before .before .before .before .before .before .before .before .before .before .before .before .before .before .before .before .before .before .before .before .before .before .args .start) (c .before .before .before .before .before .before .before .before .before .before .before .before .before .before .before .before .before .before .before .before .before .before .before .args .end) (c .before .before .before .before .before .before .before .before .before .before .before .before .before .before .before .before .before .before .before .before .before .before .before .args .tolerance) _ _ _ _ _ _ _ _ (front (c .before .before .before .before .before .before .before .before .before .before .before .before .before .before .before)) (c .before .before .before .before .before .before .before .before .fit-part .ensures)
 
 pub fit-round-spec : {M : Type 1} → statement M
 fit-round-spec =
@@ -62,4 +65,5 @@ fit-round-spec =
     same-length
     same-length-2
     same-length-3
+    same-length-4
     returns)

@@ -7,10 +7,10 @@ use Rattle.check_cases.proofs.damage_numbers.Statement.{statement}
 use Rattle.check_cases.proofs.damage_numbers.Tie as tie
 
 abbrev Inv-loop : tie.InvT-loop
-Inv-loop all₀ firsts s n kind t₀ i₀ all t i = length all ≡ length all₀
+Inv-loop all₀ beside s n kind t₀ i₀ all t i = length all ≡ length all₀
 
 abbrev μ-loop : tie.MeasureT-loop
-μ-loop all₀ firsts s n kind t₀ i₀ all t i = n - i
+μ-loop all₀ beside s n kind t₀ i₀ all t i = n - i
 
 nothing-requires : tie.Need-nothing-requires Inv-loop μ-loop
 nothing-requires c κs = search needs

@@ -5,10 +5,10 @@ use Rattle.check_cases.proofs.damage_sizes.Statement.{statement}
 use Rattle.check_cases.proofs.damage_sizes.Tie as tie
 
 abbrev Inv-loop : tie.InvT-loop
-Inv-loop all firsts s t₀ kind₀ t kind = kind ≤ 12
+Inv-loop all beside s t₀ kind₀ t kind = kind ≤ 13
 
 abbrev μ-loop : tie.MeasureT-loop
-μ-loop all firsts s t₀ kind₀ t kind = 12 - kind
+μ-loop all beside s t₀ kind₀ t kind = 13 - kind
 
 nothing-requires : tie.Need-nothing-requires Inv-loop μ-loop
 nothing-requires c κs = search needs

@@ -7,10 +7,10 @@ use Rattle.check_cases.proofs.every_number.Statement.{statement}
 use Rattle.check_cases.proofs.every_number.Tie as tie
 
 abbrev Inv-loop : tie.InvT-loop
-Inv-loop all₀ firsts s n kind₀ all kind = (kind ≤ 4) × (length all ≡ length all₀)
+Inv-loop all₀ beside s n kind₀ all kind = (kind ≤ 4) × (length all ≡ length all₀)
 
 abbrev μ-loop : tie.MeasureT-loop
-μ-loop all₀ firsts s n kind₀ all kind = 4 - kind
+μ-loop all₀ beside s n kind₀ all kind = 4 - kind
 
 loop-holds : tie.Need-loop-holds Inv-loop μ-loop
 loop-holds c = search needs

@@ -1,26 +1,25 @@
 -- `checker::check_marks` meets its contract. Assumes nothing.
 use Prim.Native.Nat.{_-_}
 use native.Mathlib.Omega.{arith}
-use mathlib.Core.Path.{refl, ap}
+use mathlib.Core.Path.{refl}
 use borrow.Author.Needs.{needs}
 use borrow.Author.Tests.{not-true, not-false}
 use lib.ListN.{length}
-use Rattle.float.specs.Answer.{ok}
-use Rattle.checker.specs.Check.{checkedAnswer, inTurn}
+use Rattle.faults.specs.Tests.{farther}
+use Rattle.checker.specs.Check.{inTurn}
 use Rattle.checker.proofs.Under.{Faultless, fault-c, fault-d, faultless, faultless-end}
-use Rattle.checker.proofs.Turns.{by-fault}
 use Rattle.checker.proofs.check_marks.Statement.{statement}
 use Rattle.checker.proofs.check_marks.Tie as tie
 
 abbrev Inv-loop : tie.InvT-loop
-Inv-loop under params n j first from c tolerance i₀ i = Faultless tolerance n j first from c under params i
+Inv-loop under params n j first from c tolerance far₀ i₀ far i = Faultless tolerance n j first from c under params far₀ far i
 
 abbrev μ-loop : tie.MeasureT-loop
-μ-loop under params n j first from c tolerance i₀ i = length params - i
+μ-loop under params n j first from c tolerance far₀ i₀ far i = length params - i
 
 loop-holds : tie.Need-loop-holds Inv-loop μ-loop
-unfolding inTurn
-loop-holds c = (omega arith, refl)
+unfolding inTurn farther
+loop-holds c = (omega arith, refl, refl)
 
 mul-t : tie.Need-mul-t Inv-loop μ-loop
 mul-t c = search needs
@@ -38,16 +37,26 @@ fault-c-requires : tie.Need-fault-c-requires Inv-loop μ-loop
 fault-c-requires c κs = search needs
 
 returns : tie.Need-returns Inv-loop μ-loop
-returns c = by-fault (c .fault-c .ensures) (fault-c (c .before .before .before .before .before .before .before .before .args .tolerance) (c .before .before .before .before .before .before .before .before .args .n) (c .before .before .before .before .before .before .before .before .args .j) (c .before .before .before .before .before .before .before .before .args .first) (c .before .before .before .before .before .before .before .before .args .from) (c .before .before .before .before .before .before .before .before .args .c) (c .before .before .before .before .before .before .before .before .args .under .now) (c .before .before .before .before .before .before .before .before .args .params .now) (c .before .before .before .before .before .loop .i) (c .before .before .before .before .before .loop .inv) (c .before .before .before .before .loop-test .taken) (c .before .before .is-timed .result) (c .before .before .is-timed .ensures) (not-true _ (c .before .if1 .taken)))
+returns c =
+    let a = c .before .before .before .before .before .before .before .before .args in
+    fault-c (a .tolerance) (a .n) (a .j) (a .first) (a .from) (a .c) (a .under .now) (a .params .now) _ (c .before .before .before .before .before .loop .far) (c .before .before .before .before .before .loop .i) (c .before .before .before .before .before .loop .inv) (c .before .before .before .before .loop-test .taken) (c .before .before .is-timed .result) (c .before .before .is-timed .ensures) (c .fault-c .ensures) (not-true _ (c .before .if1 .taken))
+
+error-at-requires : tie.Need-error-at-requires Inv-loop μ-loop
+error-at-requires c κs = omega arith
 
 is-near-requires : tie.Need-is-near-requires Inv-loop μ-loop
-is-near-requires c κs = omega arith
+is-near-requires c κs = search needs
 
 fault-d-requires : tie.Need-fault-d-requires Inv-loop μ-loop
 fault-d-requires c κs = search needs
 
 returns-2 : tie.Need-returns-2 Inv-loop μ-loop
-returns-2 c = by-fault (c .fault-d .ensures) (fault-d (c .before .before .before .before .before .before .before .before .before .before .args .tolerance) (c .before .before .before .before .before .before .before .before .before .before .args .n) (c .before .before .before .before .before .before .before .before .before .before .args .j) (c .before .before .before .before .before .before .before .before .before .before .args .first) (c .before .before .before .before .before .before .before .before .before .before .args .from) (c .before .before .before .before .before .before .before .before .before .before .args .c) (c .before .before .before .before .before .before .before .before .before .before .args .under .now) (c .before .before .before .before .before .before .before .before .before .before .args .params .now) (c .before .before .before .before .before .before .before .loop .i) (c .before .before .before .before .before .before .before .loop .inv) (c .before .before .before .before .before .before .loop-test .taken) (c .before .before .before .before .is-timed .result) (c .before .before .before .before .is-timed .ensures) (not-false _ (c .before .before .before .if1 .left)) (c .before .before .is-near .result) (c .before .before .is-near .ensures) (not-true _ (c .before .if2 .taken)))
+returns-2 c =
+    let a = c .before .before .before .before .before .before .before .before .before .before .before .args in
+    fault-d (a .tolerance) (a .n) (a .j) (a .first) (a .from) (a .c) (a .under .now) (a .params .now) _ (c .before .before .before .before .before .before .before .before .loop .far) (c .before .before .before .before .before .before .before .before .loop .i) (c .before .before .before .before .before .before .before .before .loop .inv) (c .before .before .before .before .before .before .before .loop-test .taken) (c .before .before .before .before .before .is-timed .result) (c .before .before .before .before .before .is-timed .ensures) (not-false _ (c .before .before .before .before .if1 .left)) (c .before .before .before .error-at .result) (c .before .before .before .error-at .ensures) (c .before .before .is-near .result) (c .before .before .is-near .ensures) (c .fault-d .ensures) (not-true _ (c .before .if2 .taken))
+
+larger-requires : tie.Need-larger-requires Inv-loop μ-loop
+larger-requires c κs = search needs
 
 add-i : tie.Need-add-i Inv-loop μ-loop
 add-i c = omega arith
@@ -56,11 +65,14 @@ loop-less : tie.Need-loop-less Inv-loop μ-loop
 loop-less c = omega arith
 
 loop-again : tie.Need-loop-again Inv-loop μ-loop
-loop-again c = faultless (c .before .before .before .before .before .before .before .before .before .args .tolerance) (c .before .before .before .before .before .before .before .before .before .args .n) (c .before .before .before .before .before .before .before .before .before .args .j) (c .before .before .before .before .before .before .before .before .before .args .first) (c .before .before .before .before .before .before .before .before .before .args .from) (c .before .before .before .before .before .before .before .before .before .args .c) (c .before .before .before .before .before .before .before .before .before .args .under .now) (c .before .before .before .before .before .before .before .before .before .args .params .now) (c .before .before .before .before .before .before .loop .i) (c .before .before .before .before .before .before .loop .inv) (c .before .before .before .before .before .loop-test .taken) (c .before .before .before .is-timed .result) (c .before .before .before .is-timed .ensures) (not-false _ (c .before .before .if1 .left)) (c .before .is-near .result) (c .before .is-near .ensures) (not-false _ (c .if2 .left))
+loop-again c =
+    let a = c .before .before .before .before .before .before .before .before .before .before .before .args in
+    faultless (a .tolerance) (a .n) (a .j) (a .first) (a .from) (a .c) (a .under .now) (a .params .now) _ (c .before .before .before .before .before .before .before .before .loop .far) (c .before .before .before .before .before .before .before .before .loop .i) (c .before .before .before .before .before .before .before .before .loop .inv) (c .before .before .before .before .before .before .before .loop-test .taken) (c .before .before .before .before .before .is-timed .result) (c .before .before .before .before .before .is-timed .ensures) (not-false _ (c .before .before .before .before .if1 .left)) (c .before .before .before .error-at .result) (c .before .before .before .error-at .ensures) (c .before .before .is-near .result) (c .before .before .is-near .ensures) (not-false _ (c .before .if2 .left)) _ (c .larger .ensures)
 
 returns-3 : tie.Need-returns-3 Inv-loop μ-loop
-unfolding checkedAnswer
-returns-3 c = ap ok (faultless-end (c .before .before .before .before .args .tolerance) (c .before .before .before .before .args .n) (c .before .before .before .before .args .j) (c .before .before .before .before .args .first) (c .before .before .before .before .args .from) (c .before .before .before .before .args .c) (c .before .before .before .before .args .under .now) (c .before .before .before .before .args .params .now) (c .before .loop .i) (c .before .loop .inv) (c .loop-test .left))
+returns-3 c =
+    let a = c .before .before .before .before .args in
+    faultless-end (a .tolerance) (a .n) (a .j) (a .first) (a .from) (a .c) (a .under .now) (a .params .now) _ (c .before .loop .far) (c .before .loop .i) (c .before .loop .inv) (c .loop-test .left)
 
 pub check-marks-spec : {M : Type 1} → statement M
 check-marks-spec =
@@ -75,9 +87,11 @@ check-marks-spec =
     is-timed-requires
     fault-c-requires
     returns
+    error-at-requires
     is-near-requires
     fault-d-requires
     returns-2
+    larger-requires
     add-i
     loop-less
     loop-again

@@ -1,13 +1,16 @@
 -- `checker::check_under` meets its contract. Assumes nothing.
 use borrow.Author.Needs.{needs}
 use native.Mathlib.Omega.{arith}
-use mathlib.Core.Path.{refl}
+use mathlib.Core.Path.{_≡_, refl, sym, _∙_}
 use Prim.Native.Nat.{_-_}
 use Rattle.marks.specs.Marks.{count}
-use Rattle.checker.proofs.Turns.{passed-is}
-use Rattle.checker.proofs.Walks.{walk-asks, walk-given, walk-halted, walk-again}
+use Rattle.checker.proofs.Walks.{over, walk-asks, walk-given, walk-halted, walk-again}
 use Rattle.checker.proofs.check_under.Statement.{statement}
 use Rattle.checker.proofs.check_under.Tie as tie
+
+-- the walk over the marks given, where mark 0 counts again
+abbrev entry : tie.After-check-marks2 → tie.Start
+entry s = s .before .before .before .before .before .before
 
 marks-under-requires : tie.Need-marks-under-requires
 marks-under-requires c κs = search needs
@@ -36,6 +39,12 @@ returns c =
     let h = c .before .before .before .before .before .before .pre in
     walk-given (a .tolerance) (a .n) (a .j) (a .first) (a .c) (a .marks .now) (a .params .now) (a .stop) _ _ (c .before .before .marks-under .ensures) refl (omega arith) (h .params) (c .check-marks .ensures)
 
+most : (s : tie.After-check-marks2) → let a = entry s .args in s .check-marks2 .result ≡ over (a .tolerance) (a .n) (a .j) (a .first) (a .c) (a .marks .now) (a .params .now) (count (a .marks .now) - a .first)
+most s =
+    let a = entry s .args in
+    let h = entry s .pre in
+    walk-given (a .tolerance) (a .n) (a .j) (a .first) (a .c) (a .marks .now) (a .params .now) (count (a .marks .now)) _ _ (s .before .before .marks-under2 .ensures) refl (omega arith) (omega arith) (s .check-marks2 .ensures)
+
 marks-under-requires-2 : tie.Need-marks-under-requires-2
 marks-under-requires-2 c κs = search needs
 
@@ -57,14 +66,18 @@ check-marks-requires-2 c κs =
     let h = c .before .before .before .before .before .pre in
     walk-asks (a .n) (a .first) (count (a .marks .now)) _ _ (a .marks .now) (a .params .now) _ _ (c .before .marks-under2 .ensures) refl refl (h .given) (omega arith) (omega arith) (omega arith)
 
+enum-known-walked : tie.Need-enum-known-walked
+enum-known-walked c = search needs
+
 enum-told : tie.Need-enum-told
 enum-told c = search needs
 
 returns-2 : tie.Need-returns-2
 returns-2 c =
-    let a = c .before .before .before .before .before .before .before .args in
-    let h = c .before .before .before .before .before .before .before .pre in
-    walk-halted (a .tolerance) (a .n) (a .j) (a .first) (a .c) (a .marks .now) (a .params .now) (a .stop) (h .given) (omega arith) (c .before .check-marks2 .result) (walk-given (a .tolerance) (a .n) (a .j) (a .first) (a .c) (a .marks .now) (a .params .now) (count (a .marks .now)) _ _ (c .before .before .before .marks-under2 .ensures) refl (omega arith) (omega arith) (c .before .check-marks2 .ensures)) (c .match .keys2)
+    let s = c .before .before in
+    let a = entry s .args in
+    let h = entry s .pre in
+    c .enum-told .given .1 ∙ walk-halted (a .tolerance) (a .n) (a .j) (a .first) (a .c) (a .marks .now) (a .params .now) (a .stop) (h .given) (omega arith) (most s) (c .enum-told .given .1)
 
 sub-last : tie.Need-sub-last
 sub-last c = search needs
@@ -92,15 +105,16 @@ part-check-marks-end-3 c = search needs
 
 check-marks-requires-3 : tie.Need-check-marks-requires-3
 check-marks-requires-3 c κs =
-    let a = c .before .before .before .before .before .before .before .before .before .before .args in
-    let h = c .before .before .before .before .before .before .before .before .before .before .pre in
+    let a = c .before .before .before .before .before .before .before .before .before .before .before .args in
+    let h = c .before .before .before .before .before .before .before .before .before .before .before .pre in
     walk-asks (a .n) (a .stop - 1) (a .stop) (a .stop - 1 - count (a .marks .now)) (a .stop - count (a .marks .now)) (a .marks .now) (a .params .now) _ _ (c .before .marks-under3 .ensures) refl (omega arith) (omega arith) (h .within) (omega arith) (h .params)
 
 returns-3 : tie.Need-returns-3
 returns-3 c =
-    let a = c .before .before .before .before .before .before .before .before .before .before .before .args in
-    let h = c .before .before .before .before .before .before .before .before .before .before .before .pre in
-    walk-again (a .tolerance) (a .n) (a .j) (a .first) (a .c) (a .marks .now) (a .params .now) (a .stop) (h .given) (omega arith) (h .even) _ _ _ (omega arith) (c .before .before .marks-under3 .ensures) refl (h .params) (passed-is (walk-given (a .tolerance) (a .n) (a .j) (a .first) (a .c) (a .marks .now) (a .params .now) (count (a .marks .now)) _ _ (c .before .before .before .before .before .before .before .marks-under2 .ensures) refl (omega arith) (omega arith) (c .before .before .before .before .before .check-marks2 .ensures)) (c .before .before .before .enum-told .given .1)) (c .check-marks3 .ensures)
+    let s = c .before .before .before .before .before .before in
+    let a = entry s .args in
+    let h = entry s .pre in
+    walk-again (a .tolerance) (a .n) (a .j) (a .first) (a .c) (a .marks .now) (a .params .now) (a .stop) (h .given) (omega arith) (h .even) _ _ _ (omega arith) (c .before .before .marks-under3 .ensures) refl (h .params) (sym (most s) ∙ c .before .before .before .before .walked .given .1) (c .check-marks3 .ensures)
 
 pub check-under-spec : {M : Type 1} → statement M
 check-under-spec =
@@ -119,6 +133,7 @@ check-under-spec =
     part-check-marks-start-2
     part-check-marks-end-2
     check-marks-requires-2
+    enum-known-walked
     enum-told
     returns-2
     sub-last

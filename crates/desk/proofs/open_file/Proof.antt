@@ -23,10 +23,13 @@ same-length-3 c = search needs
 same-length-4 : tie.Need-same-length-4
 same-length-4 c = search needs
 
+same-length-5 : tie.Need-same-length-5
+same-length-5 c = search needs
+
 returns-2 : tie.Need-returns-2
 returns-2 c =
-    let s = c .before .before .before .before .before .before .before .before .before .before .before .before .before .before .before .before .before .before .before in
-    as-read (s .args .file .now) (s .args .marks .now) (s .args .firsts .now) (s .args .curves .now) (s .args .params .now) (omega arith) (s .pre) (c .before .before .before .before .before .before .before .before .read-file .ensures)
+    let s = c .before .before .before .before .before .before .before .before .before .before .before .before .before .before .before .before .before .before .before .before .before .before .before in
+    as-read (s .args .file .now) (s .args .marks .now) (s .args .firsts .now) (s .args .worsts .now) (s .args .curves .now) (s .args .params .now) (omega arith) (s .pre) (c .before .before .before .before .before .before .before .before .before .before .read-file .ensures)
 
 pub open-file-spec : {M : Type 1} → statement M
 open-file-spec =
@@ -38,4 +41,5 @@ open-file-spec =
     same-length-2
     same-length-3
     same-length-4
+    same-length-5
     returns-2)

@@ -5,7 +5,7 @@ use Prim.Native.Nat.{_-_, _<_, _≤_}
 use native.Mathlib.Omega.{arith}
 use borrow.Author.Needs.{needs}
 use lib.ListN.{length, drop, length-set}
-use Rattle.house.specs.Bytes.{words}
+use Rattle.house.specs.Bytes.{row, words}
 use Rattle.desk.specs.Desk.{floats}
 use Rattle.file_fit.proofs.Turns.{length-floats, floats-turn}
 use Rattle.file_fit.proofs.copy_numbers.Statement.{statement}
@@ -18,7 +18,7 @@ abbrev μ-loop : tie.MeasureT-loop
 μ-loop b at n out₀ i₀ out i = n - i
 
 loop-holds : tie.Need-loop-holds Inv-loop μ-loop
-unfolding words
+unfolding row
 loop-holds c = (omega arith, (refl, refl))
 
 mul-eight : tie.Need-mul-eight Inv-loop μ-loop

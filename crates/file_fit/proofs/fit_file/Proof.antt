@@ -10,6 +10,9 @@ use Rattle.file_fit.proofs.fit_file.Tie as tie
 mark-room-requires : tie.Need-mark-room-requires
 mark-room-requires c κs = search needs
 
+worst-room-requires : tie.Need-worst-room-requires
+worst-room-requires c κs = search needs
+
 param-room-requires : tie.Need-param-room-requires
 param-room-requires c κs = search needs
 
@@ -37,6 +40,9 @@ slice-aggregate-fit-joined c = sym (length-take-le _ _ (omega (arith, c .before 
 slice-aggregate-fit-joined-2 : tie.Need-slice-aggregate-fit-joined-2
 slice-aggregate-fit-joined-2 c = search needs
 
+slice-aggregate-fit-joined-3 : tie.Need-slice-aggregate-fit-joined-3
+slice-aggregate-fit-joined-3 c = search needs
+
 fit-joined-requires : tie.Need-fit-joined-requires
 fit-joined-requires c κs = search needs
 
@@ -48,14 +54,15 @@ same-length-2 c = search needs
 
 returns : tie.Need-returns
 returns c =
-    let a = c .before .before .before .before .before .before .before .before .before .before .before .before .before .before .before .before .before .before .before .before .args in
-    fit-left (a .file .now) (a .n) (a .curves .now) (a .firsts .now) _ _ _ _ _ _ _ _ _ (c .before .before .before .before .before .before .before .before .before .before .before .before .before .copy-numbers .ensures) (c .before .before .before .before .before .before .before .before .before .before .before .eight .ensures) (c .before .before .before .before .before .before .before .before .before .before .of-bits .ensures) (c .before .before .before .before .before .before .before .before .before .before .before .before .before .before .before .param-room .ensures .1) (c .before .before .before .before .before .fit-joined .ensures)
+    let a = c .before .before .before .before .before .before .before .before .before .before .before .before .before .before .before .before .before .before .before .before .before .before .before .args in
+    fit-left (a .file .now) (a .n) (a .curves .now) (a .firsts .now) _ _ _ _ _ _ _ _ _ _ _ (c .before .before .before .before .before .before .before .before .before .before .before .before .before .before .before .copy-numbers .ensures) (c .before .before .before .before .before .before .before .before .before .before .before .before .before .eight .ensures) (c .before .before .before .before .before .before .before .before .before .before .before .before .of-bits .ensures) (c .before .before .before .before .before .before .before .before .before .before .before .before .before .before .before .before .before .before .worst-room .ensures .1) (c .before .before .before .before .before .before .before .before .before .before .before .before .before .before .before .before .before .param-room .ensures .1) (c .before .before .before .before .before .before .fit-joined .ensures)
 
 pub fit-file-spec : {M : Type 1} → statement M
 fit-file-spec =
     tie.close
     (tie.spec
     mark-room-requires
+    worst-room-requires
     param-room-requires
     mul-m
     slice-aggregate-copy-numbers
@@ -65,6 +72,7 @@ fit-file-spec =
     array-share-prefix-marks
     slice-aggregate-fit-joined
     slice-aggregate-fit-joined-2
+    slice-aggregate-fit-joined-3
     fit-joined-requires
     same-length
     same-length-2

@@ -23,7 +23,7 @@ use Rattle.fit.proofs.fit_cut.Tie as tie
 -- ---- what is known at each place
 
 abbrev first : tie.After-gate → tie.Start
-first c = c .before .before .before .before .before .before
+first c = c .before .before .before .before .before .before .before
 
 abbrev outline : tie.After-gate → Outline
 outline c = outlineOf (first c .args .cutting)
@@ -31,15 +31,15 @@ outline c = outlineOf (first c .args .cutting)
 abbrev marks : tie.After-gate → List Float
 marks c = marksOf (first c .args .cutting) (first c .args .marks .now)
 
-abbrev tested : (c : tie.After-gate) → c .gate .result ≡ gateOf 4096 (outline c) (first c .args .marks .now) (first c .args .tolerance) (length (first c .args .curves .now)) (length (first c .args .firsts .now)) (length (first c .args .params .now))
-tested c = of-outline 4096 _ (outline c) (first c .args .marks .now) (first c .args .tolerance) _ _ _ _ (c .before .outline-of .ensures) (c .gate .ensures)
+abbrev tested : (c : tie.After-gate) → c .gate .result ≡ gateOf 4096 (outline c) (first c .args .marks .now) (first c .args .tolerance) (length (first c .args .curves .now)) (length (first c .args .firsts .now)) (length (first c .args .worsts .now)) (length (first c .args .params .now))
+tested c = of-outline 4096 _ (outline c) (first c .args .marks .now) (first c .args .tolerance) _ _ _ _ _ (c .before .outline-of .ensures) (c .gate .ensures)
 
 -- with n parameters
 abbrev entry : ℕ → tie.After-gate → Fit
-entry n c = record { n = n; R = blocksOf (first c .args .cutting) (marks c) (blockSize (count (marks c))) (first c .args .tolerance); C = first c .args .curves .now; F = first c .args .firsts .now; P = first c .args .params .now; g = gateOf 4096 (outline c) (first c .args .marks .now) (first c .args .tolerance) (length (first c .args .curves .now)) (length (first c .args .firsts .now)) (length (first c .args .params .now)); q = c .gate .result; tested = tested c }
+entry n c = record { n = n; R = blocksOf (first c .args .cutting) (marks c) (blockSize (count (marks c))) (first c .args .tolerance); C = first c .args .curves .now; F = first c .args .firsts .now; W = first c .args .worsts .now; P = first c .args .params .now; g = gateOf 4096 (outline c) (first c .args .marks .now) (first c .args .tolerance) (length (first c .args .curves .now)) (length (first c .args .firsts .now)) (length (first c .args .worsts .now)) (length (first c .args .params .now)); q = c .gate .result; tested = tested c }
 
-abbrev through : (c : tie.Else1) → Passed 4096 (outline (c .before)) (first (c .before) .args .marks .now) (first (c .before) .args .tolerance) (length (first (c .before) .args .curves .now)) (length (first (c .before) .args .firsts .now)) (length (first (c .before) .args .params .now))
-through c = passed 4096 (outline (c .before)) (first (c .before) .args .marks .now) (first (c .before) .args .tolerance) _ _ _ (sym (tested (c .before)) ∙ c .if1 .left)
+abbrev through : (c : tie.Else1) → Passed 4096 (outline (c .before)) (first (c .before) .args .marks .now) (first (c .before) .args .tolerance) (length (first (c .before) .args .curves .now)) (length (first (c .before) .args .firsts .now)) (length (first (c .before) .args .worsts .now)) (length (first (c .before) .args .params .now))
+through c = passed 4096 (outline (c .before)) (first (c .before) .args .marks .now) (first (c .before) .args .tolerance) _ _ _ _ (sym (tested (c .before)) ∙ c .if1 .left)
 
 -- the marks that count again, and all that are cut
 abbrev more : (c : tie.After-again) → c .again .result ≡ again (outline (c .before .before))
@@ -52,24 +52,41 @@ abbrev all : (c : tie.After-again) → many c ≡ count (marks (c .before .befor
 all c = rw (more c) (sym (whole-count (outline (c .before .before)) (first (c .before .before) .args .marks .now) (passed-even (through (c .before)))))
 
 -- the run's answer, when the part that it was lent is back
-abbrev answer : tie.After-slice-known6 → tie.After-fit-blocks
-answer c = c .before .before .before .before .before .before
+abbrev answer : tie.After-slice-known8 → tie.After-fit-blocks
+answer c = c .before .before .before .before .before .before .before .before
 
-abbrev begun : tie.After-slice-known6 → tie.After-again
-begun c = answer c .before .before .before .before .before
+abbrev begun : tie.After-slice-known8 → tie.After-again
+begun c = answer c .before .before .before .before .before .before
 
-abbrev called : tie.After-slice-known6 → Fit
+abbrev called : tie.After-slice-known8 → Fit
 called c = entry (many (begun c)) (begun c .before .before)
 
-abbrev ran : (c : tie.After-slice-known6) → Ran (called c)
-ran c = record { passed = begun c .before .if1 .left; room = let q = through (begun c .before) .params in omega (arith, more (begun c)); out = answer c .fit-blocks .result; C₁ = answer c .fit-blocks .last .1 .1 .1 .1 .0; F₁ = answer c .fit-blocks .last .1 .1 .1 .1 .1 .0; p = answer c .fit-blocks .last .1 .1 .1 .1 .1 .1 .0; left = of-size (first (begun c .before .before) .args .cutting) (marks (begun c .before .before)) (first (begun c .before .before) .args .tolerance) (answer c .before .before .before .before .max-points-to-fit .result) (blockSize (count (marks (begun c .before .before)))) (answer c .fit-blocks .result) (called c .C) (answer c .fit-blocks .last .1 .1 .1 .1 .0) (called c .F) (answer c .fit-blocks .last .1 .1 .1 .1 .1 .0) (answer c .fit-blocks .last .1 .1 .1 .1 .1 .1 .0) (answer c .before .before .before .before .max-points-to-fit .ensures ∙ ap blockSize (all (begun c))) (answer c .fit-blocks .ensures); lc = answer c .fit-blocks .kept .1 .1 .1 .1 .0; lf = answer c .fit-blocks .kept .1 .1 .1 .1 .1 .0; lp = answer c .fit-blocks .kept .1 .1 .1 .1 .1 .1 .0 }
+abbrev ran : (c : tie.After-slice-known8) → Ran (called c)
+ran c =
+    let f = answer c .fit-blocks in
+    let s = answer c .before .before .before .before .before .max-points-to-fit in
+    let a = first (begun c .before .before) .args in
+    record {
+      passed = begun c .before .if1 .left;
+      room = let q = through (begun c .before) .params in omega (arith, more (begun c));
+      out = f .result;
+      C₁ = f .last .1 .1 .1 .1 .0;
+      F₁ = f .last .1 .1 .1 .1 .1 .0;
+      W₁ = f .last .1 .1 .1 .1 .1 .1 .0;
+      p = f .last .1 .1 .1 .1 .1 .1 .1 .0;
+      left = of-size (a .cutting) (marks (begun c .before .before)) (a .tolerance) (s .result) (blockSize (count (marks (begun c .before .before)))) (f .result) (called c .C) (f .last .1 .1 .1 .1 .0) (called c .F) (f .last .1 .1 .1 .1 .1 .0) (called c .W) (f .last .1 .1 .1 .1 .1 .1 .0) (f .last .1 .1 .1 .1 .1 .1 .1 .0) (s .ensures ∙ ap blockSize (all (begun c))) (f .ensures);
+      lc = f .kept .1 .1 .1 .1 .0;
+      lf = f .kept .1 .1 .1 .1 .1 .0;
+      lw = f .kept .1 .1 .1 .1 .1 .1 .0;
+      lp = f .kept .1 .1 .1 .1 .1 .1 .1 .0;
+    }
 
 -- what was zeroed
-abbrev back : tie.After-slice-known9 → tie.After-slice-known6
-back c = c .before .before .before .before .before .before .before .before .before .before .before .before
+abbrev back : tie.After-slice-known12 → tie.After-slice-known8
+back c = c .before .before .before .before .before .before .before .before .before .before .before .before .before .before .before
 
-abbrev zeros : tie.After-slice-known9 → tie.After-zero-all
-zeros c = c .before .before .before .before .before .before
+abbrev zeros : tie.After-slice-known12 → tie.After-zero-all
+zeros c = c .before .before .before .before .before .before .before .before
 
 -- ---- the needs
 
@@ -93,16 +110,16 @@ max-points-to-fit-requires : tie.Need-max-points-to-fit-requires
 max-points-to-fit-requires c κs = search needs
 
 slice-relend-prefix-fit-blocks : tie.Need-slice-relend-prefix-fit-blocks
-slice-relend-prefix-fit-blocks c = let q = through (c .before .before .before .before) .params in omega (arith, more (c .before .before .before))
+slice-relend-prefix-fit-blocks c = let q = through (c .before .before .before .before .before) .params in omega (arith, more (c .before .before .before .before))
 
 slice-aggregate-fit-blocks : tie.Need-slice-aggregate-fit-blocks
-slice-aggregate-fit-blocks c = let q = through (c .before .before .before .before .before) .params in simp length-take (omega (arith, more (c .before .before .before .before)))
+slice-aggregate-fit-blocks c = let q = through (c .before .before .before .before .before .before) .params in simp length-take (omega (arith, more (c .before .before .before .before .before)))
 
 fit-blocks-requires : tie.Need-fit-blocks-requires
 fit-blocks-requires c κs =
-    let a = c .before .before .before .before in
+    let a = c .before .before .before .before .before in
     let f = first (a .before .before) .args in
-    (of-count (marks (a .before .before)) (f .curves .now) (f .firsts .now) (f .params .now) (again (outline (a .before .before)) + count (f .marks .now)) (many a) (omega (arith, more a)) (passed-room 4096 (outline (a .before .before)) (f .marks .now) (f .tolerance) (f .curves .now) (f .firsts .now) (f .params .now) (omega arith) (through (a .before))), size-within _ (c .before .before .before .max-points-to-fit .result) (c .before .before .before .max-points-to-fit .ensures))
+    (of-count (marks (a .before .before)) (f .curves .now) (f .firsts .now) (f .worsts .now) (f .params .now) (again (outline (a .before .before)) + count (f .marks .now)) (many a) (omega (arith, more a)) (passed-room 4096 (outline (a .before .before)) (f .marks .now) (f .tolerance) (f .curves .now) (f .firsts .now) (f .worsts .now) (f .params .now) (omega arith) (through (a .before))), size-within _ (c .before .before .before .before .max-points-to-fit .result) (c .before .before .before .before .max-points-to-fit .ensures))
 
 enum-known-out : tie.Need-enum-known-out
 enum-known-out c = search needs
@@ -120,23 +137,29 @@ same-length-2 : tie.Need-same-length-2
 same-length-2 c = zeros c .zero-all .kept .1 .0 ∙ ran (back c) .lf
 
 same-length-3 : tie.Need-same-length-3
-same-length-3 c = zeros c .zero-all .kept .1 .1 .0 ∙ as-long (called (back c)) (ran (back c))
+same-length-3 c = zeros c .zero-all .kept .1 .1 .0 ∙ ran (back c) .lw
+
+same-length-4 : tie.Need-same-length-4
+same-length-4 c = zeros c .zero-all .kept .1 .1 .1 .0 ∙ as-long (called (back c)) (ran (back c))
 
 returns-2 : tie.Need-returns-2
 unfolding fitOf
 returns-2 c =
-    let t = c .before .before .before .before .before .before .before .before .before .before in
+    let t = c .before .before .before .before .before .before .before .before .before .before .before .before .before in
     let z = zeros c .zero-all .ensures in
-    end-refused (called (back c)) (ran (back c)) (t .enum-told .given .0 .0) _ _ _ (t .enum-told .given .1) (z .0) (z .1) (z .2)
-
-same-length-4 : tie.Need-same-length-4
-same-length-4 c = ran (c .before .before .before) .lc
+    end-refused (called (back c)) (ran (back c)) (t .enum-told .given .0 .0) _ _ _ _ (t .enum-told .given .1) (z .0) (z .1) (z .2) (z .3)
 
 same-length-5 : tie.Need-same-length-5
-same-length-5 c = ran (c .before .before .before) .lf
+same-length-5 c = ran (c .before .before .before) .lc
 
 same-length-6 : tie.Need-same-length-6
-same-length-6 c = as-long (called (c .before .before .before)) (ran (c .before .before .before))
+same-length-6 c = ran (c .before .before .before) .lf
+
+same-length-7 : tie.Need-same-length-7
+same-length-7 c = ran (c .before .before .before) .lw
+
+same-length-8 : tie.Need-same-length-8
+same-length-8 c = as-long (called (c .before .before .before)) (ran (c .before .before .before))
 
 returns-3 : tie.Need-returns-3
 unfolding fittedAnswer fitOf
@@ -161,8 +184,10 @@ fit-cut-spec =
     same-length
     same-length-2
     same-length-3
-    returns-2
     same-length-4
+    returns-2
     same-length-5
     same-length-6
+    same-length-7
+    same-length-8
     returns-3)

@@ -7,10 +7,10 @@ use Rattle.fit_cases.proofs.print_curves.Statement.{statement}
 use Rattle.fit_cases.proofs.print_curves.Tie as tie
 
 abbrev Inv-loop : tie.InvT-loop
-Inv-loop n curves firsts i₀ i = i ≤ length firsts
+Inv-loop n curves firsts worsts i₀ i = i ≤ length firsts
 
 abbrev μ-loop : tie.MeasureT-loop
-μ-loop n curves firsts i₀ i = length firsts - i
+μ-loop n curves firsts worsts i₀ i = length firsts - i
 
 loop-holds : tie.Need-loop-holds Inv-loop μ-loop
 loop-holds c = omega arith
@@ -18,14 +18,11 @@ loop-holds c = omega arith
 returns : tie.Need-returns Inv-loop μ-loop
 returns c = search needs
 
-mul-from : tie.Need-mul-from Inv-loop μ-loop
-mul-from c = search needs
-
-add-if2 : tie.Need-add-if2 Inv-loop μ-loop
-add-if2 c = omega arith
-
 returns-2 : tie.Need-returns-2 Inv-loop μ-loop
 returns-2 c = search needs
+
+mul-from : tie.Need-mul-from Inv-loop μ-loop
+mul-from c = omega arith
 
 add-to : tie.Need-add-to Inv-loop μ-loop
 add-to c = omega arith
@@ -41,6 +38,9 @@ wide-requires c κs = search needs
 
 print-count-requires : tie.Need-print-count-requires Inv-loop μ-loop
 print-count-requires c κs = search needs
+
+print-worst-requires : tie.Need-print-worst-requires Inv-loop μ-loop
+print-worst-requires c κs = search needs
 
 mul-print-floats : tie.Need-mul-print-floats Inv-loop μ-loop
 mul-print-floats c = search needs
@@ -80,14 +80,14 @@ print-curves-spec =
     μ-loop
     loop-holds
     returns
-    mul-from
-    add-if2
     returns-2
+    mul-from
     add-to
     mul-wide
     shared-slice-read-wide
     wide-requires
     print-count-requires
+    print-worst-requires
     mul-print-floats
     sub-print-floats
     part-print-floats-start

@@ -1,15 +1,18 @@
 -- `heads::find_layout` meets its contract. Assumes nothing.
 use mathlib.Core.Path.{_≡_, refl, sym, ap, _∙_}
 use mathlib.Core.Bool.{true}
-use Prim.Native.Nat.{ℕ, _/_}
+use Prim.Native.Nat.{ℕ, _+_, _-_, _*_, _/_, _≤_}
 use native.Mathlib.Omega.{arith}
-use borrow.Author.Needs.{needs}
+use lib.ListN.{length}
 use Rattle.float.proofs.Truth.{true-false}
+use Rattle.house.specs.Limits.{curveBytes}
 use Rattle.house.specs.Bytes.{allFit}
-use Rattle.house.specs.Held.{marksHeld}
+use Rattle.house.specs.Held.{marksHeld, formOf, formHeld, curvesHeld}
+use Rattle.house.proofs.Forms.{body-few, records-under}
 use Rattle.house.proofs.Numbers.{fit-each}
 use Rattle.grammar.proofs.Laid.{Started, plain, full, started, starting, ended, ending, laid-started, laid-ended}
 use Rattle.heads.proofs.Ways.{counted, broken}
+use borrow.Author.Needs.{needs}
 use Rattle.heads.proofs.find_layout.Statement.{statement}
 use Rattle.heads.proofs.find_layout.Tie as tie
 
@@ -23,8 +26,20 @@ marks c = ap (λ (x : ℕ). x / 16) (sym (c .four .ensures .0))
 begun : (c : tie.Then2) → Started (c .before .before .before .before .before .args .b .now) (c .before .before .four .result / 16)
 begun c = started _ _ (omega arith) (sym (c .before .starts-with .ensures) ∙ c .if2 .taken)
 
+form : (c : tie.After-form-of) → formHeld (c .before .before .before .before .before .before .before .before .before .args .b .now) (c .before .before .before .before .before .before .four .result / 16) ≡ c .form-of .result
+form c = sym (c .form-of .ensures ∙ ap formOf (c .before .two .ensures .0))
+
+-- the curves that are counted, and that they are within the bytes
+count : (c : tie.After-body-bytes) → let n = c .before .before .before .before .before .before .before .four .result / 16 in let b = c .before .before .before .before .before .before .before .before .before .before .args .b .now in
+    curvesHeld b (c .before .form-of .result) n ≡ (length b - (20 + 16 * n + 6 + 8 * n)) / (6 + c .body-bytes .result)
+count c = let n = c .before .before .before .before .before .before .before .four .result / 16 in ap (λ (x : ℕ). (length (c .before .before .before .before .before .before .before .before .before .before .args .b .now) - (20 + 16 * n + 6 + 8 * n)) / (6 + x)) (sym (c .body-bytes .ensures))
+
+under : (c : tie.After-body-bytes) → let x = length (c .before .before .before .before .before .before .before .before .before .before .args .b .now) - (20 + 16 * (c .before .before .before .before .before .before .before .four .result / 16) + 6 + 8 * (c .before .before .before .before .before .before .before .four .result / 16)) in
+    curveBytes (c .before .form-of .result) * (x / (6 + c .body-bytes .result)) ≤ x
+under c = let x = length (c .before .before .before .before .before .before .before .before .before .before .args .b .now) - (20 + 16 * (c .before .before .before .before .before .before .before .four .result / 16) + 6 + 8 * (c .before .before .before .before .before .before .before .four .result / 16)) in rw (c .body-bytes .ensures) (records-under (c .before .form-of .result) x)
+
 returns : tie.Need-returns
-returns c = broken (c .before .before .args .b .now) _ refl (λ l. let s = laid-started l in omega (arith, s .long))
+returns c = broken (c .before .before .args .b .now) _ _ _ refl refl refl (λ l. let s = laid-started l in omega (arith, s .long))
 
 four-requires : tie.Need-four-requires
 four-requires c κs = search needs
@@ -41,7 +56,7 @@ add-end c = search needs
 returns-2 : tie.Need-returns-2
 returns-2 c =
     let i = c .before .before .before in
-    counted (i .before .before .before .args .b .now) (bytes (i .before .before)) (plain (begun (c .before)) (omega arith) refl)
+    counted (i .before .before .before .args .b .now) (bytes (i .before .before)) (plain (begun (c .before)) (omega arith) refl refl)
 
 add-least : tie.Need-add-least
 add-least c = search needs
@@ -55,26 +70,44 @@ add-least-2 c = search needs
 returns-3 : tie.Need-returns-3
 returns-3 c =
     let i = c .before .before .before .before in
-    broken (i .before .before .before .args .b .now) (i .four .result / 16) (marks i) (λ l. let d = laid-ended l (λ z. omega arith) in omega (arith, d .size))
+    broken (i .before .before .before .args .b .now) _ (i .four .result / 16) _ (marks i) refl refl (λ l. let d = laid-ended l (λ z. omega arith) in omega (arith, d .size))
+
+add-two : tie.Need-add-two
+add-two c = search needs
+
+two-requires : tie.Need-two-requires
+two-requires c κs = search needs
+
+form-of-requires : tie.Need-form-of-requires
+form-of-requires c κs = search needs
+
+body-bytes-requires : tie.Need-body-bytes-requires
+body-bytes-requires c κs = search needs
+
+add-k : tie.Need-add-k
+add-k c = omega (arith, body-few (c .before .form-of .result), c .body-bytes .ensures)
+
+div-k : tie.Need-div-k
+div-k c = omega arith
 
 ends-with-requires : tie.Need-ends-with-requires
-ends-with-requires c κs = search needs
+ends-with-requires c κs = omega (arith, under c)
 
 returns-4 : tie.Need-returns-4
 returns-4 c =
-    let i = c .before .before .before .before .before .before in
+    let i = c .before .before .before .before .before .before .before .before .before in
     let b = i .before .before .before .args .b .now in
-    counted b (bytes (i .before .before)) (full (begun (c .before .before .before .before)) (ended b (i .four .result / 16) _ (sym (c .before .ends-with .ensures) ∙ c .if5 .taken)))
+    counted b (bytes (i .before .before)) (full (begun (c .before .before .before .before .before .before .before)) (ended b (c .before .before .before .form-of .result) (i .four .result / 16) _ (sym (c .before .ends-with .ensures) ∙ c .if5 .taken)))
 
 returns-5 : tie.Need-returns-5
 returns-5 c =
-    let i = c .before .before .before .before .before .before in
-    broken (i .before .before .before .args .b .now) (i .four .result / 16) (marks i) (λ l. true-false _ (ending (laid-ended l (λ z. omega arith))) (sym (c .before .ends-with .ensures) ∙ c .if5 .left))
+    let i = c .before .before .before .before .before .before .before .before .before in
+    broken (i .before .before .before .args .b .now) (c .before .before .before .form-of .result) (i .four .result / 16) _ (marks i) (form (c .before .before .before)) (count (c .before .before)) (λ l. true-false _ (ending (laid-ended l (λ z. omega arith))) (sym (c .before .ends-with .ensures) ∙ c .if5 .left))
 
 returns-6 : tie.Need-returns-6
 returns-6 c =
     let i = c .before .before in
-    broken (i .before .before .before .args .b .now) (i .four .result / 16) (marks i) (λ l. true-false _ (starting (laid-started l)) (sym (c .before .starts-with .ensures) ∙ c .if2 .left))
+    broken (i .before .before .before .args .b .now) _ (i .four .result / 16) _ (marks i) refl refl (λ l. true-false _ (starting (laid-started l)) (sym (c .before .starts-with .ensures) ∙ c .if2 .left))
 
 pub find-layout-spec : {M : Type 1} → statement M
 find-layout-spec =
@@ -90,6 +123,12 @@ find-layout-spec =
     mul-least
     add-least-2
     returns-3
+    add-two
+    two-requires
+    form-of-requires
+    body-bytes-requires
+    add-k
+    div-k
     ends-with-requires
     returns-4
     returns-5

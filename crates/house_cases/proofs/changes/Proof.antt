@@ -7,10 +7,10 @@ use Rattle.house_cases.proofs.changes.Statement.{statement}
 use Rattle.house_cases.proofs.changes.Tie as tie
 
 abbrev Inv-loop : tie.InvT-loop
-Inv-loop file₀ marks₀ firsts₀ curves₀ params₀ t₀ i₀ file marks firsts curves params t i = (i ≤ length file) × (length file ≡ length file₀) × (length marks ≡ length marks₀) × (length firsts ≡ length firsts₀) × (length curves ≡ length curves₀) × (length params ≡ length params₀)
+Inv-loop file₀ marks₀ firsts₀ worsts₀ curves₀ params₀ t₀ i₀ file marks firsts worsts curves params t i = (i ≤ length file) × (length file ≡ length file₀) × (length marks ≡ length marks₀) × (length firsts ≡ length firsts₀) × (length worsts ≡ length worsts₀) × (length curves ≡ length curves₀) × (length params ≡ length params₀)
 
 abbrev μ-loop : tie.MeasureT-loop
-μ-loop file₀ marks₀ firsts₀ curves₀ params₀ t₀ i₀ file marks firsts curves params t i = length file - i
+μ-loop file₀ marks₀ firsts₀ worsts₀ curves₀ params₀ t₀ i₀ file marks firsts worsts curves params t i = length file - i
 
 loop-holds : tie.Need-loop-holds Inv-loop μ-loop
 loop-holds c = search needs
@@ -42,6 +42,9 @@ same-length-4 c = search needs
 same-length-5 : tie.Need-same-length-5 Inv-loop μ-loop
 same-length-5 c = search needs
 
+same-length-6 : tie.Need-same-length-6 Inv-loop μ-loop
+same-length-6 c = search needs
+
 returns : tie.Need-returns Inv-loop μ-loop
 returns c = search needs
 
@@ -61,4 +64,5 @@ changes-spec =
     same-length-3
     same-length-4
     same-length-5
+    same-length-6
     returns)

@@ -7,10 +7,10 @@ use Rattle.house_cases.proofs.prefixes.Statement.{statement}
 use Rattle.house_cases.proofs.prefixes.Tie as tie
 
 abbrev Inv-loop : tie.InvT-loop
-Inv-loop file marks₀ firsts₀ curves₀ params₀ t₀ i₀ from marks firsts curves params t i = (from ≡ 0) × (i ≤ length file) × (length marks ≡ length marks₀) × (length firsts ≡ length firsts₀) × (length curves ≡ length curves₀) × (length params ≡ length params₀)
+Inv-loop file marks₀ firsts₀ worsts₀ curves₀ params₀ t₀ i₀ from marks firsts worsts curves params t i = (from ≡ 0) × (i ≤ length file) × (length marks ≡ length marks₀) × (length firsts ≡ length firsts₀) × (length worsts ≡ length worsts₀) × (length curves ≡ length curves₀) × (length params ≡ length params₀)
 
 abbrev μ-loop : tie.MeasureT-loop
-μ-loop file marks₀ firsts₀ curves₀ params₀ t₀ i₀ from marks firsts curves params t i = length file - i
+μ-loop file marks₀ firsts₀ worsts₀ curves₀ params₀ t₀ i₀ from marks firsts worsts curves params t i = length file - i
 
 loop-holds : tie.Need-loop-holds Inv-loop μ-loop
 loop-holds c = search needs
@@ -51,6 +51,9 @@ same-length-3 c = search needs
 same-length-4 : tie.Need-same-length-4 Inv-loop μ-loop
 same-length-4 c = search needs
 
+same-length-5 : tie.Need-same-length-5 Inv-loop μ-loop
+same-length-5 c = search needs
+
 returns : tie.Need-returns Inv-loop μ-loop
 returns c = search needs
 
@@ -73,4 +76,5 @@ prefixes-spec =
     same-length-2
     same-length-3
     same-length-4
+    same-length-5
     returns)

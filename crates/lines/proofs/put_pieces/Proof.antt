@@ -56,7 +56,7 @@ loop-again c =
     let l = c .before .before .before .before .before .before .before .loop in
     let a = c .before .before .before .before .before .before .before .before .before .before .before .args in
     let h : l .i < length (a .firsts .now) = omega arith in
-    let m : 8 * l .i + 8 ≤ length (a .curves .now) = omega arith in
+    let m : 9 * l .i + 9 ≤ length (a .curves .now) = omega arith in
     let p = c .before .before .put-piece .ensures in
     (omega arith, omega (arith, p .0), rw (pieces-suc (a .firsts .now) (a .curves .now) (l .i) h) at (next (l .inv .2) (rw (piece-part (a .curves .now) (l .i) m) at (p .1))))
 

@@ -41,7 +41,7 @@ same-length-3 : tie.Need-same-length-3
 same-length-3 c = search needs
 
 returns-3 : tie.Need-returns-3
-returns-3 c = (omega arith, rw (list-few (omega arith) (told _ _ _ (sym (c .before .before .before .before .before .before .before .before .find-layout .ensures) ∙ c .before .before .before .before .before .before .layout .given .1)) (omega arith)) (c .before .before .put-refusal3 .ensures .1))
+returns-3 c = (omega arith, rw (list-few (omega arith) (told _ _ _ _ (sym (c .before .before .before .before .before .before .before .before .find-layout .ensures) ∙ c .before .before .before .before .before .before .layout .given .1)) (omega arith)) (c .before .before .put-refusal3 .ensures .1))
 
 put-refusal-requires-4 : tie.Need-put-refusal-requires-4
 put-refusal-requires-4 c κs = search needs
@@ -50,16 +50,16 @@ same-length-4 : tie.Need-same-length-4
 same-length-4 c = search needs
 
 returns-4 : tie.Need-returns-4
-returns-4 c = (omega arith, rw (list-many (omega arith) (told _ _ _ (sym (c .before .before .before .before .before .before .before .before .before .find-layout .ensures) ∙ c .before .before .before .before .before .before .before .layout .given .1)) (omega arith)) (c .before .before .put-refusal4 .ensures .1))
+returns-4 c = (omega arith, rw (list-many (omega arith) (told _ _ _ _ (sym (c .before .before .before .before .before .before .before .before .before .find-layout .ensures) ∙ c .before .before .before .before .before .before .before .layout .given .1)) (omega arith)) (c .before .before .put-refusal4 .ensures .1))
 
 put-fit-requires : tie.Need-put-fit-requires
-put-fit-requires c κs = (marks-in (told _ _ _ (sym (c .before .before .before .before .before .before .find-layout .ensures) ∙ c .before .before .before .before .layout .given .1) .laid), (omega arith, omega arith))
+put-fit-requires c κs = (marks-in (told _ _ _ _ (sym (c .before .before .before .before .before .before .find-layout .ensures) ∙ c .before .before .before .before .layout .given .1) .laid), (omega arith, omega arith))
 
 same-length-5 : tie.Need-same-length-5
 same-length-5 c = search needs
 
 returns-5 : tie.Need-returns-5
-returns-5 c = (omega arith, rw (list-fit (omega arith) (told _ _ _ (sym (c .before .before .before .before .before .before .before .before .before .find-layout .ensures) ∙ c .before .before .before .before .before .before .before .layout .given .1)) (omega arith) (omega arith)) (c .before .before .put-fit .ensures .1))
+returns-5 c = (omega arith, rw (list-fit (omega arith) (told _ _ _ _ (sym (c .before .before .before .before .before .before .before .before .before .find-layout .ensures) ∙ c .before .before .before .before .before .before .before .layout .given .1)) (omega arith) (omega arith)) (c .before .before .put-fit .ensures .1))
 
 pub put-listing-spec : {M : Type 1} → statement M
 put-listing-spec =

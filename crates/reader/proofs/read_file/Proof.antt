@@ -1,16 +1,16 @@
 -- `reader::read_file` meets its contract. Assumes nothing.
 use mathlib.Core.Path.{sym, _∙_}
 use native.Mathlib.Omega.{arith}
-use borrow.Author.Needs.{needs}
 use Rattle.grammar.proofs.Laid.{laid-started}
 use Rattle.heads.proofs.Ways.{Told, told}
 use Rattle.reader.proofs.Ways.{told-room, read-broken, read-many, read-few, read-short, read-given}
+use borrow.Author.Needs.{needs}
 use Rattle.reader.proofs.read_file.Statement.{statement}
 use Rattle.reader.proofs.read_file.Tie as tie
 
 -- what the layout tells
-found : (c : tie.After-found) → Told (c .before .before .before .before .before .before .before .before .args .file .now) (c .found .given .0 .0) (c .found .given .0 .1 .0)
-found c = told _ _ _ (sym (c .before .before .find-layout .ensures) ∙ c .found .given .1)
+found : (c : tie.After-found) → Told (c .before .before .before .before .before .before .before .before .before .args .file .now) (c .found .given .0 .0) (c .found .given .0 .1 .0) (c .found .given .0 .1 .1 .0)
+found c = told _ _ _ _ (sym (c .before .before .find-layout .ensures) ∙ c .found .given .1)
 
 find-layout-requires : tie.Need-find-layout-requires
 find-layout-requires c κs = search needs
@@ -37,10 +37,10 @@ has-room-requires : tie.Need-has-room-requires
 has-room-requires c κs = search needs
 
 copy-file-requires : tie.Need-copy-file-requires
-copy-file-requires c κs = told-room (found (c .before .before .before .before .before .before .before .before .before)) (omega arith) (sym (c .before .before .before .before .before .has-room .ensures) ∙ c .before .before .before .before .if3 .taken)
+copy-file-requires c κs = told-room (found (c .before .before .before .before .before .before .before .before .before .before)) (omega arith) (sym (c .before .before .before .before .before .before .has-room .ensures) ∙ c .before .before .before .before .before .if3 .taken)
 
 eight-requires : tie.Need-eight-requires
-eight-requires c κs = omega (arith, laid-started (found (c .before .before .before .before .before .before .before .before .before .before .before .before .before .before .before .before .before .before) .laid) .long)
+eight-requires c κs = omega (arith, laid-started (found (c .before .before .before .before .before .before .before .before .before .before .before .before .before .before .before .before .before .before .before .before .before) .laid) .long)
 
 same-length : tie.Need-same-length
 same-length c = search needs
@@ -54,8 +54,11 @@ same-length-3 c = search needs
 same-length-4 : tie.Need-same-length-4
 same-length-4 c = search needs
 
+same-length-5 : tie.Need-same-length-5
+same-length-5 c = search needs
+
 returns-4 : tie.Need-returns-4
-returns-4 c = read-given (found (c .before .before .before .before .before .before .before .before .before .before .before .before .before .before .before .before .before .before .before)) (omega arith) (omega arith) (sym (c .before .before .before .before .before .before .before .before .before .before .before .before .before .before .before .has-room .ensures) ∙ c .before .before .before .before .before .before .before .before .before .before .before .before .before .before .if3 .taken) (c .eight .ensures) (c .before .before .before .before .before .before .before .before .before .copy-file .ensures)
+returns-4 c = read-given (found (c .before .before .before .before .before .before .before .before .before .before .before .before .before .before .before .before .before .before .before .before .before .before)) (omega arith) (omega arith) (sym (c .before .before .before .before .before .before .before .before .before .before .before .before .before .before .before .before .before .before .has-room .ensures) ∙ c .before .before .before .before .before .before .before .before .before .before .before .before .before .before .before .before .before .if3 .taken) (c .eight .ensures) (c .before .before .before .before .before .before .before .before .before .before .before .copy-file .ensures)
 
 returns-5 : tie.Need-returns-5
 returns-5 c = read-short (found (c .before .before .before .before .before)) (omega arith) (omega arith) (sym (c .before .has-room .ensures) ∙ c .if3 .left)
@@ -78,5 +81,6 @@ read-file-spec =
     same-length-2
     same-length-3
     same-length-4
+    same-length-5
     returns-4
     returns-5)

@@ -39,7 +39,7 @@ same-length c = search needs
 
 returns : tie.Need-returns
 returns c =
-    let s = c .before .before .before .before .before .before .before .before .before .before .before .before .before .before .before .before .before .before .before .before in
+    let s = c .before .before .before .before .before .before .before .before .before .before .before .before .before .before .before .before .before .before .before .before .before in
     written-over (s .args .tolerance) (s .pre) (s .args .out .now) _ _ (c .before .before .before .before .before .before .before .before .before .before .before .before .before .before .curve-patterns .ensures) (c .before .before .before .before .before .before .before .before .before .before .before .before .before .param-patterns .ensures) (c .before .before .before .before .before .before .before .before .before .before .before .copy-patterns .ensures) (c .before .before .before .before .before .before .before .before .copy-patterns2 .ensures) (c .as-listed .ensures) (c .before .before .before .write-file .ensures)
 
 pub hand-file-spec : {M : Type 1} → statement M

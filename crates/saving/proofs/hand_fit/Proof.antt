@@ -17,6 +17,9 @@ curve-floats-requires c κs = search needs
 first-marks-requires : tie.Need-first-marks-requires
 first-marks-requires c κs = search needs
 
+first-marks-requires-2 : tie.Need-first-marks-requires-2
+first-marks-requires-2 c κs = search needs
+
 param-floats-requires : tie.Need-param-floats-requires
 param-floats-requires c κs = search needs
 
@@ -30,7 +33,7 @@ array-share-prefix-ms : tie.Need-array-share-prefix-ms
 array-share-prefix-ms c = search needs
 
 slice-aggregate-fit-joined : tie.Need-slice-aggregate-fit-joined
-slice-aggregate-fit-joined c = sym (length-take-le _ _ (omega (arith, c .before .before .before .before .before .before .before .mark-floats .ensures, c .before .before .copy-floats .kept .1 .0)))
+slice-aggregate-fit-joined c = sym (length-take-le _ _ (omega (arith, c .before .before .before .before .before .before .before .before .mark-floats .ensures, c .before .before .copy-floats .kept .1 .0)))
 
 of-bits-requires : tie.Need-of-bits-requires
 of-bits-requires c κs = search needs
@@ -43,6 +46,9 @@ slice-aggregate-fit-joined-3 c = search needs
 
 slice-aggregate-fit-joined-4 : tie.Need-slice-aggregate-fit-joined-4
 slice-aggregate-fit-joined-4 c = search needs
+
+slice-aggregate-fit-joined-5 : tie.Need-slice-aggregate-fit-joined-5
+slice-aggregate-fit-joined-5 c = search needs
 
 fit-joined-requires : tie.Need-fit-joined-requires
 fit-joined-requires c κs = search needs
@@ -64,9 +70,9 @@ same-length c = search needs
 
 returns : tie.Need-returns
 returns c =
-    let a = c .before .before .before .before .before .before .before .before .before .before .before .before .before .before .before .before .before .before .before .before .before .before .before .before .before .args in
-    let f = c .before .before .before .before .before .before .before .before .before .before .fit-joined in
-    let h = fit-is (a .tolerance) (a .marks .now) _ _ _ _ (c .before .before .before .before .before .before .before .before .before .before .before .before .before .before .before .before .before .copy-floats .ensures) (c .before .before .before .before .before .before .before .before .before .before .before .before .before .before .of-bits .ensures) (c .before .before .before .before .before .before .before .before .before .before .before .before .before .before .before .before .before .before .before .before .before .curve-floats .ensures .1) (c .before .before .before .before .before .before .before .before .before .before .before .before .before .before .before .before .before .before .before .before .first-marks .ensures .1) (c .before .before .before .before .before .before .before .before .before .before .before .before .before .before .before .before .before .before .before .param-floats .ensures .1) (f .ensures) in
+    let a = c .before .before .before .before .before .before .before .before .before .before .before .before .before .before .before .before .before .before .before .before .before .before .before .before .before .before .before .before .args in
+    let f = c .before .before .before .before .before .before .before .before .before .before .before .fit-joined in
+    let h = fit-is (a .tolerance) (a .marks .now) _ _ _ _ _ (c .before .before .before .before .before .before .before .before .before .before .before .before .before .before .before .before .before .before .before .copy-floats .ensures) (c .before .before .before .before .before .before .before .before .before .before .before .before .before .before .before .before .of-bits .ensures) (c .before .before .before .before .before .before .before .before .before .before .before .before .before .before .before .before .before .before .before .before .before .before .before .before .curve-floats .ensures .1) (c .before .before .before .before .before .before .before .before .before .before .before .before .before .before .before .before .before .before .before .before .before .before .before .first-marks .ensures .1) (c .before .before .before .before .before .before .before .before .before .before .before .before .before .before .before .before .before .before .before .before .before .before .first-marks2 .ensures .1) (c .before .before .before .before .before .before .before .before .before .before .before .before .before .before .before .before .before .before .before .before .before .param-floats .ensures .1) (f .ensures) in
     rw (refused-text (a .tolerance) (a .marks .now) (f .result) h _ (other-is (f .result) (c .before .before .before .before .before .before .match .keys2)), ← c .before .before .before .before .refusal-of .ensures) (c .before .before .hand-refusal .ensures)
 
 slice-aggregate-hand-file : tie.Need-slice-aggregate-hand-file
@@ -78,23 +84,26 @@ slice-aggregate-hand-file-2 c = search needs
 slice-aggregate-hand-file-3 : tie.Need-slice-aggregate-hand-file-3
 slice-aggregate-hand-file-3 c = search needs
 
+slice-aggregate-hand-file-4 : tie.Need-slice-aggregate-hand-file-4
+slice-aggregate-hand-file-4 c = search needs
+
 hand-file-requires : tie.Need-hand-file-requires
 hand-file-requires c κs =
-    let s = c .before .before .before .before .before .before .before .before .before .before .before .before .before .before .before .before .before .before .before .before .before .before .before .before .before in
-    let a = s .args in
-    let f = c .before .before .before .before .before .before .before .before .before .before .fit-joined in
-    let h = fit-is (a .tolerance) (a .marks .now) _ _ _ _ (c .before .before .before .before .before .before .before .before .before .before .before .before .before .before .before .before .before .copy-floats .ensures) (c .before .before .before .before .before .before .before .before .before .before .before .before .before .before .of-bits .ensures) (c .before .before .before .before .before .before .before .before .before .before .before .before .before .before .before .before .before .before .before .before .before .curve-floats .ensures .1) (c .before .before .before .before .before .before .before .before .before .before .before .before .before .before .before .before .before .before .before .before .first-marks .ensures .1) (c .before .before .before .before .before .before .before .before .before .before .before .before .before .before .before .before .before .before .before .param-floats .ensures .1) (f .ensures) in
-    done-ready (a .tolerance) (a .marks .now) (f .result) h _ (c .before .before .before .before .before .fitted .given .1) (s .pre .0) (s .pre .1) (omega (arith, f .kept .1 .1 .1 .0, c .before .before .before .before .before .before .before .before .before .before .before .before .before .before .before .before .before .before .before .before .first-marks .ensures .0)) (omega (arith, f .kept .1 .1 .0, c .before .before .before .before .before .before .before .before .before .before .before .before .before .before .before .before .before .before .before .before .before .curve-floats .ensures .0)) (omega (arith, f .kept .1 .1 .1 .1 .0, c .before .before .before .before .before .before .before .before .before .before .before .before .before .before .before .before .before .before .before .param-floats .ensures .0))
+    let a = c .before .before .before .before .before .before .before .before .before .before .before .before .before .before .before .before .before .before .before .before .before .before .before .before .before .before .before .before .before .args in
+    let p = c .before .before .before .before .before .before .before .before .before .before .before .before .before .before .before .before .before .before .before .before .before .before .before .before .before .before .before .before .before .pre in
+    let f = c .before .before .before .before .before .before .before .before .before .before .before .before .fit-joined in
+    let h = fit-is (a .tolerance) (a .marks .now) _ _ _ _ _ (c .before .before .before .before .before .before .before .before .before .before .before .before .before .before .before .before .before .before .before .before .copy-floats .ensures) (c .before .before .before .before .before .before .before .before .before .before .before .before .before .before .before .before .before .of-bits .ensures) (c .before .before .before .before .before .before .before .before .before .before .before .before .before .before .before .before .before .before .before .before .before .before .before .before .before .curve-floats .ensures .1) (c .before .before .before .before .before .before .before .before .before .before .before .before .before .before .before .before .before .before .before .before .before .before .before .before .first-marks .ensures .1) (c .before .before .before .before .before .before .before .before .before .before .before .before .before .before .before .before .before .before .before .before .before .before .before .first-marks2 .ensures .1) (c .before .before .before .before .before .before .before .before .before .before .before .before .before .before .before .before .before .before .before .before .before .before .param-floats .ensures .1) (f .ensures) in
+    done-ready (a .tolerance) (a .marks .now) (f .result) h _ (c .before .before .before .before .before .before .fitted .given .1) (p .0) (p .1) (omega (arith, f .kept .1 .1 .1 .0, c .before .before .before .before .before .before .before .before .before .before .before .before .before .before .before .before .before .before .before .before .before .before .before .before .first-marks .ensures .0)) (omega (arith, f .kept .1 .1 .1 .1 .0, c .before .before .before .before .before .before .before .before .before .before .before .before .before .before .before .before .before .before .before .before .before .before .before .first-marks2 .ensures .0)) (omega (arith, f .kept .1 .1 .0, c .before .before .before .before .before .before .before .before .before .before .before .before .before .before .before .before .before .before .before .before .before .before .before .before .before .curve-floats .ensures .0)) (omega (arith, f .kept .1 .1 .1 .1 .1 .0, c .before .before .before .before .before .before .before .before .before .before .before .before .before .before .before .before .before .before .before .before .before .before .param-floats .ensures .0))
 
 same-length-2 : tie.Need-same-length-2
 same-length-2 c = search needs
 
 returns-2 : tie.Need-returns-2
 returns-2 c =
-    let a = c .before .before .before .before .before .before .before .before .before .before .before .before .before .before .before .before .before .before .before .before .before .before .before .before .before .before .before .before .args in
-    let f = c .before .before .before .before .before .before .before .before .before .before .before .before .before .fit-joined in
-    let h = fit-is (a .tolerance) (a .marks .now) _ _ _ _ (c .before .before .before .before .before .before .before .before .before .before .before .before .before .before .before .before .before .before .before .before .copy-floats .ensures) (c .before .before .before .before .before .before .before .before .before .before .before .before .before .before .before .before .before .of-bits .ensures) (c .before .before .before .before .before .before .before .before .before .before .before .before .before .before .before .before .before .before .before .before .before .before .before .before .curve-floats .ensures .1) (c .before .before .before .before .before .before .before .before .before .before .before .before .before .before .before .before .before .before .before .before .before .before .before .first-marks .ensures .1) (c .before .before .before .before .before .before .before .before .before .before .before .before .before .before .before .before .before .before .before .before .before .before .param-floats .ensures .1) (f .ensures) in
-    rw (done-text (a .tolerance) (a .marks .now) (f .result) h _ (c .before .before .before .before .before .before .before .before .fitted .given .1)) (c .before .before .hand-file .ensures)
+    let a = c .before .before .before .before .before .before .before .before .before .before .before .before .before .before .before .before .before .before .before .before .before .before .before .before .before .before .before .before .before .before .before .before .args in
+    let f = c .before .before .before .before .before .before .before .before .before .before .before .before .before .before .before .fit-joined in
+    let h = fit-is (a .tolerance) (a .marks .now) _ _ _ _ _ (c .before .before .before .before .before .before .before .before .before .before .before .before .before .before .before .before .before .before .before .before .before .before .before .copy-floats .ensures) (c .before .before .before .before .before .before .before .before .before .before .before .before .before .before .before .before .before .before .before .before .of-bits .ensures) (c .before .before .before .before .before .before .before .before .before .before .before .before .before .before .before .before .before .before .before .before .before .before .before .before .before .before .before .before .curve-floats .ensures .1) (c .before .before .before .before .before .before .before .before .before .before .before .before .before .before .before .before .before .before .before .before .before .before .before .before .before .before .before .first-marks .ensures .1) (c .before .before .before .before .before .before .before .before .before .before .before .before .before .before .before .before .before .before .before .before .before .before .before .before .before .before .first-marks2 .ensures .1) (c .before .before .before .before .before .before .before .before .before .before .before .before .before .before .before .before .before .before .before .before .before .before .before .before .before .param-floats .ensures .1) (f .ensures) in
+    rw (done-text (a .tolerance) (a .marks .now) (f .result) h _ (c .before .before .before .before .before .before .before .before .before .fitted .given .1)) (c .before .before .hand-file .ensures)
 
 pub hand-fit-spec : {M : Type 1} → statement M
 hand-fit-spec =
@@ -103,6 +112,7 @@ hand-fit-spec =
     mark-floats-requires
     curve-floats-requires
     first-marks-requires
+    first-marks-requires-2
     param-floats-requires
     slice-aggregate-copy-floats
     copy-floats-requires
@@ -112,6 +122,7 @@ hand-fit-spec =
     slice-aggregate-fit-joined-2
     slice-aggregate-fit-joined-3
     slice-aggregate-fit-joined-4
+    slice-aggregate-fit-joined-5
     fit-joined-requires
     enum-known-fitted
     enum-told
@@ -122,6 +133,7 @@ hand-fit-spec =
     slice-aggregate-hand-file
     slice-aggregate-hand-file-2
     slice-aggregate-hand-file-3
+    slice-aggregate-hand-file-4
     hand-file-requires
     same-length-2
     returns-2)

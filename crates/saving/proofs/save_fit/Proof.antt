@@ -10,16 +10,19 @@ use Rattle.saving.proofs.save_fit.Tie as tie
 
 -- what the file tells where it was read
 abbrev call : tie.After-known-told → tie.After-open-file
-call c = c .before .before .before .before .before .before .before
+call c = c .before .before .before .before .before .before .before .before
 
-abbrev told : (c : tie.After-known-told) → Opened (call c .before .before .before .before .before .before .before .before .before .before .before .args .file .now) (c .before .read .given .0 .0) (c .before .read .given .0 .1 .0) (c .before .read .given .0 .1 .1 .0) (call c .open-file .last .1 .0) (call c .open-file .last .1 .1 .0) (call c .open-file .last .1 .1 .1 .0) (call c .open-file .last .1 .1 .1 .1 .0)
-told c = opened (call c .before .before .before .before .before .before .before .before .before .before .before .args .file .now) (call c .before .before .before .before .before .before .before .before .mark-patterns .result) (call c .before .before .before .before .before .before .before .first-marks .result) (call c .before .before .before .before .before .before .curve-patterns .result) (call c .before .before .before .before .before .param-patterns .result) (call c .open-file .result) (c .before .read .given .1) (call c .open-file .ensures)
+abbrev told : (c : tie.After-known-told) → Opened (call c .before .before .before .before .before .before .before .before .before .before .before .before .before .args .file .now) (c .before .read .given .0 .0) (c .before .read .given .0 .1 .0) (c .before .read .given .0 .1 .1 .0) (c .before .read .given .0 .1 .1 .1 .0) (call c .open-file .last .1 .0) (call c .open-file .last .1 .1 .0) (call c .open-file .last .1 .1 .1 .0) (call c .open-file .last .1 .1 .1 .1 .0) (call c .open-file .last .1 .1 .1 .1 .1 .0)
+told c = opened (call c .before .before .before .before .before .before .before .before .before .before .before .before .before .args .file .now) (call c .before .before .before .before .before .before .before .before .before .before .mark-patterns .result) (call c .before .before .before .before .before .before .before .before .before .first-marks .result) (call c .before .before .before .before .before .before .before .before .first-marks2 .result) (call c .before .before .before .before .before .before .before .curve-patterns .result) (call c .before .before .before .before .before .before .param-patterns .result) (call c .open-file .result) (c .before .read .given .1) (call c .open-file .ensures)
 
 mark-patterns-requires : tie.Need-mark-patterns-requires
 mark-patterns-requires c κs = search needs
 
 first-marks-requires : tie.Need-first-marks-requires
 first-marks-requires c κs = search needs
+
+first-marks-requires-2 : tie.Need-first-marks-requires-2
+first-marks-requires-2 c κs = search needs
 
 curve-patterns-requires : tie.Need-curve-patterns-requires
 curve-patterns-requires c κs = search needs
@@ -39,8 +42,11 @@ slice-aggregate-open-file-3 c = search needs
 slice-aggregate-open-file-4 : tie.Need-slice-aggregate-open-file-4
 slice-aggregate-open-file-4 c = search needs
 
+slice-aggregate-open-file-5 : tie.Need-slice-aggregate-open-file-5
+slice-aggregate-open-file-5 c = search needs
+
 open-file-requires : tie.Need-open-file-requires
-open-file-requires c κs = record { marks = sym (c .before .before .before .before .before .before .before .mark-patterns .ensures); firsts = sym (c .before .before .before .before .before .before .first-marks .ensures .0); curves = sym (c .before .before .before .before .before .curve-patterns .ensures); params = sym (c .before .before .before .before .param-patterns .ensures) }
+open-file-requires c κs = record { marks = sym (c .before .before .before .before .before .before .before .before .before .mark-patterns .ensures); firsts = sym (c .before .before .before .before .before .before .before .before .first-marks .ensures .0); worsts = sym (c .before .before .before .before .before .before .before .first-marks2 .ensures .0); curves = sym (c .before .before .before .before .before .before .curve-patterns .ensures); params = sym (c .before .before .before .before .before .param-patterns .ensures) }
 
 enum-known-read : tie.Need-enum-known-read
 enum-known-read c = search needs
@@ -58,7 +64,7 @@ same-length : tie.Need-same-length
 same-length c = search needs
 
 returns : tie.Need-returns
-returns c = rw (unread-text (c .before .before .before .before .before .before .before .before .before .before .before .before .before .before .before .before .before .before .before .before .before .before .args .file .now) (c .before .before .before .before .before .before .before .before .before .before .before .before .before .before .before .before .before .before .before .mark-patterns .result) (c .before .before .before .before .before .before .before .before .before .before .before .before .before .before .before .before .before .before .first-marks .result) (c .before .before .before .before .before .before .before .before .before .before .before .before .before .before .before .before .before .curve-patterns .result) (c .before .before .before .before .before .before .before .before .before .before .before .before .before .before .before .before .param-patterns .result) (c .before .before .before .before .before .before .before .before .before .before .before .open-file .result) (c .before .before .before .before .before .before .match .keys2) (c .before .before .before .before .before .before .before .before .before .before .before .open-file .ensures), ← c .before .before .before .before .refusal-of .ensures) (c .before .before .hand-refusal .ensures)
+returns c = rw (unread-text (c .before .before .before .before .before .before .before .before .before .before .before .before .before .before .before .before .before .before .before .before .before .before .before .before .before .args .file .now) (c .before .before .before .before .before .before .before .before .before .before .before .before .before .before .before .before .before .before .before .before .before .before .mark-patterns .result) (c .before .before .before .before .before .before .before .before .before .before .before .before .before .before .before .before .before .before .before .before .before .first-marks .result) (c .before .before .before .before .before .before .before .before .before .before .before .before .before .before .before .before .before .before .before .before .first-marks2 .result) (c .before .before .before .before .before .before .before .before .before .before .before .before .before .before .before .before .before .before .before .curve-patterns .result) (c .before .before .before .before .before .before .before .before .before .before .before .before .before .before .before .before .before .before .param-patterns .result) (c .before .before .before .before .before .before .before .before .before .before .before .before .open-file .result) (c .before .before .before .before .before .before .match .keys2) (c .before .before .before .before .before .before .before .before .before .before .before .before .open-file .ensures), ← c .before .before .before .before .refusal-of .ensures) (c .before .before .hand-refusal .ensures)
 
 mul-m : tie.Need-mul-m
 mul-m c = omega (arith, told c .few)
@@ -84,12 +90,14 @@ save-fit-spec =
     (tie.spec
     mark-patterns-requires
     first-marks-requires
+    first-marks-requires-2
     curve-patterns-requires
     param-patterns-requires
     slice-aggregate-open-file
     slice-aggregate-open-file-2
     slice-aggregate-open-file-3
     slice-aggregate-open-file-4
+    slice-aggregate-open-file-5
     open-file-requires
     enum-known-read
     enum-told

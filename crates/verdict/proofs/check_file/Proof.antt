@@ -37,8 +37,8 @@ copy-floats-requires-3 c κs = search needs
 array-share-prefix-ms : tie.Need-array-share-prefix-ms
 array-share-prefix-ms c = search needs
 
-slice-aggregate-check-list : tie.Need-slice-aggregate-check-list
-slice-aggregate-check-list c = sym (length-take-le _ _ (omega arith))
+slice-aggregate-check : tie.Need-slice-aggregate-check
+slice-aggregate-check c = sym (length-take-le _ _ (omega arith))
 
 of-bits-requires : tie.Need-of-bits-requires
 of-bits-requires c κs = search needs
@@ -46,22 +46,22 @@ of-bits-requires c κs = search needs
 array-share-prefix-cs : tie.Need-array-share-prefix-cs
 array-share-prefix-cs c = search needs
 
-slice-aggregate-check-list-2 : tie.Need-slice-aggregate-check-list-2
-slice-aggregate-check-list-2 c = sym (length-take-le _ _ (omega arith))
+slice-aggregate-check-2 : tie.Need-slice-aggregate-check-2
+slice-aggregate-check-2 c = sym (length-take-le _ _ (omega arith))
 
 array-share-prefix-ps : tie.Need-array-share-prefix-ps
 array-share-prefix-ps c = search needs
 
-slice-aggregate-check-list-3 : tie.Need-slice-aggregate-check-list-3
-slice-aggregate-check-list-3 c = sym (length-take-le _ _ (omega arith))
+slice-aggregate-check-3 : tie.Need-slice-aggregate-check-3
+slice-aggregate-check-3 c = sym (length-take-le _ _ (omega arith))
 
-check-list-requires : tie.Need-check-list-requires
-check-list-requires c κs = search needs
+check-requires : tie.Need-check-requires
+check-requires c κs = search needs
 
 returns : tie.Need-returns
 returns c =
-    let a = c .before .before .before .before .before .before .before .before .before .before .before .before .before .before .before .before .before .before .before .before .before .args in
-    checked-as (a .marks .now) (a .curves .now) (a .params .now) (a .firsts .now) (a .tolerance) (a .k) _ _ _ (c .before .before .before .before .before .before .before .before .before .before .before .before .copy-floats .ensures) (c .before .before .before .before .before .before .before .before .before .copy-floats2 .ensures) (c .before .before .before .before .before .before .copy-floats3 .ensures) (c .before .before .before .of-bits .ensures) (c .check-list .ensures)
+    let a = c .before .before .before .before .before .before .before .before .before .before .before .before .before .before .before .before .before .before .before .before .before .before .args in
+    checked-as (a .form) (a .marks .now) (a .curves .now) (a .params .now) (a .firsts .now) (a .worsts .now) (a .tolerance) (a .k) _ _ _ (c .before .before .before .before .before .before .before .before .before .before .before .before .copy-floats .ensures) (c .before .before .before .before .before .before .before .before .before .copy-floats2 .ensures) (c .before .before .before .before .before .before .copy-floats3 .ensures) (c .before .before .before .of-bits .ensures) (c .check .ensures)
 
 pub check-file-spec : {M : Type 1} → statement M
 check-file-spec =
@@ -77,11 +77,11 @@ check-file-spec =
     slice-aggregate-copy-floats-3
     copy-floats-requires-3
     array-share-prefix-ms
-    slice-aggregate-check-list
+    slice-aggregate-check
     of-bits-requires
     array-share-prefix-cs
-    slice-aggregate-check-list-2
+    slice-aggregate-check-2
     array-share-prefix-ps
-    slice-aggregate-check-list-3
-    check-list-requires
+    slice-aggregate-check-3
+    check-requires
     returns)

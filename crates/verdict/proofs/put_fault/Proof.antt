@@ -39,6 +39,15 @@ slice-aggregate-put-place-4 c = search needs
 put-place-requires-4 : tie.Need-put-place-requires-4
 put-place-requires-4 c κs = search needs
 
+enum-known-fault-5 : tie.Need-enum-known-fault-5
+enum-known-fault-5 c = search needs
+
+slice-aggregate-put-place-5 : tie.Need-slice-aggregate-put-place-5
+slice-aggregate-put-place-5 c = search needs
+
+put-place-requires-5 : tie.Need-put-place-requires-5
+put-place-requires-5 c κs = search needs
+
 same-length : tie.Need-same-length
 same-length c = search needs
 
@@ -63,6 +72,12 @@ same-length-4 c = search needs
 returns-4 : tie.Need-returns-4
 returns-4 c = rw (c .before .before .before .before .before .before .fault4 .given .1) (c .before .before .put-place4 .ensures)
 
+same-length-5 : tie.Need-same-length-5
+same-length-5 c = search needs
+
+returns-5 : tie.Need-returns-5
+returns-5 c = rw (c .before .before .before .before .before .before .fault5 .given .1) (c .before .before .put-place5 .ensures)
+
 pub put-fault-spec : {M : Type 1} → statement M
 put-fault-spec =
     tie.close
@@ -79,6 +94,9 @@ put-fault-spec =
     enum-known-fault-4
     slice-aggregate-put-place-4
     put-place-requires-4
+    enum-known-fault-5
+    slice-aggregate-put-place-5
+    put-place-requires-5
     same-length
     returns
     same-length-2
@@ -86,4 +104,6 @@ put-fault-spec =
     same-length-3
     returns-3
     same-length-4
-    returns-4)
+    returns-4
+    same-length-5
+    returns-5)

@@ -4,7 +4,7 @@ use mathlib.Core.List.{_++_}
 use Prim.Native.Nat.{_-_, _<_, _≤_}
 use native.Mathlib.Omega.{arith}
 use lib.ListN.{length, drop, length-set}
-use Rattle.house.specs.Bytes.{words}
+use Rattle.house.specs.Bytes.{row, words}
 use Rattle.house.proofs.Rows.{length-words}
 use Rattle.house.proofs.Turns.{words-turn}
 use Rattle.house.proofs.bytes.copy_words.Statement.{statement}
@@ -17,7 +17,7 @@ abbrev μ-loop : tie.MeasureT-loop
 μ-loop b at n out₀ i₀ out i = n - i
 
 loop-holds : tie.Need-loop-holds Inv-loop μ-loop
-unfolding words
+unfolding row
 loop-holds c = (omega arith, (refl, refl))
 
 mul-eight : tie.Need-mul-eight Inv-loop μ-loop

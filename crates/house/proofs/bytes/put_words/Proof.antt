@@ -4,7 +4,7 @@ use Prim.Native.Nat.{_+_, _-_, _<_, _≤_}
 use native.Mathlib.Omega.{arith}
 use lib.ListN.{length, take}
 use lib.Seq.{sets, length-sets}
-use Rattle.house.specs.Bytes.{les}
+use Rattle.house.specs.Bytes.{rowBytes, les}
 use Rattle.house.proofs.Turns.{words-put}
 use Rattle.house.proofs.bytes.put_words.Statement.{statement}
 use Rattle.house.proofs.bytes.put_words.Tie as tie
@@ -16,7 +16,7 @@ abbrev μ-loop : tie.MeasureT-loop
 μ-loop out₀ at xs n i₀ out i = n - i
 
 loop-holds : tie.Need-loop-holds Inv-loop μ-loop
-unfolding les
+unfolding rowBytes
 loop-holds c = (omega arith, (refl, refl))
 
 mul-put-eight : tie.Need-mul-put-eight Inv-loop μ-loop

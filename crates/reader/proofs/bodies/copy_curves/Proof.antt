@@ -1,130 +1,92 @@
--- `reader::bodies::copy_curves` meets its contract. After i turns the bodies of the first i records stand in front. Assumes nothing.
-use mathlib.Core.Path.{_≡_, refl}
-use mathlib.Core.List.{_++_}
-use Prim.Native.Nat.{_+_, _-_, _*_, _≤_}
+-- `reader::bodies::copy_curves` meets its contract. Assumes nothing.
+use mathlib.Core.Path.{_≡_, ap}
+use Prim.Native.Nat.{ℕ, _+_, _*_, _≤_}
+use native.Mathlib.Nat.{mul-le-mul-left}
 use native.Mathlib.Omega.{arith}
-use lib.ListN.{length, drop, set, length-take, length-drop}
-use Rattle.house.specs.Held.{firstsOf, curvesOf}
-use Rattle.grammar.proofs.Curves.{length-firsts, length-curves}
-use Rattle.reader.proofs.Turns.{Fronts, same-front, firsts-turn, curves-put}
+use lib.ListN.{drop}
+use Rattle.form.specs.Form.{width}
+use Rattle.house.specs.Limits.{curveBytes}
+use Rattle.house.proofs.Forms.{body-few, width-some}
+use Rattle.reader.proofs.Turns.{worsts-few, firsts-by, worsts-by, curves-by}
+use borrow.Author.Needs.{needs}
 use Rattle.reader.proofs.bodies.copy_curves.Statement.{statement}
 use Rattle.reader.proofs.bodies.copy_curves.Tie as tie
 
-abbrev Inv-loop : tie.InvT-loop
-Inv-loop b at k firsts₀ curves₀ i₀ firsts curves i = Fronts b at k firsts₀ curves₀ firsts curves i
+-- the bytes of the records, and their numbers
+bytes : (c : tie.After-body-bytes) → let a = c .before .before .before .before .before .args in (6 + c .body-bytes .result) * a .k ≡ curveBytes (a .form) * a .k
+bytes c = ap (λ (x : ℕ). (6 + x) * c .before .before .before .before .before .args .k) (c .body-bytes .ensures)
 
-abbrev μ-loop : tie.MeasureT-loop
-μ-loop b at k firsts₀ curves₀ i₀ firsts curves i = k - i
+numbers : (c : tie.After-width) → let a = c .before .before .before .before .before .before .before .before .before .before .before .before .before .before .before .before .args in c .width .result * a .k ≡ width (a .form) * a .k
+numbers c = ap (λ (x : ℕ). x * c .before .before .before .before .before .before .before .before .before .before .before .before .before .before .before .before .args .k) (c .width .ensures)
 
-loop-holds : tie.Need-loop-holds Inv-loop μ-loop
-unfolding firstsOf curvesOf
-loop-holds c = record { turns = omega arith; firsts = refl; curves = refl; same-firsts = refl; same-curves = refl }
+body-bytes-requires : tie.Need-body-bytes-requires
+body-bytes-requires c κs = search needs
 
-mul-body : tie.Need-mul-body Inv-loop μ-loop
-mul-body c = omega arith
+add-step : tie.Need-add-step
+add-step c = omega (arith, body-few (c .before .before .before .before .before .args .form), c .body-bytes .ensures)
 
-add-body : tie.Need-add-body Inv-loop μ-loop
-add-body c = omega arith
+copy-marks-requires : tie.Need-copy-marks-requires
+copy-marks-requires c κs = let s = c .before .before .before .before .before .before in (omega (arith, bytes (c .before), s .pre .0), (omega (arith, c .before .body-bytes .ensures), s .pre .1 .0))
 
-add-body-2 : tie.Need-add-body-2 Inv-loop μ-loop
-add-body-2 c = omega arith
+add-second : tie.Need-add-second
+add-second c = search needs
 
-two-requires : tie.Need-two-requires Inv-loop μ-loop
-two-requires c κs = omega arith
+worsts-for-requires : tie.Need-worsts-for-requires
+worsts-for-requires c κs = search needs
 
-cast-firsts : tie.Need-cast-firsts Inv-loop μ-loop
-cast-firsts c = omega arith
+copy-marks-requires-2 : tie.Need-copy-marks-requires-2
+copy-marks-requires-2 c κs =
+    let s = c .before .before .before .before .before .before .before .before .before .before .before in
+    let w : c .before .worsts-for .result ≤ s .args .k = omega (arith, worsts-few (s .args .form) (s .args .k), c .before .worsts-for .ensures) in
+    (omega (arith, bytes (c .before .before .before .before .before .before), s .pre .0, mul-le-mul-left (6 + c .before .before .before .before .before .before .body-bytes .result) w), (omega (arith, width-some (s .args .form), c .before .before .before .before .before .before .body-bytes .ensures), omega (arith, c .before .worsts-for .ensures, s .pre .1 .1 .0)))
 
-mul-firsts : tie.Need-mul-firsts Inv-loop μ-loop
-mul-firsts c = omega arith
+beside-bytes-requires : tie.Need-beside-bytes-requires
+beside-bytes-requires c κs = search needs
 
-slice-write-firsts : tie.Need-slice-write-firsts Inv-loop μ-loop
-slice-write-firsts c = omega arith
+add-numbers : tie.Need-add-numbers
+add-numbers c = omega (arith, body-few (c .before .before .before .before .before .before .before .before .before .before .before .before .before .before .before .args .form), c .beside-bytes .ensures)
 
-mul-j : tie.Need-mul-j Inv-loop μ-loop
-mul-j c = omega arith
+width-requires : tie.Need-width-requires
+width-requires c κs = search needs
 
-add-copy-words : tie.Need-add-copy-words Inv-loop μ-loop
-add-copy-words c = omega arith
+copy-rows-requires : tie.Need-copy-rows-requires
+copy-rows-requires c κs =
+    let s = c .before .before .before .before .before .before .before .before .before .before .before .before .before .before .before .before .before in
+    (omega (arith, bytes (c .before .before .before .before .before .before .before .before .before .before .before .before), s .pre .0), (omega (arith, c .before .before .before .before .before .before .before .before .before .before .before .before .body-bytes .ensures, c .before .before .beside-bytes .ensures, c .before .width .ensures), omega (arith, numbers (c .before), s .pre .1 .1 .1)))
 
-mul-copy-words : tie.Need-mul-copy-words Inv-loop μ-loop
-mul-copy-words c = omega arith
+same-length : tie.Need-same-length
+same-length c = search needs
 
-sub-copy-words : tie.Need-sub-copy-words Inv-loop μ-loop
-sub-copy-words c = omega arith
+same-length-2 : tie.Need-same-length-2
+same-length-2 c = search needs
 
-part-copy-words-start : tie.Need-part-copy-words-start Inv-loop μ-loop
-part-copy-words-start c = omega arith
+same-length-3 : tie.Need-same-length-3
+same-length-3 c = search needs
 
-part-copy-words-end : tie.Need-part-copy-words-end Inv-loop μ-loop
-part-copy-words-end c = omega arith
-
-copy-words-requires : tie.Need-copy-words-requires Inv-loop μ-loop
-copy-words-requires c κs = (omega arith, simp (length-take, length-drop) (omega arith))
-
-add-i : tie.Need-add-i Inv-loop μ-loop
-add-i c = omega arith
-
-loop-less : tie.Need-loop-less Inv-loop μ-loop
-loop-less c = omega arith
-
-loop-again : tie.Need-loop-again Inv-loop μ-loop
-loop-again c =
-    let after-two = c .before .before .before .before in
-    let l = after-two .before .before .loop in
-    let a = after-two .before .before .before .before .before .before .args in
-    let d = drop (a .at) (a .b .now) in
-    let h : l .i + 1 ≤ length (a .firsts .now) = omega arith in
-    let g : 8 * (l .i + 1) ≤ length (a .curves .now) = omega arith in
-    let e : 8 * l .i ≤ length (l .curves) = omega arith in
-    let p : set (l .firsts) (l .i) (after-two .two .result) ≡ firstsOf (l .i + 1) d ++ drop (l .i + 1) (a .firsts .now) =
-    rw (l .inv .firsts, after-two .two .ensures .0) (firsts-turn (a .b .now) (a .at) (a .firsts .now) (l .i) (omega arith)) in
-    let q = curves-put (a .b .now) (a .at) (a .curves .now) (l .curves) (c .before .before .copy-words .last .1 .1 .1 .0) (l .i) (l .inv .curves) e (c .before .before .copy-words .ensures) in
-    record {
-      turns = omega arith;
-      firsts = p;
-      curves = q;
-      same-firsts = same-front (firstsOf (l .i + 1) d) (a .firsts .now) _ (l .i + 1) p (length-firsts (l .i + 1) d) h;
-      same-curves = same-front (curvesOf (l .i + 1) d) (a .curves .now) _ (8 * (l .i + 1)) q (length-curves (l .i + 1) d) g;
-    }
-
-same-length : tie.Need-same-length Inv-loop μ-loop
-same-length c = c .before .loop .inv .same-firsts
-
-same-length-2 : tie.Need-same-length-2 Inv-loop μ-loop
-same-length-2 c = c .before .loop .inv .same-curves
-
-returns : tie.Need-returns Inv-loop μ-loop
+returns : tie.Need-returns
 returns c =
-    let l = c .before .loop in
-    let a = c .before .before .before .before .before .args in
-    let e : l .i ≡ a .k = omega arith in
-    (rw length-firsts (rw e at (l .inv .firsts)), rw length-curves (rw e at (l .inv .curves)))
+    let a = c .before .before .before .before .before .before .before .before .before .before .before .before .before .before .before .before .before .before .before .before .args in
+    let d = drop (a .at) (a .b .now) in
+    let r = c .before .before .before .before .before .before .before .before .before .before .before .before .before .before .before .body-bytes .ensures in (
+      firsts-by (a .form) (a .k) d r (a .firsts .now) (c .before .before .before .before .before .before .before .before .before .before .before .before .before .copy-marks .ensures),
+      (worsts-by (a .form) (a .k) d r (a .worsts .now) (c .before .before .before .before .before .before .before .before .before .before .worsts-for .ensures) (c .before .before .before .before .before .before .before .before .copy-marks2 .ensures), curves-by (a .form) (a .k) d r (a .curves .now) (c .before .before .before .before .before .beside-bytes .ensures) (c .before .before .before .before .width .ensures) (c .before .before .copy-rows .ensures)),
+    )
 
 pub copy-curves-spec : {M : Type 1} → statement M
 copy-curves-spec =
     tie.close
     (tie.spec
-    Inv-loop
-    μ-loop
-    loop-holds
-    mul-body
-    add-body
-    add-body-2
-    two-requires
-    cast-firsts
-    mul-firsts
-    slice-write-firsts
-    mul-j
-    add-copy-words
-    mul-copy-words
-    sub-copy-words
-    part-copy-words-start
-    part-copy-words-end
-    copy-words-requires
-    add-i
-    loop-less
-    loop-again
+    body-bytes-requires
+    add-step
+    copy-marks-requires
+    add-second
+    worsts-for-requires
+    copy-marks-requires-2
+    beside-bytes-requires
+    add-numbers
+    width-requires
+    copy-rows-requires
     same-length
     same-length-2
+    same-length-3
     returns)

@@ -1,30 +1,37 @@
 -- `reader::bodies::copy_file` meets its contract. Assumes nothing.
-use Prim.Native.Nat.{_<_}
+use mathlib.Core.Path.{_≡_, ap}
+use Prim.Native.Nat.{ℕ, _+_, _*_, _<_}
 use native.Mathlib.Omega.{arith}
-use borrow.Author.Needs.{needs}
-use Rattle.house.specs.Bytes.{words}
-use Rattle.house.specs.Held.{firstsOf, curvesOf}
-use Rattle.grammar.proofs.Formed.{params-some}
+use Rattle.house.specs.Limits.{curveBytes}
+use Rattle.house.specs.Bytes.{row}
+use Rattle.house.specs.Held.{inEach}
+use Rattle.house.proofs.Forms.{body-few}
 use Rattle.grammar.proofs.Rooms.{room-start, room-whole, room-params}
+use Rattle.reader.proofs.Turns.{params-by}
+use borrow.Author.Needs.{needs}
 use Rattle.reader.proofs.bodies.copy_file.Statement.{statement}
 use Rattle.reader.proofs.bodies.copy_file.Tie as tie
 
 -- there are curves
-some : (c : tie.Else1) → 0 < c .before .before .before .before .before .before .before .before .before .before .args .k
+some : (c : tie.Else1) → 0 < c .before .before .before .before .before .before .before .before .before .before .before .args .k
 some c = omega arith
+
+-- the bytes of their records
+bytes : (c : tie.After-body-bytes) → let a = c .before .before .before .before .before .before .before .before .before .before .before .before .before .before .before .before .before .before .before .before .before .before .args in (6 + c .body-bytes .result) * a .k ≡ curveBytes (a .form) * a .k
+bytes c = ap (λ (x : ℕ). (6 + x) * c .before .before .before .before .before .before .before .before .before .before .before .before .before .before .before .before .before .before .before .before .before .before .args .k) (c .body-bytes .ensures)
 
 mul-copy-words : tie.Need-mul-copy-words
 mul-copy-words c = search needs
 
 copy-words-requires : tie.Need-copy-words-requires
-copy-words-requires c κs = let r = c .before .before .before .before .before .before .pre in (omega (arith, room-start r), r .marks)
+copy-words-requires c κs = let r = c .before .before .before .before .before .before .before .pre in (omega (arith, room-start r), r .marks)
 
 same-length : tie.Need-same-length
 same-length c = search needs
 
 returns : tie.Need-returns
-unfolding words firstsOf curvesOf
-returns c = let e = c .if1 .taken in record { marks = c .before .before .before .copy-words .ensures; firsts = rw e; curves = rw e; params = rw e }
+unfolding row inEach
+returns c = let e = c .if1 .taken in record { marks = c .before .before .before .copy-words .ensures; firsts = rw e; worsts = rw e; curves = rw e; params = rw e }
 
 mul-end : tie.Need-mul-end
 mul-end c = search needs
@@ -33,19 +40,25 @@ add-end : tie.Need-add-end
 add-end c = search needs
 
 copy-curves-requires : tie.Need-copy-curves-requires
-copy-curves-requires c κs = let r = c .before .before .before .before .before .before .before .before .before .before .before .before .pre in (omega (arith, room-whole r (some (c .before .before))), (r .firsts, r .curves))
+copy-curves-requires c κs = let r = c .before .before .before .before .before .before .before .before .before .before .before .before .before .before .pre in (omega (arith, room-whole r (some (c .before .before .before))), (r .firsts, (r .worsts, r .curves)))
+
+body-bytes-requires : tie.Need-body-bytes-requires
+body-bytes-requires c κs = search needs
+
+add-step : tie.Need-add-step
+add-step c = omega (arith, body-few (c .before .before .before .before .before .before .before .before .before .before .before .before .before .before .before .before .before .before .before .before .before .before .args .form), c .body-bytes .ensures)
 
 mul-last : tie.Need-mul-last
-mul-last c = search needs
+mul-last c = omega (arith, bytes c, room-whole (c .before .before .before .before .before .before .before .before .before .before .before .before .before .before .before .before .before .before .before .before .before .before .pre) (some (c .before .before .before .before .before .before .before .before .before .before .before)))
 
 add-last : tie.Need-add-last
-add-last c = omega (arith, room-whole (c .before .before .before .before .before .before .before .before .before .before .before .before .before .before .before .before .before .pre) (some (c .before .before .before .before .before .before .before)))
+add-last c = omega (arith, bytes c, room-whole (c .before .before .before .before .before .before .before .before .before .before .before .before .before .before .before .before .before .before .before .before .before .before .pre) (some (c .before .before .before .before .before .before .before .before .before .before .before)))
 
 add-last-2 : tie.Need-add-last-2
-add-last-2 c = omega (arith, room-whole (c .before .before .before .before .before .before .before .before .before .before .before .before .before .before .before .before .before .pre) (some (c .before .before .before .before .before .before .before)))
+add-last-2 c = omega (arith, bytes c, room-whole (c .before .before .before .before .before .before .before .before .before .before .before .before .before .before .before .before .before .before .before .before .before .before .pre) (some (c .before .before .before .before .before .before .before .before .before .before .before)))
 
 copy-words-requires-2 : tie.Need-copy-words-requires-2
-copy-words-requires-2 c κs = let r = c .before .before .before .before .before .before .before .before .before .before .before .before .before .before .before .before .before .before .pre in (omega (arith, room-whole r (some (c .before .before .before .before .before .before .before .before))), omega (arith, room-params r (some (c .before .before .before .before .before .before .before .before))))
+copy-words-requires-2 c κs = let r = c .before .before .before .before .before .before .before .before .before .before .before .before .before .before .before .before .before .before .before .before .before .before .before .pre in (omega (arith, bytes (c .before), room-whole r (some (c .before .before .before .before .before .before .before .before .before .before .before .before))), omega (arith, room-params r (some (c .before .before .before .before .before .before .before .before .before .before .before .before))))
 
 same-length-2 : tie.Need-same-length-2
 same-length-2 c = search needs
@@ -59,10 +72,20 @@ same-length-4 c = search needs
 same-length-5 : tie.Need-same-length-5
 same-length-5 c = search needs
 
+same-length-6 : tie.Need-same-length-6
+same-length-6 c = search needs
+
 returns-2 : tie.Need-returns-2
 returns-2 c =
-    let s = c .before .before .before .before .before .before .before .before .copy-curves .ensures in
-    record { marks = c .before .before .before .before .before .before .before .before .before .before .before .before .before .before .copy-words .ensures; firsts = s .0; curves = s .1; params = rw (params-some (c .before .before .before .before .before .before .before .before .before .before .before .before .before .before .before .before .before .before .before .before .before .args .n) (some (c .before .before .before .before .before .before .before .before .before .before .before))) (c .before .before .copy-words2 .ensures) }
+    let s = c .before .before .before .before .before .before .before .before .before .before .before .copy-curves .ensures in
+    let a = c .before .before .before .before .before .before .before .before .before .before .before .before .before .before .before .before .before .before .before .before .before .before .before .before .before .before .args in
+    record {
+      marks = c .before .before .before .before .before .before .before .before .before .before .before .before .before .before .before .before .before .before .copy-words .ensures;
+      firsts = s .0;
+      worsts = s .1 .0;
+      curves = s .1 .1;
+      params = params-by (a .b .now) (a .form) (a .n) (a .k) (a .params .now) (some (c .before .before .before .before .before .before .before .before .before .before .before .before .before .before .before)) (c .before .before .before .before .body-bytes .ensures) (c .before .before .copy-words2 .ensures);
+    }
 
 pub copy-file-spec : {M : Type 1} → statement M
 copy-file-spec =
@@ -75,6 +98,8 @@ copy-file-spec =
     mul-end
     add-end
     copy-curves-requires
+    body-bytes-requires
+    add-step
     mul-last
     add-last
     add-last-2
@@ -83,4 +108,5 @@ copy-file-spec =
     same-length-3
     same-length-4
     same-length-5
+    same-length-6
     returns-2)

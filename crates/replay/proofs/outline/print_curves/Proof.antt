@@ -7,28 +7,22 @@ use Rattle.replay.proofs.outline.print_curves.Statement.{statement}
 use Rattle.replay.proofs.outline.print_curves.Tie as tie
 
 abbrev Inv-loop : tie.InvT-loop
-Inv-loop curves firsts i₀ i = i ≤ length firsts
+Inv-loop curves firsts worsts i₀ i = i ≤ length firsts
 
 abbrev μ-loop : tie.MeasureT-loop
-μ-loop curves firsts i₀ i = length firsts - i
+μ-loop curves firsts worsts i₀ i = length firsts - i
 
 loop-holds : tie.Need-loop-holds Inv-loop μ-loop
 loop-holds c = search needs
 
-mul-wide : tie.Need-mul-wide Inv-loop μ-loop
-mul-wide c = search needs
+print-mark-requires : tie.Need-print-mark-requires Inv-loop μ-loop
+print-mark-requires c κs = search needs
 
-shared-slice-read-wide : tie.Need-shared-slice-read-wide Inv-loop μ-loop
-shared-slice-read-wide c = omega arith
+print-mark-requires-2 : tie.Need-print-mark-requires-2 Inv-loop μ-loop
+print-mark-requires-2 c κs = search needs
 
-wide-requires : tie.Need-wide-requires Inv-loop μ-loop
-wide-requires c κs = search needs
-
-print-next-count-requires : tie.Need-print-next-count-requires Inv-loop μ-loop
-print-next-count-requires c κs = search needs
-
-curve-at-requires : tie.Need-curve-at-requires Inv-loop μ-loop
-curve-at-requires c κs = search needs
+record-at-requires : tie.Need-record-at-requires Inv-loop μ-loop
+record-at-requires c κs = search needs
 
 print-floats-requires : tie.Need-print-floats-requires Inv-loop μ-loop
 print-floats-requires c κs = search needs
@@ -52,11 +46,9 @@ print-curves-spec =
     Inv-loop
     μ-loop
     loop-holds
-    mul-wide
-    shared-slice-read-wide
-    wide-requires
-    print-next-count-requires
-    curve-at-requires
+    print-mark-requires
+    print-mark-requires-2
+    record-at-requires
     print-floats-requires
     add-i
     loop-less

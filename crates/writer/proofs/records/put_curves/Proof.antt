@@ -1,68 +1,58 @@
 -- `writer::records::put_curves` meets its contract. After i turns the records of the first i curves are put. Assumes nothing.
 use mathlib.Core.Path.{_≡_, refl, ap, _∙_}
-use Prim.Native.Nat.{_+_, _-_, _*_, _<_, _≤_}
+use Prim.Native.Nat.{ℕ, _+_, _-_, _*_, _<_, _≤_}
 use native.Mathlib.Omega.{arith}
-use lib.ListN.{length, take, length-take, length-drop}
+use borrow.Author.Needs.{needs}
+use lib.ListN.{length, take}
 use lib.Seq.{sets, length-sets}
+use Rattle.form.specs.Form.{width, worstsFor}
+use Rattle.house.specs.Limits.{curveBytes}
 use Rattle.house.specs.File.{flat, curveRecords}
-use Rattle.writer.proofs.Turns.{curves-put, eight-of}
+use Rattle.house.proofs.Forms.{body-few, within, worsts-within}
+use Rattle.writer.proofs.Turns.{curves-put}
 use Rattle.writer.proofs.records.put_curves.Statement.{statement}
 use Rattle.writer.proofs.records.put_curves.Tie as tie
 
 abbrev Inv-loop : tie.InvT-loop
-Inv-loop out₀ at firsts curves k i₀ out i = (i ≤ k) × ((out ≡ sets out₀ at (flat (curveRecords (take i firsts) (take (8 * i) curves)))) × (length out ≡ length out₀))
+Inv-loop out₀ at form firsts worsts curves k step i₀ out i = (i ≤ k) × ((out ≡ sets out₀ at (flat (curveRecords form (take i firsts) (take (worstsFor form i) worsts) (take (width form * i) curves)))) × (length out ≡ length out₀))
 
 abbrev μ-loop : tie.MeasureT-loop
-μ-loop out₀ at firsts curves k i₀ out i = k - i
+μ-loop out₀ at form firsts worsts curves k step i₀ out i = k - i
+
+body-bytes-requires : tie.Need-body-bytes-requires Inv-loop μ-loop
+body-bytes-requires c κs = search needs
+
+add-step : tie.Need-add-step Inv-loop μ-loop
+add-step c = omega (arith, body-few (c .before .before .before .before .before .args .form), c .body-bytes .ensures)
 
 loop-holds : tie.Need-loop-holds Inv-loop μ-loop
 unfolding flat curveRecords
 loop-holds c = (omega arith, (refl, refl))
 
-mul-head : tie.Need-mul-head Inv-loop μ-loop
-mul-head c = omega arith
+-- the record that is put is one of the k
+inside : (c : tie.In-loop Inv-loop μ-loop) → let a = c .before .before .before .before .before .before .before .args in let step = 6 + c .before .before .body-bytes .result in
+    (step * c .before .loop .i + step ≤ step * a .k) × (step * a .k ≡ curveBytes (a .form) * a .k)
+inside c = let a = c .before .before .before .before .before .before .before .args in (within (6 + c .before .before .body-bytes .result) (a .k) (c .before .loop .i) (omega arith), ap (λ (x : ℕ). (6 + x) * a .k) (c .before .before .body-bytes .ensures))
 
-add-head : tie.Need-add-head Inv-loop μ-loop
-add-head c = omega arith
+mul-put-curve : tie.Need-mul-put-curve Inv-loop μ-loop
+mul-put-curve c = omega (arith, inside (c .before))
 
-put-head-requires : tie.Need-put-head-requires Inv-loop μ-loop
-put-head-requires c κs = omega arith
+add-put-curve : tie.Need-add-put-curve Inv-loop μ-loop
+add-put-curve c = omega (arith, inside (c .before))
 
-add-body : tie.Need-add-body Inv-loop μ-loop
-add-body c = omega arith
-
-mul-put-two : tie.Need-mul-put-two Inv-loop μ-loop
-mul-put-two c = omega arith
-
-shared-slice-read-put-two : tie.Need-shared-slice-read-put-two Inv-loop μ-loop
-shared-slice-read-put-two c = omega arith
-
-cast-put-two : tie.Need-cast-put-two Inv-loop μ-loop
-cast-put-two c = omega (arith, c .shared-slice-known3 .given (c .before .before .before .before .before .before .before .loop .i))
-
-put-two-requires : tie.Need-put-two-requires Inv-loop μ-loop
-put-two-requires c κs = omega arith
-
-mul-j : tie.Need-mul-j Inv-loop μ-loop
-mul-j c = omega arith
-
-add-put-words : tie.Need-add-put-words Inv-loop μ-loop
-add-put-words c = omega arith
-
-mul-put-words : tie.Need-mul-put-words Inv-loop μ-loop
-mul-put-words c = omega arith
-
-sub-put-words : tie.Need-sub-put-words Inv-loop μ-loop
-sub-put-words c = omega arith
-
-part-put-words-start : tie.Need-part-put-words-start Inv-loop μ-loop
-part-put-words-start c = omega arith
-
-part-put-words-end : tie.Need-part-put-words-end Inv-loop μ-loop
-part-put-words-end c = omega arith
-
-put-words-requires : tie.Need-put-words-requires Inv-loop μ-loop
-put-words-requires c κs = (omega arith, simp (length-take, length-drop) (omega arith))
+put-curve-requires : tie.Need-put-curve-requires Inv-loop μ-loop
+put-curve-requires c κs =
+    let s = c .before .before .before .before .before .before .before .before in
+    let i = c .before .before .loop .i in (
+      omega (arith, inside (c .before), c .before .before .before .body-bytes .ensures, c .before .before .loop .inv .1 .1, s .pre .0),
+      (
+        omega (arith, s .pre .1 .0),
+        (
+          omega (arith, worsts-within (s .args .form) (s .args .k) i (omega arith), s .pre .1 .1 .0),
+          omega (arith, within (width (s .args .form)) (s .args .k) i (omega arith), s .pre .1 .1 .1),
+        ),
+      ),
+    )
 
 add-i : tie.Need-add-i Inv-loop μ-loop
 add-i c = omega arith
@@ -72,16 +62,15 @@ loop-less c = omega arith
 
 loop-again : tie.Need-loop-again Inv-loop μ-loop
 loop-again c =
-    let after-two = c .before .before .before .before .before .before .before in
-    let after-head = after-two .before .before .before .before .before in
-    let l = after-head .before .before .before .loop in
-    let a = after-head .before .before .before .before .before .before .before .args in
-    let h : l .i < length (a .firsts .now) = omega arith in
-    let g : 8 * (l .i + 1) ≤ length (a .curves .now) = omega arith in
-    let rs = flat (curveRecords (take (l .i + 1) (a .firsts .now)) (take (8 * (l .i + 1)) (a .curves .now))) in
-    let e : c .before .before .put-words .last .0 ≡ sets (a .out .now) (a .at) rs =
-    c .before .before .put-words .ensures
-    ∙ rw (after-two .put-two .ensures, after-head .put-head .ensures, l .inv .1 .0, eight-of) (curves-put (a .out .now) (a .firsts .now) (a .curves .now) (a .at) (l .i) h g) in
+    let l = c .before .before .before .before .before .loop in
+    let s = c .before .before .before .before .before .before .before .before .before .before .before in
+    let a = s .args in
+    let rs = flat (curveRecords (a .form) (take (l .i + 1) (a .firsts .now)) (take (worstsFor (a .form) (l .i + 1)) (a .worsts .now)) (take (width (a .form) * (l .i + 1)) (a .curves .now))) in
+    let h : l .i < length (a .firsts .now) = omega (arith, s .pre .1 .0) in
+    let w : worstsFor (a .form) (l .i + 1) ≤ length (a .worsts .now) = omega (arith, worsts-within (a .form) (a .k) (l .i) (omega arith), s .pre .1 .1 .0) in
+    let n : width (a .form) * (l .i + 1) ≤ length (a .curves .now) = omega (arith, within (width (a .form)) (a .k) (l .i) (omega arith), s .pre .1 .1 .1) in
+    let e : c .before .before .put-curve .last .0 ≡ sets (a .out .now) (a .at) rs =
+    c .before .before .put-curve .ensures ∙ rw (l .inv .1 .0, c .before .before .before .before .before .before .body-bytes .ensures) (curves-put (a .form) (a .out .now) (a .firsts .now) (a .worsts .now) (a .curves .now) (a .at) (l .i) h w n) in
     (omega arith, (e, ap length e ∙ length-sets (a .out .now) (a .at) rs))
 
 same-length : tie.Need-same-length Inv-loop μ-loop
@@ -90,7 +79,7 @@ same-length c = c .before .loop .inv .1 .1
 returns : tie.Need-returns Inv-loop μ-loop
 returns c =
     let l = c .before .loop in
-    let a = c .before .before .before .before .before .args in
+    let a = c .before .before .before .before .before .before .before .args in
     let e : l .i ≡ a .k = omega arith in
     rw e at (l .inv .1 .0)
 
@@ -100,22 +89,12 @@ put-curves-spec =
     (tie.spec
     Inv-loop
     μ-loop
+    body-bytes-requires
+    add-step
     loop-holds
-    mul-head
-    add-head
-    put-head-requires
-    add-body
-    mul-put-two
-    shared-slice-read-put-two
-    cast-put-two
-    put-two-requires
-    mul-j
-    add-put-words
-    mul-put-words
-    sub-put-words
-    part-put-words-start
-    part-put-words-end
-    put-words-requires
+    mul-put-curve
+    add-put-curve
+    put-curve-requires
     add-i
     loop-less
     loop-again
