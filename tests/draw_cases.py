@@ -158,9 +158,10 @@ class Sheets(unittest.TestCase):
             self.assertIn(words, all_words(drawn, colour))
         self.assertNotIn('0.400 mm', all_words(drawn, COLOURS[0]))
         self.assertIn('Small rings: the worst mark of each curve with 5 marks or more under it', all_words(drawn))
-        self.assertIn('worst of a curve', all_words(drawn))
-        for words in ('Small rings', 'worst of a curve'):
-            self.assertNotIn(words, all_words(self.drawn(marks)))
+        self.assertIn('worst', [text.text for text in drawn.iter(f'{SVG}text')])
+        without = self.drawn(marks)
+        self.assertNotIn('Small rings', all_words(without))
+        self.assertNotIn('worst', [text.text for text in without.iter(f'{SVG}text')])
 
     def test_many_long_curves(self):
         """All have their ring; distances stand only where there is room, on no other words and close to their marks."""

@@ -257,7 +257,7 @@ def signs_of(outline):
     signs = [('mark', lambda x, y, s: path(plus(x, y, 0.3 * s), look('none', INK, 0.045 * s))),
              ('joint', lambda x, y, s: circle(x, y, 0.22 * s, look(WHITE, INK, 0.05 * s)))]
     if outline.listed.long:
-        signs.append(('worst of a curve', lambda x, y, s: circle(x, y, 0.24 * s, look('none', COLOURS[0], 0.06 * s))))
+        signs.append(('worst', lambda x, y, s: circle(x, y, 0.24 * s, look('none', COLOURS[0], 0.06 * s))))
     if outline.listed.far:
         signs.append(('farthest mark', lambda x, y, s: circle(x, y, 0.33 * s, look('none', RED, 0.08 * s))))
     if outline.listed.ring:
