@@ -7,6 +7,7 @@ use native.Mathlib.Omega.{arith}
 use lib.ListN.{length, take, drop, getD, length-append}
 use lib.Seq.{take-suc, take-take, drop-drop}
 use lib.Ieee.{Float, nan}
+use Rattle.text.specs.Put.{Put}
 use Rattle.text.proofs.Digits.{length-hex}
 use Rattle.lines.specs.Lines.{numbers, pieceLine, pieceLines}
 
@@ -38,6 +39,9 @@ pub pieces-suc : (P : List ℕ) (C : List Float) (i : ℕ) → i < length P
     → pieceLines (take i P) C ++ pieceLine (getD P i 0) (take 8 (drop (9 * i) C)) ≡ pieceLines (take (i + 1) P) C
 pieces-suc P C i h = rw (add-one i) (pieces-next P C i h)
 
--- the curve that was lent as all numbers from 9 * i on
-pub piece-part : (C : List Float) (i : ℕ) → 9 * i + 9 ≤ length C → take 8 (take (length C - 9 * i) (drop (9 * i) C)) ≡ take 8 (drop (9 * i) C)
+-- the line of a curve that was lent as all numbers from 9 * i on
+piece-part : (C : List Float) (i : ℕ) → 9 * i + 9 ≤ length C → take 8 (take (length C - 9 * i) (drop (9 * i) C)) ≡ take 8 (drop (9 * i) C)
 piece-part C i h = take-take 8 (length C - 9 * i) (drop (9 * i) C) (omega arith)
+
+pub piece-put : (C : List Float) (i p : ℕ) {l m : List ℕ} {at e : ℕ} → 9 * i + 9 ≤ length C → Put l at (pieceLine p (take 8 (take (length C - 9 * i) (drop (9 * i) C)))) m e → Put l at (pieceLine p (take 8 (drop (9 * i) C))) m e
+piece-put C i p h q = rw (piece-part C i h) at q

@@ -7,7 +7,7 @@ use lib.ListN.{length, take, length-take, length-drop}
 use Rattle.text.specs.Put.{Put}
 use Rattle.text.proofs.Stores.{next, put-length}
 use Rattle.lines.specs.Lines.{pieceLines}
-use Rattle.lines.proofs.Turns.{pieces-suc, piece-part}
+use Rattle.lines.proofs.Turns.{pieces-suc, piece-put}
 use Rattle.lines.proofs.put_pieces.Statement.{statement}
 use Rattle.lines.proofs.put_pieces.Tie as tie
 
@@ -58,7 +58,7 @@ loop-again c =
     let h : l .i < length (a .firsts .now) = omega arith in
     let m : 9 * l .i + 9 ≤ length (a .curves .now) = omega arith in
     let p = c .before .before .put-piece .ensures in
-    (omega arith, omega (arith, p .0), rw (pieces-suc (a .firsts .now) (a .curves .now) (l .i) h) at (next (l .inv .2) (rw (piece-part (a .curves .now) (l .i) m) at (p .1))))
+    (omega arith, omega (arith, p .0), rw (pieces-suc (a .firsts .now) (a .curves .now) (l .i) h) at (next (l .inv .2) (piece-put (a .curves .now) (l .i) _ m (p .1))))
 
 same-length : tie.Need-same-length Inv-loop μ-loop
 same-length c = put-length (c .before .loop .inv .2)
