@@ -18,7 +18,7 @@ use Rattle.ring.specs.Ring.{again, whole, Even}
 use Rattle.ring.specs.declared.Outline.{Outline}
 use Rattle.ring.specs.declared.Outline.the-variants.{Closed}
 use Rattle.ring.proofs.Whole.{again-small, whole-count, halves, given, as-closed}
-use Rattle.faults.specs.Tests.{firstAt, curveAt, lastAt, stopAt, runs, farther, unmeasured, squareAt, farthest, kept}
+use Rattle.faults.specs.Tests.{firstAt, curveAt, lastAt, stopAt, runs, unmeasured, squareAt, farthest}
 use Rattle.faults.proofs.Forms.{curve-within, worst-within}
 use Rattle.faults.proofs.Farther.{farther-same}
 use Rattle.faults.proofs.Firsts.{span}

@@ -32,7 +32,7 @@ pub data Run : Type 0 where
   refused : ℕ → Run
   done : List Float → List Beside → List Float → Run
 
--- the nine numbers of a curve and its largest distance: start, first control, second control, end, each x then y, and the distance
+-- the nine numbers of a record: start, first control, second control, end, each x then y, and the largest distance
 abbrev pub flat : Curve → Float → List Float
 flat c far = c .start .x ∷ c .start .y ∷ c .cp1 .x ∷ c .cp1 .y ∷ c .cp2 .x ∷ c .cp2 .y ∷ c .end .x ∷ c .end .y ∷ far ∷ []
 

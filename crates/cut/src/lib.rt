@@ -20,7 +20,7 @@ pub enum Fitted {
     Refused(u32),
 }
 
-// The nine numbers of a curve and its largest distance, at the front of the slice.
+// A curve's eight numbers and its largest distance, at the front of the slice.
 fn put_record(curves: &mut [f64], c: Curve, far: f64)
     requires { ⌜ recordNumbers ≤ length (now curves) ⌝ }
     ensures { λ _. ⌜ now (curves .exit) ≡ written (flat c far) (now (curves .entry)) ⌝ }

@@ -2,7 +2,6 @@
 // word that is not what was asked for comes `NOWHERE`, and behind `NOWHERE` nothing but `NOWHERE`. So a case takes all its words, and then asks
 // once whether the last place is the line's end.
 ghost use Prim.Native.Nat.{_≤_};
-ghost use lib.ListN.{length};
 use bytes::scan;
 use plane::Curve;
 use plane::Point;

@@ -1,6 +1,5 @@
 -- `checker::check_kept` meets its contract. Assumes nothing.
 use borrow.Author.Needs.{needs}
-use mathlib.Core.Path.{_∙_}
 use Rattle.checker.proofs.Kept.{by-stop, by-kept, by-unkept}
 use Rattle.checker.proofs.check_kept.Statement.{statement}
 use Rattle.checker.proofs.check_kept.Tie as tie

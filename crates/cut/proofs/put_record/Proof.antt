@@ -1,6 +1,6 @@
 -- `cut::put_record` meets its contract: nine stores from index 0 on. Assumes nothing.
 use native.Mathlib.Omega.{arith}
-use lib.ListN.{length, length-set}
+use lib.ListN.{length-set}
 use lib.Seq.{sets-eq}
 use borrow.Author.Needs.{needs}
 use Rattle.cut.specs.Run.{flat}

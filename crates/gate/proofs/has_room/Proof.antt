@@ -1,7 +1,6 @@
 -- `gate::has_room`: the room is divided. Assumes nothing.
 use borrow.Author.Needs.{needs}
 use native.Mathlib.Omega.{arith}
-use mathlib.Core.Path.{_≡_}
 use Rattle.gate.specs.Gate.{roomFor}
 use Rattle.gate.proofs.Tests.{room-by, has-width}
 use Rattle.gate.proofs.has_room.Statement.{statement}
