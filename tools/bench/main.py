@@ -198,7 +198,7 @@ def plot(words):
 # ---- explain
 
 def explain(words):
-    names = sorted(said.rows()) if words.number is None else [words.number.upper()]
+    names = said.given() if words.number is None else [words.number.upper()]
     print('\n'.join(said.explained(name) for name in names))
     return 0
 
@@ -253,7 +253,7 @@ def parser():
     verb.add_argument('--tiles', metavar='A4|A3|WxH', help='an HTML file with a page for every sheet of this paper, to print and glue; W and H in millimetres')
 
     verb = add_verb(verbs, explain, 'Says what a refusal or a fault means and what to do; all of them without a number.', 'wesalondo explain 5')
-    verb.add_argument('number', metavar='N', nargs='?', help='a refusal, 1 to 9, or a fault, A to E')
+    verb.add_argument('number', metavar='N', nargs='?', help='a refusal, 1 to 6, 8 or 9, or a fault, A to E')
     return whole
 
 

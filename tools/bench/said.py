@@ -40,6 +40,10 @@ def millimetres(far, tolerance):
 
 # ---- docs/BENCH.md
 
+# what the page says in short of a number that has left the table
+PAST = 'not given any more'
+
+
 def rows():
     """The tables of refusals and of faults: for each number or letter what it is in short, what it means and what to do."""
     with open(PAGE, encoding='utf-8') as file:
@@ -50,7 +54,7 @@ def rows():
 def row(name):
     known = rows()
     if name not in known:
-        raise Stop(f'there is no {name!r}: the refusals are 1 to 9, and the faults A to E' if known else f'{PAGE} has no table of refusals')
+        raise Stop(f'there is no {name!r}: the refusals are 1 to 6, 8 and 9, and the faults A to E' if known else f'{PAGE} has no table of refusals')
     return known[name]
 
 
@@ -58,6 +62,11 @@ def refusal(number):
     """A refusal in one line."""
     short, meaning, _ = row(str(number))
     return f'refused {number}, {short}: {meaning}'
+
+
+def given():
+    """The numbers and letters that are given, in their order."""
+    return sorted(name for name, (short, *_) in rows().items() if short != PAST)
 
 
 def explained(name):

@@ -1,7 +1,7 @@
--- A fit refuses by 1 to 7 and by no other number: the bounds that end the recursions of the definitions are out of reach. Assumes nothing.
+-- A fit refuses by 1 to 6 and by no other number: the bounds that end the recursions of the definitions are out of reach. Assumes nothing.
 use Prim.Native.Nat.{ℕ, zero, suc, _+_, _-_, _*_, _%_, _≤_, _<_}
 use native.Mathlib.Omega.{arith}
-use mathlib.Core.Path.{_≡_, refl, ap}
+use mathlib.Core.Path.{_≡_, refl, ap, _∙_}
 use mathlib.Core.Logic.{_⊎_, inl, inr}
 use mathlib.Core.Bool.{Bool, true, false, not, cond}
 use mathlib.Core.List.{List}
@@ -14,7 +14,6 @@ use Rattle.float.specs.Answer.{refused as no}
 use Rattle.plane.specs.declared.Point.{Point}
 use Rattle.marks.specs.Marks.{count}
 use Rattle.marks.specs.Block.{blockSize}
-use Rattle.part.proofs.Ends.{Stops}
 use Rattle.cut.specs.Run.{Run, refused, done, join, turned, runOf}
 use Rattle.tangents.specs.declared.Ways.{Ways}
 use Rattle.cut.proofs.Run.{run-ind}
@@ -24,20 +23,21 @@ use Rattle.ring.specs.declared.Outline.the-variants.{Open}
 use Rattle.ring.proofs.Whole.{whole-even}
 use Rattle.form.specs.declared.Form.{Form}
 use Rattle.form.specs.declared.Form.the-variants.{Nine}
-use Rattle.gate.specs.Gate.{inRange, tolerable, refuse, roomFor, gateFor, gateOf}
+use Rattle.gate.specs.Gate.{inRange, tolerable, Usable, refuse, roomFor, gateFor, gateOf}
 use Rattle.gate.proofs.Tests.{passed, passed-even}
 use Rattle.tangents.specs.declared.Cutting.{Cutting}
 use Rattle.blocks.specs.Blocks.{blockAt, blockOf, lastOf, blocks, blocksFrom, blocksOf}
 use Rattle.tangents.specs.Ways.{over, outlineOf, marksOf, waysOf}
 use Rattle.fit.specs.Fit.{Ending, fittedAnswer, ending, ended, entered, fitOf, areTangents, cubicGate, cubicOf}
-use Rattle.fit.proofs.Entries.{size-within, cubic-passed}
+use Rattle.blocks.proofs.Blocks.{usable-block}
+use Rattle.fit.proofs.Entries.{size-within, cubic-passed, passed-usable}
 use Rattle.accepted.specs.Refusals.{Before, Inside, FitRefuses, DirectRefuses}
 use Rattle.accepted.proofs.Within.{block-count}
 
--- ---- a run refuses by 6 or 7
+-- ---- a run refuses by 6
 
 abbrev Stopped : Run → Type 0
-Stopped (refused q) = Stops q
+Stopped (refused q) = q ≡ 6
 Stopped (done cs bs ps) = Unit {0}
 
 join-stops : (k : ℕ) (R R′ : Run) → Stopped R → Stopped R′ → Stopped (join k R R′)
@@ -45,17 +45,17 @@ join-stops k (refused q) R′ a b = a
 join-stops k (done c f p) (refused q) a b = b
 join-stops k (done c f p) (done c′ f′ p′) a b = tt
 
-run-stops : (ms : List Float) (first : ℕ) (s e : Point) (tol : Float) → 2 ≤ count ms → Stopped (runOf ms first s e tol)
-run-stops = run-ind (λ ms first R. Stopped R) (λ ms first c w ps h sd. tt) (λ ms first q s. s) (λ ms first k R R′ i j a b. join-stops k R R′ a b)
+run-stops : (ms : List Float) (first : ℕ) (s e : Point) (tol : Float) → 2 ≤ count ms → Usable ms tol → Stopped (runOf ms first s e tol)
+run-stops ms first s e tol = run-ind tol (λ ms first R. Stopped R) (λ ms first c w ps h f. tt) (λ ms first. refl) (λ ms first k R R′ i j a b. join-stops k R R′ a b) ms first s e
 
-module _ (k : Cutting) (ms : List Float) (n size : ℕ) (tol : Float) (even : length ms ≡ 2 * n) (two : 2 ≤ size) where
+module _ (k : Cutting) (ms : List Float) (n size : ℕ) (tol : Float) (even : length ms ≡ 2 * n) (u : Usable ms tol) (two : 2 ≤ size) where
   block-stops : (from to : ℕ) → from + 2 ≤ to → to ≤ n → Stopped (blockOf k ms n tol from to)
   unfolding outcome
   block-stops from to h l = go (waysOf k ms n from to .fine) (waysOf k ms n from to .val)
     where
       go : (b : Bool) (w : Ways) → Stopped (turned (unless 6 b (ok w)) (λ w. runOf (blockAt ms from to) from (w .start) (w .end) tol))
-      go true w = let many = block-count ms n even from to h l in run-stops (blockAt ms from to) from (w .start) (w .end) tol (omega arith)
-      go false w = (omega arith, omega arith)
+      go true w = let many = block-count ms n even from to h l in run-stops (blockAt ms from to) from (w .start) (w .end) tol (omega arith) (usable-block from to u)
+      go false w = refl
 
   last-stops : (b : Bool) (from : ℕ) → ltb (n - from) 2 ≡ b → Stopped (lastOf b k ms n tol from)
   last-stops true from e = tt
@@ -120,7 +120,7 @@ module _ (q g : ℕ) (R : Run) (C C′ : List Float) (F F′ W W′ : List ℕ) 
   inside (refused r) s h =
       let a : _≡_ {A = Answer ℕ} (no q) (no r) = ap (λ (x : Ending). x .answer) h in
       let e : q ≡ r = cc in
-      record { least = omega arith; most = omega arith; curves = ap (λ (x : Ending). x .curves) h; firsts = ap (λ (x : Ending). x .firsts) h; worsts = ap (λ (x : Ending). x .worsts) h; params = ap (λ (x : Ending). x .params) h }
+      record { is = e ∙ s; curves = ap (λ (x : Ending). x .curves) h; firsts = ap (λ (x : Ending). x .firsts) h; worsts = ap (λ (x : Ending). x .worsts) h; params = ap (λ (x : Ending). x .params) h }
 
   refuses : g ≤ 5 → (g ≡ 0 → Stopped R) → ending (no q) C′ F′ W′ P′ ≡ entered g R C F W P → Before q C C′ F F′ W W′ P P′ ⊎ Inside q C C′ F F′ W W′ P P′
   refuses l s h = go (eqb g 0) refl h
@@ -142,14 +142,15 @@ fit-refuses k ms tol q C C′ F F′ W W′ P P′ h =
 
     stops : g ≡ 0 → Stopped (blocksOf k ws (blockSize (count ws)) tol)
     stops z =
-        let e = whole-even (outlineOf k) ms (passed-even (passed 4096 (outlineOf k) ms tol (length C) (length F) (length W) (length P) z)) in
+        let p = passed 4096 (outlineOf k) ms tol (length C) (length F) (length W) (length P) z in
+        let e = whole-even (outlineOf k) ms (passed-even p) in
         let even : length ws ≡ 2 * count ws = omega (arith, e) in
-        blocks-stop k ws (count ws) (blockSize (count ws)) tol even (size-within (count ws) (blockSize (count ws)) refl .0) (e .1)
+        blocks-stop k ws (count ws) (blockSize (count ws)) tol even (passed-usable p) (size-within (count ws) (blockSize (count ws)) refl .0) (e .1)
 
 pub direct-refuses : DirectRefuses
 unfolding fittedAnswer cubicOf
 direct-refuses ms s e tol q C C′ F F′ W W′ P P′ h =
-    refuses q g (runOf ms 0 s e tol) C C′ F F′ W W′ P P′ (cubic-most ms s e tol (length C) (length F) (length W) (length P)) (λ z. run-stops ms 0 s e tol (let p = cubic-passed ms s e tol (length C) (length F) (length W) (length P) g refl z .two in omega arith)) h
+    refuses q g (runOf ms 0 s e tol) C C′ F F′ W W′ P P′ (cubic-most ms s e tol (length C) (length F) (length W) (length P)) (λ z. let p = cubic-passed ms s e tol (length C) (length F) (length W) (length P) g refl z in run-stops ms 0 s e tol (let two = p .two in omega arith) (passed-usable p)) h
   where
     g : ℕ
     g = cubicGate ms s e tol (length C) (length F) (length W) (length P)

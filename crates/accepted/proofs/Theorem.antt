@@ -1,36 +1,32 @@
 -- Demand 3: every list that the joined, the ring or the direct fit accepts is sound, with the same marks and tolerance. Assumes nothing.
-use mathlib.Core.Path.{_≡_, refl, sym, ap, _∙_, subst}
+use mathlib.Core.Path.{_≡_, refl, ap, _∙_}
 use mathlib.Core.Bool.{Bool, true, false, cond}
-use mathlib.Core.List.{List, [], _∷_, _++_}
-use Prim.Native.Nat.{ℕ, zero, suc, _+_, _-_, _*_, _≤_, _<_}
+use mathlib.Core.List.{List, _++_}
+use Prim.Native.Nat.{ℕ, _+_, _-_, _*_, _≤_, _<_}
 use native.Mathlib.Omega.{arith}
-use lib.Dec.{T, eqb, ltb}
+use lib.Dec.{eqb}
 use lib.ListN.{length, drop, getD, length-append, length-map}
-use lib.Ieee.{Float, nan, binary64, toBits, eq, le, ofBits}
-use borrow.Author.Tests.{eqb-true, ltb-true, ltb-false}
-use Rattle.float.specs.Number.{f0, f1, finite}
+use lib.Ieee.{Float, nan, binary64, toBits, eq, ofBits}
+use borrow.Author.Tests.{eqb-true}
+use Rattle.float.specs.Number.{f0, f1}
 use Rattle.float.specs.Answer.{Answer, ok}
 use Rattle.float.specs.Answer.{refused as no}
 use Rattle.float.specs.Slices.{written}
-use Rattle.float.proofs.Truth.{and-left, and-right, both}
+use Rattle.float.proofs.Truth.{both}
 use Rattle.plane.specs.declared.Point.{Point}
-use Rattle.plane.specs.Range.{coordinate}
 use Rattle.plane.proofs.Fine.{good-point}
-use Rattle.plane.proofs.Ranges.{coordinate-fits}
 use Rattle.marks.specs.Marks.{count, markAt}
-use Rattle.ring.specs.Ring.{again, whole, Even}
+use Rattle.ring.specs.Ring.{again, whole}
 use Rattle.ring.specs.declared.Outline.{Outline}
 use Rattle.ring.specs.declared.Outline.the-variants.{Open, Closed}
-use Rattle.ring.proofs.Whole.{whole-length, whole-count, given, comes-back}
+use Rattle.ring.proofs.Whole.{whole-length, whole-count}
 use Rattle.squares.proofs.Controls.{GoodCurve}
 use Rattle.numbers.specs.Words.{one, Zero}
 use Rattle.form.specs.declared.Form.the-variants.{Nine}
 use Rattle.stages.specs.Worst.{errorOf}
 use Rattle.stages.specs.declared.worst.Worst.{Worst}
-use Rattle.ends.proofs.Accepted.{Marked}
-use Rattle.ends.specs.Ends.{FitsP, Near, rooted}
-use Rattle.ends.proofs.Lines.{WP, coordinate-w}
-use Rattle.gate.specs.Gate.{inRange, tolerable, gateFor, gateOf}
+use Rattle.ends.specs.Ends.{Near, rooted}
+use Rattle.gate.specs.Gate.{gateFor, gateOf}
 use Rattle.gate.proofs.Tests.{PassedFor, passed-for, passed-even, passes, Passed, passed}
 use Rattle.cut.specs.Run.{Beside, firstsOf, worstsOf, Run, refused, done, runOf}
 use Rattle.tangents.specs.Ways.{over, outlineOf, marksOf}
@@ -39,7 +35,7 @@ use Rattle.tangents.specs.declared.Cutting.the-variants.{Joined, Ring}
 use Rattle.blocks.specs.Blocks.{blocksOf}
 use Rattle.marks.specs.Block.{blockSize}
 use Rattle.fit.specs.Fit.{Ending, fittedAnswer, ending, ended, entered, fitOf, cubicGate, cubicOf}
-use Rattle.fit.proofs.Entries.{size-within, cubic-passed}
+use Rattle.fit.proofs.Entries.{size-within, cubic-passed, passed-usable}
 use Rattle.faults.specs.Tests.{firstAt, curveAt, stopAt, curveFinite, squareAt, unmeasured, farthest}
 use Rattle.faults.proofs.Farther.{farther-same}
 use Rattle.checker.specs.Check.{checkOf, checkedAnswer}
@@ -135,36 +131,6 @@ module _ (ms : List Float) (tol : Float) (cs : List Float) (bs : List Beside) (p
     distance-kept = λ e j b. keeps j b .bits;
   }
 
--- ---- marks that a gate let pass
-
-in-range-at : (xs : List Float) → inRange xs ≡ true → (i : ℕ) → i < length xs → coordinate (getD xs i nan) ≡ true
-unfolding inRange
-in-range-at [] h i l = absurd (omega arith)
-in-range-at (x ∷ xs) h zero l = and-left (coordinate x) (inRange xs) h
-in-range-at (x ∷ xs) h (suc i) l = in-range-at xs (and-right (coordinate x) (inRange xs) h) i (omega arith)
-
-marked : (ms : List Float) → inRange ms ≡ true → Marked ms
-unfolding markAt
-marked ms r k l =
-    let a = in-range-at ms r (2 * k) (omega arith) in
-    let b = in-range-at ms r (2 * k + 1) (omega arith) in
-    ((subst T (sym (coordinate-fits _ a)) tt, subst T (sym (coordinate-fits _ b)) tt), (coordinate-w _ a, coordinate-w _ b))
-
--- mark 0 again is a mark as well
-abbrev Good : Point → Type 0
-Good p = FitsP p × WP 20 p
-
-marked-whole : (o : Outline) (ms : List Float) → Even ms → Marked ms → Marked (whole o ms)
-marked-whole Open ms e m k l = m k l
-marked-whole Closed ms e m k l = go (ltb k (count ms)) refl
-  where
-    go : (b : Bool) → ltb k (count ms) ≡ b → Good (markAt (whole Closed ms) k)
-    go true t = let h = ltb-true k (count ms) t in subst Good (sym (given Closed ms k (omega arith))) (m k h)
-    go false t =
-        let h = ltb-false k (count ms) t in
-        let n = whole-count Closed ms e in
-        subst Good (sym (comes-back ms k e (omega arith))) (m 0 (e .1))
-
 -- ---- a call that is accepted
 
 -- what an accepted call leaves is a run's list over the lent slices
@@ -237,10 +203,6 @@ module _ (o : Outline) (ms : List Float) (tol : Float) (k : ℕ) where
   same-lists : (C C′ : List Float) (F F′ W W′ : List ℕ) (P P′ : List Float) → C′ ≡ C → F′ ≡ F → W′ ≡ W → P′ ≡ P → Passing o ms tol k C F W P → Passing o ms tol k C′ F′ W′ P′
   same-lists C C′ F F′ W W′ P P′ x y u z h = rw (x, y, u, z) h
 
-not-below : (tol : Float) → tolerable tol ≡ true → le f0 tol ≡ true
-unfolding tolerable
-not-below tol h = and-right (finite tol) (le f0 tol) h
-
 module _ (ms : List Float) (tol : Float) (k : ℕ) (C C′ : List Float) (F F′ W W′ : List ℕ) (P P′ : List Float) where
   -- the list of a fit by blocks that meet: the run's, laid over the marks, and at the front of the lent slices
   pub record Given (cutting : Cutting) : Type 0 where
@@ -275,7 +237,7 @@ module _ (ms : List Float) (tol : Float) (k : ℕ) (C C′ : List Float) (F F′
         ps = d .ps;
         gate = g;
         is-done = d .is-done;
-        laid = blocks-laid tol (not-below tol (g .usable)) ws (count ws) (blockSize (count ws)) even (marked-whole o ms e (marked ms (g .near))) cutting meet (d .cs) (d .bs) (d .ps) (omega arith) (omega arith) (d .is-done);
+        laid = blocks-laid tol ws (count ws) (blockSize (count ws)) even (passed-usable g) cutting meet (d .cs) (d .bs) (d .ps) (omega arith) (omega arith) (d .is-done);
         many = d .many;
         curves = d .curves;
         firsts = d .firsts;
@@ -297,7 +259,7 @@ module _ (ms : List Float) (tol : Float) (k : ℕ) (C C′ : List Float) (F F′
       let two = g .two in
       same-lists Open ms tol k _ C′ _ F′ _ W′ _ P′ (d .curves) (d .firsts) (d .worsts) (d .params)
       (laid-passing Open ms tol k 512 (d .cs) C (d .bs) F W (d .ps) P (omega arith) g (d .many)
-      (run-laid tol (not-below tol (g .usable)) ms s e (d .cs) (d .bs) (d .ps) (omega arith) (marked ms (g .near)) (d .is-done)))
+      (run-laid tol ms s e (d .cs) (d .bs) (d .ps) (omega arith) (passed-usable g) (d .is-done)))
 
 -- ---- stated of the promises
 

@@ -20,10 +20,9 @@ pub record Before (q : ℕ) (C C′ : List Float) (F F′ W W′ : List ℕ) (P 
   pub worsts : W′ ≡ W
   pub params : P′ ≡ P
 
--- 6 or 7, in the run: every number is zero
+-- 6, in the run: every number is zero
 pub record Inside (q : ℕ) (C C′ : List Float) (F F′ W W′ : List ℕ) (P P′ : List Float) : Type 0 where
-  pub least : 6 ≤ q
-  pub most : q ≤ 7
+  pub is : q ≡ 6
   pub curves : C′ ≡ replicate (length C) f0
   pub firsts : F′ ≡ replicate (length F) 0
   pub worsts : W′ ≡ replicate (length W) 0

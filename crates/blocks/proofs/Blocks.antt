@@ -21,7 +21,9 @@ use Rattle.tangents.specs.declared.Turn.{Turn}
 use Rattle.tangents.specs.declared.Turn.the-variants as turn
 use Rattle.cut.specs.declared.Fitted.{Fitted}
 use Rattle.cut.specs.declared.Fitted.the-variants.{Refused}
-use Rattle.cut.specs.Lent.{Left, Room}
+use Rattle.gate.specs.Gate.{Usable}
+use Rattle.ends.proofs.Usable.{usable-take, usable-drop}
+use Rattle.cut.specs.Lent.{Left, Ready}
 use Rattle.tangents.specs.Ways.{turnAnswer}
 use Rattle.cut.proofs.Run.{Sizes}
 use Rattle.cut.proofs.Cut.{sizes, ways-are, ways-lost}
@@ -31,6 +33,10 @@ use Rattle.tangents.specs.Ways.{over, outlineOf, marksOf, waysOf}
 use Rattle.ring.specs.Ring.{whole, Even}
 use Rattle.ring.specs.declared.Outline.the-variants.{Closed}
 use Rattle.ring.proofs.Whole.{whole-length, part-given, part-as-closed}
+
+-- the marks of a block are in range
+pub usable-block : (from to : ℕ) {ms : List Float} {tol : Float} → Usable ms tol → Usable (blockAt ms from to) tol
+usable-block from to u = usable-take (2 * to - 2 * from) (usable-drop (2 * from) u)
 
 module _ (k : Cutting) (ms : List Float) (n size : ℕ) (tol : Float) where
   -- ---- the blocks by cases: proofs unfold them by `blocks-last` and `blocks-more`, and never see the bound
@@ -67,32 +73,32 @@ module _ (k : Cutting) (ms : List Float) (n size : ℕ) (tol : Float) where
 
   -- ---- one block: fewer curves than marks, nine numbers for each, and a parameter for each mark
 
-  pub block-sized : (from to : ℕ) (cs : List Float) (bs : List Beside) (p : List Float) → length ms ≡ 2 * n → from + 2 ≤ to → to ≤ n → blockOf k ms n tol from to ≡ done cs bs p → Sizes (to - from) cs bs p
-  block-sized from to cs bs p e h l q = go (outcome (waysOf k ms n from to)) q
+  pub block-sized : (from to : ℕ) (cs : List Float) (bs : List Beside) (p : List Float) → length ms ≡ 2 * n → Usable ms tol → from + 2 ≤ to → to ≤ n → blockOf k ms n tol from to ≡ done cs bs p → Sizes (to - from) cs bs p
+  block-sized from to cs bs p e u h l q = go (outcome (waysOf k ms n from to)) q
     where
       many : count (blockAt ms from to) ≡ to - from
       many = simp (length-take, length-drop) (omega arith)
 
       go : (w : Answer Ways) → turned w (λ w. runOf (blockAt ms from to) from (w .start) (w .end) tol) ≡ done cs bs p → Sizes (to - from) cs bs p
       go (ok w) q =
-          let z = sizes (blockAt ms from to) from (w .start) (w .end) tol cs bs p (omega (arith, many)) q in
+          let z = sizes (blockAt ms from to) from (w .start) (w .end) tol cs bs p (omega (arith, many)) (usable-block from to u) q in
           (z .0, omega (arith, many, z .1), z .2, z .3 ∙ many)
       go (no i) q = let z : _≡_ {A = ℕ} 0 1 = cc in absurd (omega arith)
 
 -- ---- fit_block's returns
 
-pub block-room : (ms : List Float) (n from to : ℕ) (C : List Float) (F W : List ℕ) (P : List Float) → length ms ≡ 2 * n → (from + 2 ≤ to) × (to ≤ n) × (n ≤ 65536)
-    → (to ≡ from + length P) × (length P ≤ 201) × (recordNumbers * length P ≤ length C + recordNumbers) × (length P ≤ length F + 1) × (length P ≤ length W + 1) → Room (blockAt ms from to) from C F W P
-block-room ms n from to C F W P e h l =
+pub block-ready : (ms : List Float) (n from to : ℕ) (tol : Float) (C : List Float) (F W : List ℕ) (P : List Float) → (length ms ≡ 2 * n) × Usable ms tol → (from + 2 ≤ to) × (to ≤ n) × (n ≤ 65536)
+    → (to ≡ from + length P) × (length P ≤ 201) × (recordNumbers * length P ≤ length C + recordNumbers) × (length P ≤ length F + 1) × (length P ≤ length W + 1) → Ready (blockAt ms from to) from tol C F W P
+block-ready ms n from to tol C F W P e h l =
     let m : length (blockAt ms from to) ≡ 2 * to - 2 * from = simp (length-take, length-drop) (omega arith) in
-    record { even = omega arith; two = omega arith; near = omega arith; curves = omega arith; firsts = omega arith; worsts = omega arith }
+    record { usable = usable-block from to (e .1); even = omega arith; two = omega arith; near = omega arith; curves = omega arith; firsts = omega arith; worsts = omega arith }
 
 -- a run over one list of marks is that over another, where the two are equal
 pub same-marks : (ms ws : List Float) (first : ℕ) (s e : Point) (tol : Float) (r : Fitted) (C C₁ : List Float) (F F₁ W W₁ : List ℕ) (p : List Float) → ms ≡ ws → Left (runOf ms first s e tol) r C C₁ F F₁ W W₁ p → Left (runOf ws first s e tol) r C C₁ F F₁ W W₁ p
 same-marks ms ws first s e tol r C C₁ F F₁ W W₁ p h ran = subst (λ (l : List Float). Left (runOf l first s e tol) r C C₁ F F₁ W W₁ p) h ran
 
-pub same-room : (ms ws : List Float) (first : ℕ) (C : List Float) (F W : List ℕ) (P : List Float) → ms ≡ ws → Room ms first C F W P → Room ws first C F W P
-same-room ms ws first C F W P h room = subst (λ (l : List Float). Room l first C F W P) h room
+pub same-ready : (ms ws : List Float) (first : ℕ) (tol : Float) (C : List Float) (F W : List ℕ) (P : List Float) → ms ≡ ws → Ready ms first tol C F W P → Ready ws first tol C F W P
+same-ready ms ws first tol C F W P h ready = subst (λ (l : List Float). Ready l first tol C F W P) h ready
 
 -- the marks of a block that were all given, and of one that mark 0 ends
 module _ (ms : List Float) (from to : ℕ) (even : Even ms) (l : from ≤ to) where

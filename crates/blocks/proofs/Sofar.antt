@@ -13,7 +13,8 @@ use Rattle.float.specs.Slices.{written}
 use Rattle.marks.specs.Marks.{count}
 use Rattle.form.specs.Form.{recordNumbers}
 use Rattle.cut.specs.Run.{Run, done, Beside, firstsOf, worstsOf, join}
-use Rattle.cut.specs.Lent.{Left, Room}
+use Rattle.gate.specs.Gate.{Usable}
+use Rattle.cut.specs.Lent.{Left, Ready}
 use Rattle.cut.specs.declared.Fitted.{Fitted}
 use Rattle.cut.specs.declared.Fitted.the-variants.{Curves, Refused}
 use Rattle.cut.proofs.Run.{Sizes}
@@ -54,13 +55,13 @@ call k ms size tol C F W P w = record { k = k; ms = ms; size = size; tol = tol; 
 
 -- what it asks
 pub record Asked (K : Call) : Type 0 where
-  pub room : Room (K .ms) 0 (K .C) (K .F) (K .W) (K .P)
+  pub ready : Ready (K .ms) 0 (K .tol) (K .C) (K .F) (K .W) (K .P)
   pub two : 2 ≤ K .size
   pub top : K .size ≤ 200
   pub ew : K .w ≡ K .size + over (K .k)
 
-pub asked : (k : Cutting) (ms : List Float) (size : ℕ) (tol : Float) (C : List Float) (F W : List ℕ) (P : List Float) (o : ℕ) → Room ms 0 C F W P × ((2 ≤ size) × (size ≤ 200)) → o ≡ over k → Asked (call k ms size tol C F W P (size + o))
-asked k ms size tol C F W P o h e = record { room = h .0; two = h .1 .0; top = h .1 .1; ew = ap (λ (i : ℕ). size + i) e }
+pub asked : (k : Cutting) (ms : List Float) (size : ℕ) (tol : Float) (C : List Float) (F W : List ℕ) (P : List Float) (o : ℕ) → Ready ms 0 tol C F W P × ((2 ≤ size) × (size ≤ 200)) → o ≡ over k → Asked (call k ms size tol C F W P (size + o))
+asked k ms size tol C F W P o h e = record { ready = h .0; two = h .1 .0; top = h .1 .1; ew = ap (λ (i : ℕ). size + i) e }
 
 -- the run from mark `from` on
 abbrev pub rest : Call → ℕ → Run
@@ -72,7 +73,7 @@ block K from to = blockOf (K .k) (K .ms) (length (K .P)) (K .tol) from to
 pub whole-is : (K : Call) → Asked K → blocksOf (K .k) (K .ms) (K .size) (K .tol) ≡ rest K 0
 unfolding blocksOf
 whole-is K A =
-    let room = A .room in
+    let ready = A .ready in
     let e : count (K .ms) ≡ length (K .P) = omega arith in
     ap (λ (n : ℕ). blocksFrom (K .k) (K .ms) n (K .size) (K .tol) 0) e
 
@@ -118,7 +119,7 @@ so-none K A = record {
   worsts = refl;
   front = refl;
   few = omega arith;
-  ahead = let room = A .room in let e = A .ew in let s = over-small (K .k) in omega arith;
+  ahead = let ready = A .ready in let e = A .ew in let s = over-small (K .k) in omega arith;
   lc = refl;
   lf = refl;
   lw = refl;
@@ -139,7 +140,7 @@ pub record Head : Type 0 where
 
 -- the numbers that the needs are worked out from
 pub record Numbers (H : Head) : Type 0 where
-  pub room : Room (H .K .ms) 0 (H .K .C) (H .K .F) (H .K .W) (H .K .P)
+  pub ready : Ready (H .K .ms) 0 (H .K .tol) (H .K .C) (H .K .F) (H .K .W) (H .K .P)
   pub two : 2 ≤ H .K .size
   pub top : H .K .size ≤ 200
   pub low : H .K .size ≤ H .K .w
@@ -183,7 +184,7 @@ module _ (H : Head) where
   n = length (K .P)
 
   pub numbers : Numbers H
-  numbers = record { room = A .room; two = A .two; top = A .top; low = let e = A .ew in omega arith; high = let e = A .ew in let s = over-small (K .k) in omega arith; few = so .few; ahead = so .ahead; lc = so .lc; lf = so .lf; lw = so .lw; lp = so .lp }
+  numbers = record { ready = A .ready; two = A .two; top = A .top; low = let e = A .ew in omega arith; high = let e = A .ew in let s = over-small (K .k) in omega arith; few = so .few; ahead = so .ahead; lc = so .lc; lf = so .lf; lw = so .lw; lp = so .lp }
 
   -- what is lent of the curves, of the first marks and of the worst
   abbrev pub CC : List Float
@@ -239,7 +240,7 @@ module _ (H : Head) where
     abbrev to : ℕ
     to = from + (K .w)
 
-    pub block-asks : (length (K .ms) ≡ 2 * n) × (((from + 2 ≤ to) × (to ≤ n) × (n ≤ 65536))
+    pub block-asks : ((length (K .ms) ≡ 2 * n) × Usable (K .ms) (K .tol)) × (((from + 2 ≤ to) × (to ≤ n) × (n ≤ 65536))
         × ((to ≡ from + length (take (to - from) (drop from P₁))) × (length (take (to - from) (drop from P₁)) ≤ 201) × (recordNumbers * length (take (to - from) (drop from P₁)) ≤ length CC + recordNumbers) × (length (take (to - from) (drop from P₁)) ≤ length FF + 1) × (length (take (to - from) (drop from P₁)) ≤ length WW + 1)))
     block-asks =
         let m = numbers in
@@ -249,7 +250,7 @@ module _ (H : Head) where
         let bc : length CC ≡ length C₁ - recordNumbers * made = part-len (recordNumbers * made) _ C₁ (omega (arith, m)) in
         let bf : length FF ≡ length F₁ - made = part-len made _ F₁ (omega (arith, m)) in
         let bw : length WW ≡ length W₁ - made = part-len made _ W₁ (omega (arith, m)) in
-        (omega (arith, m), ((omega (arith, m), omega (arith, m), omega (arith, m)), (omega (arith, m), omega (arith, m), omega (arith, m), omega (arith, m), omega (arith, m))))
+        ((omega (arith, m), A .ready .usable), ((omega (arith, m), omega (arith, m), omega (arith, m)), (omega (arith, m), omega (arith, m), omega (arith, m), omega (arith, m), omega (arith, m))))
 
     module _ (R : Ran to (to - from)) where
       abbrev did : (j : ℕ) → R .r ≡ Curves j → Done (block K from to) j CC (R .D₁) FF (R .E₁) WW (R .V₁) (R .p)
@@ -261,7 +262,7 @@ module _ (H : Head) where
       sized : (c : List Float) (b : List Beside) → block K from to ≡ done c b (R .p) → Sizes (K .w) c b (R .p)
       sized c b q =
           let m = numbers in
-          let z = block-sized (K .k) (K .ms) n (K .size) (K .tol) from to c b (R .p) (omega (arith, m)) (omega (arith, m)) (omega (arith, m)) q in
+          let z = block-sized (K .k) (K .ms) n (K .size) (K .tol) from to c b (R .p) (omega (arith, m)) (A .ready .usable) (omega (arith, m)) (omega (arith, m)) q in
           let d : to - from ≡ K .w = omega arith in
           (z .0, omega (arith, z .1), z .2, z .3 ∙ d)
 
@@ -318,7 +319,7 @@ module _ (H : Head) where
         rw is (ap Curves (sym (so .long)), so .curves, so .firsts, so .worsts, p)
 
     module _ (some : 2 ≤ n - from) where
-      pub last-asks : (length (K .ms) ≡ 2 * n) × (((from + 2 ≤ n) × (n ≤ n) × (n ≤ 65536))
+      pub last-asks : ((length (K .ms) ≡ 2 * n) × Usable (K .ms) (K .tol)) × (((from + 2 ≤ n) × (n ≤ n) × (n ≤ 65536))
           × ((n ≡ from + length (take (length P₁ - from) (drop from P₁))) × (length (take (length P₁ - from) (drop from P₁)) ≤ 201) × (recordNumbers * length (take (length P₁ - from) (drop from P₁)) ≤ length CC + recordNumbers) × (length (take (length P₁ - from) (drop from P₁)) ≤ length FF + 1) × (length (take (length P₁ - from) (drop from P₁)) ≤ length WW + 1)))
       last-asks =
           let m = numbers in
@@ -326,7 +327,7 @@ module _ (H : Head) where
           let bc : length CC ≡ length C₁ - recordNumbers * made = part-len (recordNumbers * made) _ C₁ (omega (arith, m)) in
           let bf : length FF ≡ length F₁ - made = part-len made _ F₁ (omega (arith, m)) in
           let bw : length WW ≡ length W₁ - made = part-len made _ W₁ (omega (arith, m)) in
-          (omega (arith, m), ((omega (arith, m), omega arith, omega (arith, m)), (omega (arith, m), omega (arith, m), omega (arith, m), omega (arith, m), omega (arith, m))))
+          ((omega (arith, m), A .ready .usable), ((omega (arith, m), omega arith, omega (arith, m)), (omega (arith, m), omega (arith, m), omega (arith, m), omega (arith, m), omega (arith, m))))
 
       whole-last : blocksOf (K .k) (K .ms) (K .size) (K .tol) ≡ prepend (so .cs) (so .bs) (so .ps) (block K from n)
       whole-last = all-is ∙ rw (le-ltb (n - from) 2 some)
@@ -342,7 +343,7 @@ module _ (H : Head) where
         last-few j e =
             let D = ended j e in
             let m = numbers in
-            let z = block-sized (K .k) (K .ms) n (K .size) (K .tol) from n (D .cs) (D .bs) (R .p) (omega (arith, m)) (omega (arith, m)) (omega arith) (D .is) in
+            let z = block-sized (K .k) (K .ms) n (K .size) (K .tol) from n (D .cs) (D .bs) (R .p) (omega (arith, m)) (A .ready .usable) (omega (arith, m)) (omega arith) (D .is) in
             omega (arith, z .1, D .long)
 
         pub last-done : (j : ℕ) → R .r ≡ Curves j → Left (blocksOf (K .k) (K .ms) (K .size) (K .tol)) (Curves (made + j)) (K .C) (C₂ R) (K .F) (F₂ R) (K .W) (W₂ R) (P₂ R)

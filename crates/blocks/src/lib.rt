@@ -9,7 +9,8 @@ ghost use Rattle.ring.specs.Ring.{whole, Even};
 ghost use Rattle.ring.specs.declared.Outline.the-variants as outline;
 ghost use Rattle.tangents.specs.Ways.{marksOf};
 ghost use Rattle.cut.specs.Run.{runOf};
-ghost use Rattle.cut.specs.Lent.{Left, Room};
+ghost use Rattle.gate.specs.Gate.{Usable};
+ghost use Rattle.cut.specs.Lent.{Left, Ready};
 ghost use Rattle.blocks.specs.Blocks.{blockAt, blockOf, blocksOf};
 use cut::Fitted;
 use float::refusal::NOT_FINITE;
@@ -38,7 +39,7 @@ fn fit_round(
     params: &mut [f64],
 ) -> Fitted
     requires { ⌜ Even (now marks) × ((from + length (now params) ≡ 1 + count (now marks)) × (length (now params) ≤ 201)) ⌝ }
-    requires { ⌜ Room (drop (2 * from) (whole outline.Closed (now marks))) from (now curves) (now firsts) (now worsts) (now params) ⌝ }
+    requires { ⌜ Ready (drop (2 * from) (whole outline.Closed (now marks))) from tolerance (now curves) (now firsts) (now worsts) (now params) ⌝ }
     ensures { λ r. ⌜ Left (runOf (drop (2 * from) (whole outline.Closed (now (marks .entry)))) from start end tolerance) r (now (curves .entry)) (now (curves .exit)) (now (firsts .entry)) (now (firsts .exit)) (now (worsts .entry)) (now (worsts .exit)) (now (params .exit)) ⌝ }
 {
     let mut round = block_room();
@@ -71,7 +72,7 @@ fn fit_marks(
     params: &mut [f64],
 ) -> Fitted
     requires { ⌜ Even (now marks) × ((to ≤ 1 + count (now marks)) × ((to ≡ from + length (now params)) × (length (now params) ≤ 201))) ⌝ }
-    requires { ⌜ Room (blockAt (whole outline.Closed (now marks)) from to) from (now curves) (now firsts) (now worsts) (now params) ⌝ }
+    requires { ⌜ Ready (blockAt (whole outline.Closed (now marks)) from to) from tolerance (now curves) (now firsts) (now worsts) (now params) ⌝ }
     ensures { λ r. ⌜ Left (runOf (blockAt (whole outline.Closed (now (marks .entry))) from to) from start end tolerance) r (now (curves .entry)) (now (curves .exit)) (now (firsts .entry)) (now (firsts .exit)) (now (worsts .entry)) (now (worsts .exit)) (now (params .exit)) ⌝ }
 {
     let head = 2 * from;
@@ -115,7 +116,7 @@ fn fit_block(
     worsts: &mut [u32],
     params: &mut [f64],
 ) -> Fitted
-    requires { ⌜ length (marksOf cutting (now marks)) ≡ 2 * n ⌝ }
+    requires { ⌜ (length (marksOf cutting (now marks)) ≡ 2 * n) × Usable (marksOf cutting (now marks)) tolerance ⌝ }
     requires { ⌜ (from + 2 ≤ to) × (to ≤ n) × (n ≤ 65536) ⌝ }
     requires { ⌜ (to ≡ from + length (now params)) × (length (now params) ≤ 201) × (recordNumbers * length (now params) ≤ length (now curves) + recordNumbers) × (length (now params) ≤ length (now firsts) + 1) × (length (now params) ≤ length (now worsts) + 1) ⌝ }
     ensures { λ r. ⌜ Left (blockOf cutting (marksOf cutting (now (marks .entry))) n tolerance from to) r (now (curves .entry)) (now (curves .exit)) (now (firsts .entry)) (now (firsts .exit)) (now (worsts .entry)) (now (worsts .exit)) (now (params .exit)) ⌝ }
@@ -150,7 +151,7 @@ pub fn fit_blocks(
     worsts: &mut [u32],
     params: &mut [f64],
 ) -> Fitted
-    requires { ⌜ Room (marksOf cutting (now marks)) 0 (now curves) (now firsts) (now worsts) (now params) ⌝ }
+    requires { ⌜ Ready (marksOf cutting (now marks)) 0 tolerance (now curves) (now firsts) (now worsts) (now params) ⌝ }
     requires { ⌜ (2 ≤ size) × (size ≤ 200) ⌝ }
     ensures { λ r. ⌜ Left (blocksOf cutting (marksOf cutting (now (marks .entry))) size tolerance) r (now (curves .entry)) (now (curves .exit)) (now (firsts .entry)) (now (firsts .exit)) (now (worsts .entry)) (now (worsts .exit)) (now (params .exit)) ⌝ }
 {

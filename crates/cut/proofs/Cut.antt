@@ -1,7 +1,7 @@
 -- What the cycle {fit_part, cut_part} cites: plain laws, of lists and runs, with no place of the code in them. Assumes nothing.
 use Prim.Native.Nat.{ℕ, _+_, _-_, _*_, _≤_, _<_}
 use native.Mathlib.Omega.{arith}
-use mathlib.Core.Path.{_≡_, refl, sym, ap, _∙_}
+use mathlib.Core.Path.{_≡_, refl, sym, ap, _∙_, subst}
 use mathlib.Core.List.{List, [], _∷_, _++_, map, map-append}
 use lib.ListN.{length, take, drop, set, length-append, length-take, length-drop, length-map}
 use lib.Seq.{take-all}
@@ -19,17 +19,19 @@ use Rattle.part.specs.declared.Solved.{Solved}
 use Rattle.part.specs.declared.Tried.{Tried}
 use Rattle.part.specs.declared.Tried.the-variants.{Good, Cut}
 use Rattle.part.specs.declared.Tried.the-variants.{Refused as TRefused}
-use Rattle.part.proofs.Ends.{Sound, part-sound}
+use Rattle.gate.specs.Gate.{Usable}
+use Rattle.ends.proofs.Usable.{usable-take}
+use Rattle.ends.proofs.Parts.{Inside, Fits, Sound, part-sound, cuts-inside}
 use Rattle.cut.specs.Run.{Run, refused, done, Beside, firstsOf, worstsOf, flat, leftOf, rightOf, join, runOf, cutOf}
 use Rattle.tangents.specs.Ways.{waysAt}
-use Rattle.cut.specs.Lent.{Left, Room}
+use Rattle.cut.specs.Lent.{Left, Ready}
 use Rattle.tangents.specs.Ways.{turnAnswer}
 use Rattle.tangents.specs.declared.Ways.{Ways}
 use Rattle.tangents.specs.declared.Turn.{Turn}
 use Rattle.tangents.specs.declared.Turn.the-variants as turn
 use Rattle.cut.specs.declared.Fitted.{Fitted}
 use Rattle.cut.specs.declared.Fitted.the-variants.{Curves, Refused}
-use Rattle.cut.proofs.Run.{run-sized, Sized, run-fits, run-fails, run-cuts, left-count, right-count}
+use Rattle.cut.proofs.Run.{run-sized, Sized, run-fits, run-fails, run-cuts, left-count, right-count, usable-left, usable-right}
 
 -- ---- a leaf's answer
 
@@ -91,23 +93,23 @@ beside-behind f bs bs′ X X₁ E j b e l lb d =
 
 -- ---- fit_part's returns
 
-module _ (ms : List Float) (first : ℕ) (s e : Point) (tol : Float) (h : 2 ≤ count ms) (r : Tried) (p : List Float) (did : Did (partOf ms s e tol) r p) where
+module _ (ms : List Float) (first : ℕ) (s e : Point) (tol : Float) (h : 2 ≤ count ms) (u : Usable ms tol) (r : Tried) (p : List Float) (did : Did (partOf ms s e tol) r p) where
   pub fit-good : (k : Solved) (C C₁ : List Float) (F F₁ W W₁ : List ℕ) → r ≡ Good k → C₁ ≡ written (flat (k .curve) (k .far .err)) C
       → F₁ ≡ written (first ∷ []) F → W₁ ≡ written ((first + k .far .at) ∷ []) W → Left (runOf ms first s e tol) (Curves 1) C C₁ F F₁ W W₁ p
   fit-good k C C₁ F F₁ W W₁ q ec ef ew = rw (run-fits ms first s e tol h (k .curve) (k .far) p (from-good _ r p k did q)) (refl, ec, ef, ew, refl)
 
   -- the worst mark is a mark of the part
   pub worst-within : (k : Solved) → r ≡ Good k → k .far .at < count ms
-  worst-within k q = let sound : Sound ms (fits (k .curve) (k .far) p) = rw (from-good (partOf ms s e tol) r p k did q) at (part-sound ms s e tol h) in sound .3
+  worst-within k q = let good : Fits ms tol (k .curve) (k .far) p = subst (Sound ms tol) (from-good (partOf ms s e tol) r p k did q) (part-sound ms tol h u s e) in good .among
 
   pub fit-cut : (k : ℕ) (r′ : Fitted) (C C₁ : List Float) (F F₁ W W₁ : List ℕ) (p₁ : List Float) → r ≡ Cut k → Left (cutOf ms k first s e tol) r′ C C₁ F F₁ W W₁ p₁ → Left (runOf ms first s e tol) r′ C C₁ F F₁ W W₁ p₁
-  fit-cut k r′ C C₁ F F₁ W W₁ p₁ q g = rw (run-cuts ms first s e tol h k (from-cut _ r p k did q)) g
+  fit-cut k r′ C C₁ F F₁ W W₁ p₁ q g = rw (run-cuts ms first s e tol h u k (from-cut _ r p k did q)) g
 
   pub fit-refused : (k : ℕ) (C C₁ : List Float) (F F₁ W W₁ : List ℕ) (p₁ : List Float) → r ≡ TRefused k → Left (runOf ms first s e tol) (Refused k) C C₁ F F₁ W W₁ p₁
   fit-refused k C C₁ F F₁ W W₁ p₁ q = rw (run-fails ms first s e tol h k (from-refused _ r p k did q)) refl
 
-pub sizes : (ms : List Float) (first : ℕ) (s e : Point) (tol : Float) (cs : List Float) (bs : List Beside) (p : List Float) → 2 ≤ count ms → runOf ms first s e tol ≡ done cs bs p → Sized ms first (done cs bs p)
-sizes ms first s e tol cs bs p h q = rw q at (run-sized ms first s e tol h)
+pub sizes : (ms : List Float) (first : ℕ) (s e : Point) (tol : Float) (cs : List Float) (bs : List Beside) (p : List Float) → 2 ≤ count ms → Usable ms tol → runOf ms first s e tol ≡ done cs bs p → Sized ms first (done cs bs p)
+sizes ms first s e tol cs bs p h u q = rw q at (run-sized ms first s e tol h u)
 
 pub set-first : (a : ℕ) (F : List ℕ) → 0 < length F → set F 0 a ≡ written (a ∷ []) F
 set-first a [] h = absurd (omega arith)
@@ -116,11 +118,11 @@ set-first a (x ∷ F) h = refl
 -- ---- fit_part calls cut_part
 
 pub cut-asks : (ms : List Float) (first : ℕ) (s e : Point) (tol : Float) (C : List Float) (F W : List ℕ) (P p : List Float) (r : Tried) (k : ℕ)
-    → Room ms first C F W P → length p ≡ length P → Did (partOf ms s e tol) r p → r ≡ Cut k → Room ms first C F W p × ((0 < k) × (k + 1 < length p))
-cut-asks ms first s e tol C F W P p r k room l did q =
+    → Ready ms first tol C F W P → length p ≡ length P → Did (partOf ms s e tol) r p → r ≡ Cut k → Ready ms first tol C F W p × ((0 < k) × (k + 1 < length p))
+cut-asks ms first s e tol C F W P p r k ready l did q =
     let n : count ms ≡ length P = omega arith in
-    let sound : Sound ms (cuts k) = rw (from-cut (partOf ms s e tol) r p k did q) at (part-sound ms s e tol (omega arith)) in
-    (record { even = omega arith; two = omega arith; near = omega arith; curves = omega arith; firsts = omega arith; worsts = omega arith }, (sound .0, omega (arith, sound .1)))
+    let inside : Inside ms k = cuts-inside ms s e tol k (omega arith) (ready .usable) (from-cut (partOf ms s e tol) r p k did q) in
+    (record { usable = ready .usable; even = omega arith; two = omega arith; near = omega arith; curves = omega arith; firsts = omega arith; worsts = omega arith }, (inside .0, omega (arith, inside .1)))
 
 -- ---- cut_part calls fit_part at the left, and at the right
 
@@ -136,7 +138,7 @@ pub record Call : Type 0 where
   pub F : List ℕ
   pub W : List ℕ
   pub P : List Float
-  pub room : Room ms first C F W P
+  pub ready : Ready ms first tol C F W P
   pub low : 0 < at
   pub high : at + 1 < length P
 
@@ -153,10 +155,11 @@ pub cut-refused : (K : Call) (q : ℕ) (C₂ : List Float) (F₂ W₂ : List ℕ
     → Left (cutOf (K .ms) (K .at) (K .first) (K .s) (K .e) (K .tol)) (Refused q) (K .C) C₂ (K .F) F₂ (K .W) W₂ p₂
 cut-refused K q C₂ F₂ W₂ p₂ e = rw e refl
 
-pub room-left : (K : Call) → Room (leftOf (K .at) (K .ms)) (K .first) (K .C) (K .F) (K .W) (take (K .at + 1) (K .P))
-room-left K =
-    let room = K .room in
+pub ready-left : (K : Call) → Ready (leftOf (K .at) (K .ms)) (K .first) (K .tol) (K .C) (K .F) (K .W) (take (K .at + 1) (K .P))
+ready-left K =
+    let ready = K .ready in
     record {
+      usable = usable-left (K .at) (ready .usable);
       even = simp length-take (omega arith);
       two = simp length-take (omega arith);
       near = simp length-take (omega arith);
@@ -166,7 +169,7 @@ room-left K =
     }
 
 pub less-left : (K : Call) → length (leftOf (K .at) (K .ms)) + 1 < length (K .ms)
-less-left K = let room = K .room in simp length-take (omega arith)
+less-left K = let ready = K .ready in simp length-take (omega arith)
 
 -- the left side's run, at the tangents T, and the right's
 abbrev pub leftRun : Call → Ways → Run
@@ -202,7 +205,7 @@ pub record Half (K : Call) : Type 0 where
 module _ (K : Call) (H : Half K) where
   -- the numbers that the needs of the second call are worked out from
   pub record Numbers : Type 0 where
-    pub room : Room (K .ms) (K .first) (K .C) (K .F) (K .W) (K .P)
+    pub ready : Ready (K .ms) (K .first) (K .tol) (K .C) (K .F) (K .W) (K .P)
     pub low : 0 < K .at
     pub high : K .at + 1 < length (K .P)
     pub few : H .j ≤ K .at
@@ -215,13 +218,13 @@ module _ (K : Call) (H : Half K) where
 
   pub numbers : Numbers
   numbers =
-      let room = K .room in
+      let ready = K .ready in
       let high = K .high in
       let n : count (leftOf (K .at) (K .ms)) ≡ K .at + 1 = left-count (K .at) (K .ms) (omega arith) in
-      let z = sizes (leftOf (K .at) (K .ms)) (K .first) (K .s) (H .T .end) (K .tol) (H .side .cs) (H .side .bs) (H .p) (omega arith) (H .side .is) in
+      let z = sizes (leftOf (K .at) (K .ms)) (K .first) (K .s) (H .T .end) (K .tol) (H .side .cs) (H .side .bs) (H .p) (omega arith) (usable-left (K .at) (ready .usable)) (H .side .is) in
       let l = H .side .long in
       record {
-        room = room;
+        ready = ready;
         low = K .low;
         high = high;
         few = omega (arith, z .1);
@@ -237,12 +240,13 @@ module _ (K : Call) (H : Half K) where
   abbrev pub P₁ : List Float
   P₁ = H .p ++ drop (K .at + 1) (K .P)
 
-  pub room-right : Room (take (length (K .ms) - 2 * K .at) (drop (2 * K .at) (K .ms))) (K .first + K .at) (take (length (H .C₁) - recordNumbers * H .j) (drop (recordNumbers * H .j) (H .C₁))) (take (length (H .F₁) - H .j) (drop (H .j) (H .F₁))) (take (length (H .W₁) - H .j) (drop (H .j) (H .W₁))) (take (length P₁ - K .at) (drop (K .at) P₁))
-  room-right =
+  pub ready-right : Ready (take (length (K .ms) - 2 * K .at) (drop (2 * K .at) (K .ms))) (K .first + K .at) (K .tol) (take (length (H .C₁) - recordNumbers * H .j) (drop (recordNumbers * H .j) (H .C₁))) (take (length (H .F₁) - H .j) (drop (H .j) (H .F₁))) (take (length (H .W₁) - H .j) (drop (H .j) (H .W₁))) (take (length P₁ - K .at) (drop (K .at) P₁))
+  ready-right =
       let n = numbers in
-      let room = n .room in
+      let ready = n .ready in
       let lp = n .lp in
       record {
+        usable = usable-take (length (K .ms) - 2 * K .at) (usable-right (K .at) (ready .usable));
         even = simp (length-take, length-drop) (omega (arith, n));
         two = simp (length-take, length-drop) (omega (arith, n));
         near = simp (length-take, length-drop) (omega (arith, n));
@@ -320,5 +324,5 @@ module _ (K : Call) (H : Half K) where
         let right = did k q in
         let n = numbers in
         let m : count (rightOf (K .at) (K .ms)) ≡ count (K .ms) - K .at = right-count (K .at) (K .ms) (omega (arith, n)) in
-        let z = sizes (rightOf (K .at) (K .ms)) (K .first + K .at) (H .T .start) (K .e) (K .tol) (right .cs) (right .bs) (R .p′) (omega (arith, n)) (right .is) in
+        let z = sizes (rightOf (K .at) (K .ms)) (K .first + K .at) (H .T .start) (K .e) (K .tol) (right .cs) (right .bs) (R .p′) (omega (arith, n)) (usable-right (K .at) (K .ready .usable)) (right .is) in
         omega (arith, n, z .1, right .long)

@@ -6,6 +6,7 @@ use lib.ListN.{length}
 use lib.Ieee.{Float}
 use Rattle.float.specs.Slices.{written}
 use Rattle.form.specs.Form.{recordNumbers}
+use Rattle.gate.specs.Gate.{Usable}
 use Rattle.cut.specs.Run.{Run, refused, done, firstsOf, worstsOf}
 use Rattle.cut.specs.declared.Fitted.{Fitted}
 use Rattle.cut.specs.declared.Fitted.the-variants.{Curves, Refused}
@@ -15,8 +16,9 @@ abbrev pub Left : Run → Fitted → List Float → List Float → List ℕ → 
 Left (refused q) r C C′ F F′ W W′ P′ = r ≡ Refused q
 Left (done cs bs ps) r C C′ F F′ W W′ P′ = (r ≡ Curves (length bs)) × (C′ ≡ written cs C) × (F′ ≡ written (firstsOf bs) F) × (W′ ≡ written (worstsOf bs) W) × (P′ ≡ ps)
 
--- two marks or more, a parameter for each, and room
-pub record Room (ms : List Float) (first : ℕ) (C : List Float) (F W : List ℕ) (P : List Float) : Type 0 where
+-- a run is ready: marks and a tolerance in range, two marks or more, a parameter for each, and room
+pub record Ready (ms : List Float) (first : ℕ) (tol : Float) (C : List Float) (F W : List ℕ) (P : List Float) : Type 0 where
+  pub usable : Usable ms tol
   pub even : length ms ≡ 2 * length P
   pub two : 2 ≤ length P
   pub near : first + length P ≤ 65536

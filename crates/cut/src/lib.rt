@@ -6,7 +6,7 @@ ghost use lib.ListN.{length};
 ghost use Rattle.float.specs.Slices.{written};
 ghost use Rattle.form.specs.Form.{recordNumbers};
 ghost use Rattle.cut.specs.Run.{flat, runOf, cutOf};
-ghost use Rattle.cut.specs.Lent.{Left, Room};
+ghost use Rattle.cut.specs.Lent.{Left, Ready};
 use float::refusal::NOT_FINITE;
 use form::RECORD_NUMBERS;
 use part::Tried;
@@ -48,7 +48,7 @@ pub fn fit_part(
     worsts: &mut [u32],
     params: &mut [f64],
 ) -> Fitted
-    requires { ⌜ Room (now marks) first (now curves) (now firsts) (now worsts) (now params) ⌝ }
+    requires { ⌜ Ready (now marks) first tolerance (now curves) (now firsts) (now worsts) (now params) ⌝ }
     ensures { λ r. ⌜ Left (runOf (now (marks .entry)) first start end tolerance) r (now (curves .entry)) (now (curves .exit)) (now (firsts .entry)) (now (firsts .exit)) (now (worsts .entry)) (now (worsts .exit)) (now (params .exit)) ⌝ }
 {
     let tried = part::try_part(marks, start, end, tolerance, params);
@@ -89,7 +89,7 @@ fn cut_part(
     worsts: &mut [u32],
     params: &mut [f64],
 ) -> Fitted
-    requires { ⌜ Room (now marks) first (now curves) (now firsts) (now worsts) (now params) ⌝ }
+    requires { ⌜ Ready (now marks) first tolerance (now curves) (now firsts) (now worsts) (now params) ⌝ }
     requires { ⌜ (0 < at) × (at + 1 < length (now params)) ⌝ }
     ensures { λ r. ⌜ Left (cutOf (now (marks .entry)) at first start end tolerance) r (now (curves .entry)) (now (curves .exit)) (now (firsts .entry)) (now (firsts .exit)) (now (worsts .entry)) (now (worsts .exit)) (now (params .exit)) ⌝ }
 {

@@ -5,4 +5,6 @@ pub mod Chords
 pub mod Rounds
 pub mod Worst
 pub mod Lines
-pub mod Accepted
+pub mod Usable
+pub mod Trials
+pub mod Parts

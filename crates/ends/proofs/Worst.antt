@@ -1,8 +1,9 @@
--- The worst mark: if the root of the largest squared distance is within a tolerance, so is each mark's; and a last mark that is off by nothing does not count.
-use mathlib.Core.Path.{_≡_, refl, ap, _∙_, subst}
+-- The worst mark: if the root of the largest squared distance is within a tolerance, so is each mark's; a first mark that is off by nothing is the worst only if every mark is so, and a last one that is off by nothing does not count.
+use mathlib.Core.Path.{_≡_, refl, sym, ap, _∙_, subst}
 use mathlib.Core.Bool.{Bool, true, false, cond}
 use mathlib.Core.List.{List}
-use Prim.Native.Nat.{ℕ, zero, suc, _+_, _<_}
+use Prim.Native.Nat.{ℕ, zero, suc, _+_, _-_, _≤_, _<_}
+use native.Mathlib.Omega.{arith}
 use native.Mathlib.Numerals.{add-one}
 use borrow.Author.Count.{below-none, below-more}
 use lib.Dec.{T}
@@ -25,6 +26,7 @@ use Rattle.stages.proofs.Errors.{error-bad}
 use Rattle.root.specs.Root.{sqrt, plain}
 use Rattle.faults.specs.Tests.{distanceAt}
 use Rattle.ends.specs.Ends.{Near, rooted}
+use Rattle.numbers.proofs.Zeros.{f0-is}
 use Rattle.numbers.proofs.Order.{le-tr, le-self, lt-is-le, not-lt}
 use Rattle.numbers.specs.Words.{zer}
 use Rattle.numbers.proofs.Plain.{plain-fin, plain-not-below, sqrt-plain, sqrt-le}
@@ -46,6 +48,14 @@ error-fits m c t = dot-fits _ _
 pub larger-none : (w : Worst) (e : Float) (k : ℕ) → T (plain (w .err)) → e ≡ zer false → larger w e k ≡ w
 unfolding larger
 larger-none w e k p z = ap (λ (b : Bool). cond {A = Worst} b (record { err = e; at = k }) w) (ap (lt (w .err)) z ∙ plain-not-below (w .err) p)
+
+larger-at : (w : Worst) (e : Float) (k : ℕ) → w .at ≤ k → larger w e k .at ≤ k
+unfolding larger
+larger-at w e k h = go (lt (w .err) e)
+  where
+    go : (b : Bool) → cond {A = Worst} b (record { err = e; at = k }) w .at ≤ k
+    go true = omega arith
+    go false = h
 
 module _ (ms : List Float) (c : Curve) (ts : List Float) where
   -- the squared distance of mark k
@@ -106,6 +116,25 @@ module _ (ms : List Float) (c : Curve) (ts : List Float) where
   unfolding maxError worst
   max-is = refl
 
+  -- the worst of the first n is one of them
+  pub worst-among : (n : ℕ) → upTo n .val .at ≤ n - 1
+  unfolding upto worstAt
+  worst-among zero = omega arith
+  worst-among (suc n) =
+      let h = worst-among n in
+      let l = larger-at (upTo n .val) (off n) n (omega arith) in
+      omega arith
+
+  -- where the first mark is off by nothing, it is the worst only if every mark is
+  pub none-off : off 0 ≡ zer false → (n : ℕ) → upTo n .val .at ≡ 0 → upTo n .val .err ≡ f0
+  unfolding upto worstAt larger
+  none-off z zero e = refl
+  none-off z (suc n) e = go (lt (upTo n .val .err) (off n)) (none-off z n) e
+    where
+      go : (b : Bool) → (upTo n .val .at ≡ 0 → upTo n .val .err ≡ f0) → cond {A = Worst} b (record { err = off n; at = n }) (upTo n .val) .at ≡ 0 → cond {A = Worst} b (record { err = off n; at = n }) (upTo n .val) .err ≡ f0
+      go true R e = ap off e ∙ z ∙ sym f0-is
+      go false R e = R e
+
   -- a last mark that is off by nothing is not the worst
   pub max-less : (n : ℕ) → length ts ≡ suc n → Fine (maxError ms c ts) → off n ≡ zer false → maxError ms c ts .val ≡ rooted (upTo n .val)
   unfolding maxError worst upto worstAt
@@ -114,6 +143,6 @@ module _ (ms : List Float) (c : Curve) (ts : List Float) where
       let g : Fine (upTo n) = and-left (upTo n .fine) _ (subst (λ (k : ℕ). Fine (upTo k)) l f) in
       max-is ∙ ap (λ (k : ℕ). rooted (upTo k .val)) l ∙ ap rooted (larger-none (upTo n .val) (off n) n (top n g .sign) z)
 
-  pub last-fin : (k : ℕ) → k < length ts → Fine (maxError ms c ts) → Fin (off k)
+  pub off-fin : (k : ℕ) → k < length ts → Fine (maxError ms c ts) → Fin (off k)
   unfolding maxError worst
-  last-fin k l h = each-fin (length ts) (and-left (upTo (length ts) .fine) _ h) k l
+  off-fin k l h = each-fin (length ts) (and-left (upTo (length ts) .fine) _ h) k l

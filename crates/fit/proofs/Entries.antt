@@ -16,12 +16,13 @@ use Rattle.marks.specs.Marks.{count}
 use Rattle.marks.specs.Block.{sizeFrom, blockSize}
 use Rattle.ring.specs.Ring.{again, whole}
 use Rattle.ring.specs.declared.Outline.{Outline}
-use Rattle.ring.specs.declared.Outline.the-variants.{Open}
+use Rattle.ring.specs.declared.Outline.the-variants.{Open, Closed}
 use Rattle.ring.proofs.Whole.{again-small, whole-length}
-use Rattle.gate.specs.Gate.{refuse, gateOf}
+use Rattle.gate.specs.Gate.{Usable, refuse, gateOf}
 use Rattle.gate.proofs.Tests.{Passed, passed, passed-even}
+use Rattle.ends.proofs.Usable.{usable-take, usable-append}
 use Rattle.cut.specs.Run.{Run, refused}
-use Rattle.cut.specs.Lent.{Left, Room}
+use Rattle.cut.specs.Lent.{Left, Ready}
 use Rattle.cut.specs.declared.Fitted.{Fitted}
 use Rattle.cut.specs.declared.Fitted.the-variants.{Curves, Refused}
 use Rattle.float.proofs.Slices.{front-length}
@@ -55,19 +56,27 @@ of-size k ms tol s t r C C₁ F F₁ W W₁ p e h = subst (λ (i : ℕ). Left (b
 
 -- ---- a passed gate
 
-pub passed-room : (top : ℕ) (o : Outline) (ms : List Float) (tol : Float) (C : List Float) (F W : List ℕ) (P : List Float) → top < 65536 → Passed top o ms tol (length C) (length F) (length W) (length P) → Room (whole o ms) 0 C F W (take (again o + count ms) P)
-passed-room top o ms tol C F W P t g =
+-- mark 0 again is in range as well
+usable-whole : (o : Outline) {ms : List Float} {tol : Float} → Usable ms tol → Usable (whole o ms) tol
+usable-whole Open u = u
+usable-whole Closed u = usable-append u (usable-take 2 u)
+
+pub passed-usable : {top : ℕ} {o : Outline} {ms : List Float} {tol : Float} {c f w p : ℕ} → Passed top o ms tol c f w p → Usable (whole o ms) tol
+passed-usable {o = o} g = usable-whole o (record { near = g .near; tolerance = g .usable })
+
+pub passed-ready : (top : ℕ) (o : Outline) (ms : List Float) (tol : Float) (C : List Float) (F W : List ℕ) (P : List Float) → top < 65536 → Passed top o ms tol (length C) (length F) (length W) (length P) → Ready (whole o ms) 0 tol C F W (take (again o + count ms) P)
+passed-ready top o ms tol C F W P t g =
     let n : length (take (again o + count ms) P) ≡ again o + count ms = simp length-take (let r = g .params in omega arith) in
     let l = whole-length o ms (passed-even g) in
     let s = again-small o in
-    record { even = omega arith; two = omega arith; near = omega arith; curves = omega arith; firsts = omega arith; worsts = omega arith }
+    record { usable = passed-usable g; even = omega arith; two = omega arith; near = omega arith; curves = omega arith; firsts = omega arith; worsts = omega arith }
 
 -- the same test and the same room, by equal outlines and equal counts
 pub of-outline : (top : ℕ) (o o′ : Outline) (ms : List Float) (tol : Float) (c f w p q : ℕ) → o ≡ o′ → q ≡ gateOf top o ms tol c f w p → q ≡ gateOf top o′ ms tol c f w p
 of-outline top o o′ ms tol c f w p q e h = subst (λ (o : Outline). q ≡ gateOf top o ms tol c f w p) e h
 
-pub of-count : (ms C : List Float) (F W : List ℕ) (P : List Float) (m n : ℕ) → n ≡ m → Room ms 0 C F W (take m P) → Room ms 0 C F W (take n P)
-of-count ms C F W P m n e h = subst (λ (i : ℕ). Room ms 0 C F W (take i P)) (sym e) h
+pub of-count : (ms : List Float) (tol : Float) (C : List Float) (F W : List ℕ) (P : List Float) (m n : ℕ) → n ≡ m → Ready ms 0 tol C F W (take m P) → Ready ms 0 tol C F W (take n P)
+of-count ms tol C F W P m n e h = subst (λ (i : ℕ). Ready ms 0 tol C F W (take i P)) (sym e) h
 
 pub cubic-passed : (ms : List Float) (s e : Point) (tol : Float) (c f w p q : ℕ) → q ≡ cubicGate ms s e tol c f w p → q ≡ 0 → Passed 512 Open ms tol c f w p
 unfolding cubicGate

@@ -1,4 +1,4 @@
-// The refusal numbers that a caller may get, each under a name that says what it means.
+// The refusal numbers that a caller may get, each under a name that says what it means. 7 was one, and is given to nothing else.
 
 // Fewer than two marks.
 pub const TOO_FEW: u32 = 1;
@@ -17,9 +17,6 @@ pub const OUT_OF_RANGE: u32 = 5;
 
 // An operation of the run gave NaN or infinity.
 pub const NOT_FINITE: u32 = 6;
-
-// The worst mark is a part's first or last.
-pub const WORST_AT_END: u32 = 7;
 
 // The search for the nearest point goes too deep.
 pub const TOO_DEEP: u32 = 8;

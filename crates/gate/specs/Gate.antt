@@ -1,5 +1,6 @@
 -- What a fit tests before it runs, in the order 3, 1, 2, 4, 5. Definitions only.
 use Prim.Native.Nat.{ℕ, _+_, _-_, _*_, _%_}
+use mathlib.Core.Path.{_≡_}
 use mathlib.Core.Bool.{Bool, true, false, not, _&&_}
 use mathlib.Core.List.{List, [], _∷_}
 use lib.ListN.{length}
@@ -22,6 +23,11 @@ inRange (x ∷ xs) = coordinate x && inRange xs
 -- finite and not below zero
 unfoldable pub tolerable : Float → Bool
 tolerable x = finite x && le f0 x
+
+-- what a run may rely on behind these two tests: numbers in range, and a tolerance
+pub record Usable (ms : List Float) (tol : Float) : Type 0 where
+  pub near : inRange ms ≡ true
+  pub tolerance : tolerable tol ≡ true
 
 -- refusal q if the test holds, else what the later tests say
 abbrev pub refuse : Bool → ℕ → ℕ → ℕ

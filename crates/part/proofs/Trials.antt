@@ -5,7 +5,6 @@ use mathlib.Core.List.{List, [], _∷_}
 use Prim.Native.Nat.{ℕ, suc, _-_, _*_, _/_, _≤_, _<_}
 use native.Mathlib.Omega.{arith}
 use borrow.Author.Tests.{le-leb, lt-leb}
-use lib.Dec.{eqb}
 use lib.ListN.{length, set}
 use lib.Ieee.{Float, binary64, lt, le, div}
 use Rattle.float.specs.Number.{f0, f1, finite}
@@ -28,7 +27,7 @@ use Rattle.stages.specs.declared.worst.Far.{Far}
 use Rattle.stages.specs.declared.worst.Far.the-variants as far
 use Rattle.squares.specs.Squares.{generateOf}
 use Rattle.part.specs.Trial.{Trial, attempt, enough, improve, tried}
-use Rattle.part.specs.Part.{fits, cuts, fails, pick, lined, judged, partOf}
+use Rattle.part.specs.Part.{fits, cuts, pick, lined, judged, partOf}
 use Rattle.part.specs.Answers.{SolvesAs, Solves, trialOf, Did, pickTried, verdict}
 use Rattle.part.specs.declared.Solved.{Solved}
 use Rattle.part.specs.declared.Solution.{Solution}
@@ -233,28 +232,22 @@ module _ (n : ℕ) (ms : List Float) (st et : Point) (tol : Float) where
           tried-near t = on-trial ∙ ap (λ (b : Bool). outcome (cond b (improve 7 ms st et tol a) (give a))) t
 
 -- ---- what the code makes of a solution
-pub did-judged : (n : ℕ) (tol : Float) (s : Solved) (p : List Float) → Did (judged n tol (ok (trialOf s p))) (verdict s n tol) p
+pub did-judged : (tol : Float) (s : Solved) (p : List Float) → Did (judged tol (ok (trialOf s p))) (verdict s tol) p
 unfolding verdict
-did-judged n tol s p = go (le (s .far .err) tol) (eqb (s .far .at) 0 || eqb (s .far .at) (n - 1))
+did-judged tol s p = go (le (s .far .err) tol)
   where
-    go : (b c : Bool) → Did (pick b (fits (s .curve) (s .far) p) (pick c (fails 7) (cuts (s .far .at)))) (pickTried b (answer.Good s) (pickTried c (answer.Refused 7) (answer.Cut (s .far .at)))) p
-    go true c = (refl, refl)
-    go false true = refl
-    go false false = refl
+    go : (b : Bool) → Did (pick b (fits (s .curve) (s .far) p) (cuts (s .far .at))) (pickTried b (answer.Good s) (answer.Cut (s .far .at))) p
+    go true = (refl, refl)
+    go false = refl
 
-module _ (s : Solved) (n : ℕ) (tol : Float) where
-  pub picked-good : le (s .far .err) tol ≡ true → answer.Good s ≡ verdict s n tol
+module _ (s : Solved) (tol : Float) where
+  pub picked-good : le (s .far .err) tol ≡ true → answer.Good s ≡ verdict s tol
   unfolding verdict
   picked-good h = sym (rw h)
 
-  module _ (h : le (s .far .err) tol ≡ false) where
-    pub picked-end : eqb (s .far .at) 0 || eqb (s .far .at) (n - 1) ≡ true → answer.Refused 7 ≡ verdict s n tol
-    unfolding verdict
-    picked-end k = sym (rw (h, k))
-
-    pub picked-cut : eqb (s .far .at) 0 || eqb (s .far .at) (n - 1) ≡ false → answer.Cut (s .far .at) ≡ verdict s n tol
-    unfolding verdict
-    picked-cut k = sym (rw (h, k))
+  pub picked-cut : le (s .far .err) tol ≡ false → answer.Cut (s .far .at) ≡ verdict s tol
+  unfolding verdict
+  picked-cut h = sym (rw h)
 
 -- ---- two marks
 pub line-lost : (m : Answer Curve) (q : ℕ) (p : List Float) → m ≡ refused q → Did (lined m) (answer.Refused q) p
@@ -286,6 +279,6 @@ module _ (ms : List Float) (st et : Point) (tol : Float) (n : ℕ) (even : lengt
     unfolding partOf
     part-lost p e = rw (half, lt-leb n 2 h, e) refl
 
-    pub part-judged : (s : Solved) (p : List Float) (r : Tried) → outcome (tried n ms st et tol) ≡ ok (trialOf s p) → r ≡ verdict s n tol → Did (partOf ms st et tol) r p
+    pub part-judged : (s : Solved) (p : List Float) (r : Tried) → outcome (tried n ms st et tol) ≡ ok (trialOf s p) → r ≡ verdict s tol → Did (partOf ms st et tol) r p
     unfolding partOf
-    part-judged s p r e v = rw (half, lt-leb n 2 h, e, v) (did-judged n tol s p)
+    part-judged s p r e v = rw (half, lt-leb n 2 h, e, v) (did-judged tol s p)

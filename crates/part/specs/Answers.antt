@@ -1,9 +1,7 @@
 -- What the code's answers and the lent parameters are, by the definitions: words of contracts. Definitions only.
 use mathlib.Core.Path.{_≡_}
-use mathlib.Core.Bool.{Bool, true, false, _||_}
+use mathlib.Core.Bool.{Bool, true, false}
 use mathlib.Core.List.{List}
-use Prim.Native.Nat.{ℕ, _-_}
-use lib.Dec.{eqb}
 use lib.Ieee.{Float, le}
 use Rattle.float.specs.Calc.{Calc}
 use Rattle.float.specs.Answer.{Answer, ok, refused, outcome}
@@ -27,15 +25,13 @@ SolvesAs (refused q) r p = r ≡ solution.Lost
 abbrev pub Solves : Calc Trial → Solution → List Float → Type 0
 Solves m r p = SolvesAs (outcome m) r p
 
--- what the code makes of a solution of n marks
+-- what the code makes of a solution
 abbrev pub pickTried : Bool → Tried → Tried → Tried
 pickTried true a b = a
 pickTried false a b = b
 
-unfoldable pub verdict : Solved → ℕ → Float → Tried
-verdict s n tol =
-    pickTried (le (s .far .err) tol) (tried.Good s)
-    (pickTried (eqb (s .far .at) 0 || eqb (s .far .at) (n - 1)) (tried.Refused 7) (tried.Cut (s .far .at)))
+unfoldable pub verdict : Solved → Float → Tried
+verdict s tol = pickTried (le (s .far .err) tol) (tried.Good s) (tried.Cut (s .far .at))
 
 -- a part's answer r, and the parameters p that it leaves
 abbrev pub Did : Part → Tried → List Float → Type 0

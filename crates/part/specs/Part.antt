@@ -1,8 +1,8 @@
 -- What one part comes to. Definitions only.
-use mathlib.Core.Bool.{Bool, true, false, _||_}
+use mathlib.Core.Bool.{Bool, true, false}
 use mathlib.Core.List.{List, [], _∷_}
-use Prim.Native.Nat.{ℕ, _-_}
-use lib.Dec.{leb, eqb}
+use Prim.Native.Nat.{ℕ}
+use lib.Dec.{leb}
 use lib.Ieee.{Float, le}
 use Rattle.float.specs.Number.{f0, f1}
 use Rattle.float.specs.Answer.{Answer, ok, refused, outcome}
@@ -29,15 +29,13 @@ abbrev pub lined : Answer Curve → Part
 lined (ok c) = fits c noWorst (f0 ∷ f1 ∷ [])
 lined (refused q) = fails q
 
--- n marks after the rounds: within the tolerance one curve, else a cut at the worst mark, which is 7 at the part's first or last mark
-abbrev pub judged : ℕ → Float → Answer Trial → Part
-judged n tol (refused q) = fails q
-judged n tol (ok a) =
-    pick (le (a .far .err) tol) (fits (a .curve) (a .far) (a .params))
-    (pick (eqb (a .far .at) 0 || eqb (a .far .at) (n - 1)) (fails 7) (cuts (a .far .at)))
+-- after the rounds: within the tolerance one curve, else a cut at the worst mark, which a fit's marks and tolerance put inside the part (`CutsInside` of `ends`)
+abbrev pub judged : Float → Answer Trial → Part
+judged tol (refused q) = fails q
+judged tol (ok a) = pick (le (a .far .err) tol) (fits (a .curve) (a .far) (a .params)) (cuts (a .far .at))
 
 unfoldable pub partOf : List Float → Point → Point → Float → Part
 partOf ms st et tol =
     pick (leb (count ms) 2)
     (lined (outcome (lineOf (markAt ms 0) (markAt ms 1))))
-    (judged (count ms) tol (outcome (tried (count ms) ms st et tol)))
+    (judged tol (outcome (tried (count ms) ms st et tol)))

@@ -9,7 +9,6 @@ ghost use Rattle.marks.specs.Marks.{markAt};
 ghost use Rattle.marks.specs.Line.{lineOf};
 ghost use Rattle.part.specs.Answers.{Solves, Did, trialOf, verdict};
 use float::refusal::NOT_FINITE;
-use float::refusal::WORST_AT_END;
 use marks::Made;
 use plane::Curve;
 use plane::Point;
@@ -110,21 +109,13 @@ fn solve(marks: &[f64], st: Point, et: Point, tolerance: f64, params: &mut [f64]
 }
 
 // Within the tolerance a solution is the part's curve; else the part is cut at its worst mark.
-fn judge(s: Solved, n: usize, tolerance: f64) -> Tried
-    requires { ⌜ 0 < n ⌝ }
-    ensures { λ r. ⌜ r ≡ verdict s n tolerance ⌝ }
+fn judge(s: Solved, tolerance: f64) -> Tried
+    ensures { λ r. ⌜ r ≡ verdict s tolerance ⌝ }
 {
     if s.far.err <= tolerance {
         return Tried::Good(s);
     }
-    let at = s.far.at;
-    if at == 0 {
-        return Tried::Refused(WORST_AT_END);
-    }
-    if at == n - 1 {
-        return Tried::Refused(WORST_AT_END);
-    }
-    Tried::Cut(at)
+    Tried::Cut(s.far.at)
 }
 
 // The line of a part of two marks, which are its ends, so neither is off it.
@@ -153,5 +144,5 @@ pub fn try_part(marks: &[f64], st: Point, et: Point, tolerance: f64, params: &mu
     let Solution::Found(s) = solve(marks, st, et, tolerance, params) else {
         return Tried::Refused(NOT_FINITE);
     };
-    judge(s, n, tolerance)
+    judge(s, tolerance)
 }

@@ -4,7 +4,7 @@ use mathlib.Core.Bool.{Bool, true, false, _||_, cond}
 use mathlib.Core.List.{List}
 use Prim.Native.Nat.{ℕ, zero, suc, _+_, _-_, _*_, _≤_, _<_}
 use native.Mathlib.Omega.{arith}
-use lib.Dec.{T, leb, eqb}
+use lib.Dec.{T, leb}
 use lib.ListN.{length, getD}
 use lib.Ieee.{Float, nan, binary64, fits, ofBits, lt, le, eq, mul, div}
 use lib.Ieee.Fits.{add-fits, sub-fits, div-fits}
@@ -36,7 +36,9 @@ use Rattle.tangents.specs.declared.Cutting.{Cutting}
 use Rattle.tangents.specs.Ways.{over}
 use Rattle.cut.specs.Run.{Beside, Run, refused, done, flat, join, runOf}
 use Rattle.cut.proofs.Run.{run-by}
+use Rattle.gate.specs.Gate.{Usable}
 use Rattle.blocks.specs.Blocks.{blockAt, blocksFrom}
+use Rattle.blocks.proofs.Blocks.{usable-block}
 use Rattle.accepted.proofs.Within.{block-count}
 use Rattle.accepted.proofs.ByBlocks.{blocks-by}
 use Rattle.ends.specs.Ends.{FitsP, worstOf}
@@ -187,20 +189,18 @@ lined-held : (b : Bool) (c : Curve) → HeldCurve c → HeldPart (lined (unless 
 lined-held true c h = (h, (zero-held, more zero-held (more one-held none)))
 lined-held false c h = tt
 
-judged-held : (n : ℕ) (tol : Float) (b : Bool) (a : Trial) → HeldTrial a → HeldPart (judged n tol (unless 6 b (ok a)))
-judged-held n tol false a h = tt
-judged-held n tol true a h =
-    let late = eqb (a .far .at) 0 || eqb (a .far .at) (n - 1) in
-    pick-part (le (a .far .err) tol) (one (a .curve) (a .far) (a .params)) (pick late (fails 7) (cuts (a .far .at))) h (pick-part late (fails 7) (cuts (a .far .at)) tt tt)
+judged-held : (tol : Float) (b : Bool) (a : Trial) → HeldTrial a → HeldPart (judged tol (unless 6 b (ok a)))
+judged-held tol false a h = tt
+judged-held tol true a h = pick-part (le (a .far .err) tol) (one (a .curve) (a .far) (a .params)) (cuts (a .far .at)) h tt
 
 part-held : (ms : List Float) → Held ms → (st et : Point) (tol : Float) → HeldPart (partOf ms st et tol)
 unfolding partOf outcome
 part-held ms h st et tol =
     let l = lineOf (markAt ms 0) (markAt ms 1) in
     let t = tried (count ms) ms st et tol in
-    pick-part (leb (count ms) 2) (lined (unless 6 (l .fine) (ok (l .val)))) (judged (count ms) tol (unless 6 (t .fine) (ok (t .val))))
+    pick-part (leb (count ms) 2) (lined (unless 6 (l .fine) (ok (l .val)))) (judged tol (unless 6 (t .fine) (ok (t .val))))
     (lined-held (l .fine) (l .val) (line-held (markAt ms 0) (markAt ms 1) (held-mark h 0) (held-mark h 1)))
-    (judged-held (count ms) tol (t .fine) (t .val) (tried-held h st et tol (count ms)))
+    (judged-held tol (t .fine) (t .val) (tried-held h st et tol (count ms)))
 
 -- ---- a run, and blocks of them
 
@@ -219,20 +219,20 @@ join-held k (refused q) R′ l r = tt
 join-held k (done c f p) (refused q) l r = tt
 join-held k (done c f p) (done c′ f′ p′) l r = (held-append (l .0) (r .0), held-append (held-take k (l .1)) (r .1))
 
-run-held : (tol : Float) (ms : List Float) (first : ℕ) (s e : Point) → 2 ≤ count ms → Held ms → HeldRun (runOf ms first s e tol)
-run-held tol ms first s e h =
+run-held : (tol : Float) (ms : List Float) (first : ℕ) (s e : Point) → 2 ≤ count ms → Usable ms tol → Held ms → HeldRun (runOf ms first s e tol)
+run-held tol ms first s e h u =
     run-by tol (λ ms X. Held ms → HeldPart X) (λ ms s e h k. part-held ms k s e tol) (λ ms first R. Held ms → HeldRun R)
-    (λ ms first c w ps h sd p k. (flat-held c (w .err) (p k .0) (p k .1 .0), p k .1 .1))
-    (λ ms first q s k. tt)
+    (λ ms first c w ps h f p k. (flat-held c (w .err) (p k .0) (p k .1 .0), p k .1 .1))
+    (λ ms first k. tt)
     (λ ms first k R R′ i j l r m. join-held k R R′ (l (held-take (2 * k + 2) m)) (r (held-drop (2 * k) m)))
-    ms first s e h
+    ms first s e h u
 
 -- the lists of a fit by blocks that meet
-module _ (k : Cutting) (meet : over k ≡ 1) (ms : List Float) (n size : ℕ) (tol : Float) (h : Held ms) (even : length ms ≡ 2 * n) where
+module _ (k : Cutting) (meet : over k ≡ 1) (ms : List Float) (n size : ℕ) (tol : Float) (h : Held ms) (u : Usable ms tol) (even : length ms ≡ 2 * n) where
   block-held : (from to : ℕ) (w : Ways) (cs : List Float) (bs : List Beside) (ps : List Float) → from + 2 ≤ to → to ≤ n → runOf (blockAt ms from to) from (w .start) (w .end) tol ≡ done cs bs ps → HeldLists cs ps
   block-held from to w cs bs ps l m q =
       let c : count (blockAt ms from to) ≡ to - from = block-count ms n even from to l m in
-      let r : HeldRun (done cs bs ps) = rw q at (run-held tol (blockAt ms from to) from (w .start) (w .end) (omega (arith, c)) (held-take (2 * to - 2 * from) (held-drop (2 * from) h))) in
+      let r : HeldRun (done cs bs ps) = rw q at (run-held tol (blockAt ms from to) from (w .start) (w .end) (omega (arith, c)) (usable-block from to u) (held-take (2 * to - 2 * from) (held-drop (2 * from) h))) in
       r
 
   pub blocks-held : (cs : List Float) (bs : List Beside) (ps : List Float) → 0 < size → 2 ≤ n → blocksFrom k ms n size tol 0 ≡ done cs bs ps → Held cs × Held ps

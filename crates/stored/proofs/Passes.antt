@@ -1,7 +1,7 @@
 -- Every file that `save_fit` writes passes `judge_file`. Assumes nothing.
 use mathlib.Core.Path.{_≡_, refl, sym, ap, _∙_}
 use mathlib.Core.List.{List, [], append-nil, map-append}
-use Prim.Native.Nat.{ℕ, _-_, _*_, _/_, _<_, _≤_}
+use Prim.Native.Nat.{ℕ, _*_, _/_, _<_, _≤_}
 use native.Mathlib.Omega.{arith}
 use borrow.Author.Tests.{le-leb, ne-eqb}
 use lib.Seq.{take-at}
@@ -20,7 +20,7 @@ use Rattle.tangents.specs.Ways.{over}
 use Rattle.gate.proofs.Tests.{passes}
 use Rattle.blocks.specs.Blocks.{blocksOf}
 use Rattle.fit.specs.Fit.{Ending, ending}
-use Rattle.fit.proofs.Entries.{size-within}
+use Rattle.fit.proofs.Entries.{size-within, passed-usable}
 use Rattle.checker.specs.Check.{passed, checkOf}
 use Rattle.sound.specs.Sound.{Sound}
 use Rattle.sound.proofs.Sound.{sound-passes}
@@ -108,7 +108,7 @@ module _ (t : ℕ) (M : List ℕ) (k : ℕ) (C C′ : List Float) (F F′ W W′
       let two = d .gate .two in
       let e = d .gate .even in
       let size = size-within (count ms) (blockSize (count ms)) refl in
-      blocks-held Joined refl ms (count ms) (blockSize (count ms)) tol (held-floats M) (omega arith) (d .cs) (d .bs) (d .ps) (omega arith) (omega arith) (d .is-done)
+      blocks-held Joined refl ms (count ms) (blockSize (count ms)) tol (held-floats M) (passed-usable (d .gate)) (omega arith) (d .cs) (d .bs) (d .ps) (omega arith) (omega arith) (d .is-done)
 
   same-file : 0 < k → fileFor Nine t M k F′ W′ (patterns C′) (patterns P′) ≡ G
   unfolding fileFor

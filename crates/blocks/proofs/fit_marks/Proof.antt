@@ -2,7 +2,7 @@
 use borrow.Author.Needs.{needs}
 use native.Mathlib.Omega.{arith}
 use mathlib.Core.Path.{sym}
-use Rattle.blocks.proofs.Blocks.{same-marks, same-room, all-given, to-the-end}
+use Rattle.blocks.proofs.Blocks.{same-marks, same-ready, all-given, to-the-end}
 use Rattle.blocks.proofs.fit_marks.Statement.{statement}
 use Rattle.blocks.proofs.fit_marks.Tie as tie
 
@@ -16,7 +16,7 @@ fit-round-requires : tie.Need-fit-round-requires
 fit-round-requires c κs =
     let a = c .before .before .before .before .before .before .before .before .before .before .args in
     let p = c .before .before .before .before .before .before .before .before .before .before .pre in
-    ((p .0 .0, (omega (arith, p, c .before .before .before .before .if1), p .0 .1 .1 .1)), same-room _ _ (a .from) _ _ _ _ (to-the-end (a .marks .now) (a .from) (a .to) (p .0 .0) (omega (arith, p)) (omega (arith, p, c .before .before .before .before .if1))) (p .1))
+    ((p .0 .0, (omega (arith, p, c .before .before .before .before .if1), p .0 .1 .1 .1)), same-ready _ _ (a .from) _ _ _ _ _ (to-the-end (a .marks .now) (a .from) (a .to) (p .0 .0) (omega (arith, p)) (omega (arith, p, c .before .before .before .before .if1))) (p .1))
 
 same-length : tie.Need-same-length
 same-length c = search needs
@@ -49,7 +49,10 @@ part-fit-part-end : tie.Need-part-fit-part-end
 part-fit-part-end c = search needs
 
 fit-part-requires : tie.Need-fit-part-requires
-fit-part-requires c κs = search needs
+fit-part-requires c κs =
+    let a = c .before .before .before .before .before .before .before .before .before .before .before .args in
+    let p = c .before .before .before .before .before .before .before .before .before .before .before .pre in
+    same-ready _ _ (a .from) _ _ _ _ _ (all-given (a .marks .now) (a .from) (a .to) (p .0 .0) (omega (arith, p)) (c .before .before .before .before .before .if1 .left)) (p .1)
 
 same-length-5 : tie.Need-same-length-5
 same-length-5 c = search needs

@@ -7,7 +7,7 @@ use lib.ListN.{length, take, drop}
 use lib.Seq.{length-take-le}
 use Rattle.ring.specs.Ring.{whole}
 use Rattle.ring.specs.declared.Outline.the-variants.{Closed}
-use Rattle.blocks.proofs.Blocks.{same-marks, same-room, laid-front}
+use Rattle.blocks.proofs.Blocks.{same-marks, same-ready, laid-front}
 use Rattle.blocks.proofs.fit_round.Statement.{statement}
 use Rattle.blocks.proofs.fit_round.Tie as tie
 
@@ -34,7 +34,7 @@ slice-aggregate-fit-part : tie.Need-slice-aggregate-fit-part
 slice-aggregate-fit-part c = sym (length-take-le _ _ (omega (arith, c .before .before .lay-round .kept .1 .1 .0)))
 
 fit-part-requires : tie.Need-fit-part-requires
-fit-part-requires c κs = same-room _ _ (c .before .before .before .before .before .before .before .before .before .before .before .before .before .before .args .from) _ _ _ _ (sym (front (c .before .before .before .before .before .before))) (c .before .before .before .before .before .before .before .before .before .before .before .before .before .before .pre .1)
+fit-part-requires c κs = same-ready _ _ (c .before .before .before .before .before .before .before .before .before .before .before .before .before .before .args .from) _ _ _ _ _ (sym (front (c .before .before .before .before .before .before))) (c .before .before .before .before .before .before .before .before .before .before .before .before .before .before .pre .1)
 
 same-length : tie.Need-same-length
 same-length c = search needs

@@ -64,7 +64,7 @@ module _ (t : ℕ) where
     F = c .args .firsts .now;
     W = c .args .worsts .now;
     P = c .args .params .now;
-    room = c .pre .1 .0;
+    ready = c .pre .1 .0;
     low = c .pre .1 .1 .0;
     high = c .pre .1 .1 .1;
   }
@@ -150,7 +150,7 @@ module _ (t : ℕ) where
   cut-slice-aggregate-fit-part-2 c = simp length-take (omega arith)
 
   cut-fit-part-requires : of-cut cuts.Need-fit-part-requires
-  cut-fit-part-requires c κs = let s = c .before .before .before .before .before .before .before .before .before .before .before .before .before .before .before in (omega (arith, laws.less-left (call s), s .pre .0), laws.room-left (call s))
+  cut-fit-part-requires c κs = let s = c .before .before .before .before .before .before .before .before .before .before .before .before .before .before .before in (omega (arith, laws.less-left (call s), s .pre .0), laws.ready-left (call s))
 
   cut-enum-known-left : of-cut cuts.Need-enum-known-left
   cut-enum-known-left c = search needs
@@ -247,7 +247,7 @@ module _ (t : ℕ) where
   cut-part-fit-part-end-5 c = omega (arith, known (c .before .before .before .before .before .before))
 
   cut-fit-part-requires-2 : of-cut cuts.Need-fit-part-requires-2
-  cut-fit-part-requires-2 c κs = let s = c .before .before .before .before .before .before .before .before .before .before .before .before .before .before .before .before .before .before .before .before .before .before .before .before .before .before .before .before .before .before .before .before .before in (omega (arith, laws.less-right (call s) (half (c .before .before .before .before .before .before .before)), s .pre .0), laws.room-right (call s) (half (c .before .before .before .before .before .before .before)))
+  cut-fit-part-requires-2 c κs = let s = c .before .before .before .before .before .before .before .before .before .before .before .before .before .before .before .before .before .before .before .before .before .before .before .before .before .before .before .before .before .before .before .before .before in (omega (arith, laws.less-right (call s) (half (c .before .before .before .before .before .before .before)), s .pre .0), laws.ready-right (call s) (half (c .before .before .before .before .before .before .before)))
 
   cut-enum-known-right : of-cut cuts.Need-enum-known-right
   cut-enum-known-right c = search needs
@@ -302,7 +302,7 @@ module _ (t : ℕ) where
   within c =
       let y = c .before .before .before .before in
       let st = opened c in
-      laws.worst-within (st .args .marks .now) (st .args .first) (st .args .start) (st .args .end) (st .args .tolerance) (omega (arith, st .pre .1)) (y .try-part .result) (y .try-part .last .1 .1 .1 .1 .0) (y .try-part .ensures) (c .tried .given .0 .0) (c .tried .given .1)
+      laws.worst-within (st .args .marks .now) (st .args .first) (st .args .start) (st .args .end) (st .args .tolerance) (omega (arith, st .pre .1)) (st .pre .1 .usable) (y .try-part .result) (y .try-part .last .1 .1 .1 .1 .0) (y .try-part .ensures) (c .tried .given .0 .0) (c .tried .given .1)
 
   fit-add-worst : of-fit fits.Need-add-worst
   fit-add-worst c = let s = c .before .before in omega (arith, opened s .pre .1, within s)
@@ -353,7 +353,7 @@ module _ (t : ℕ) where
       let st = c .before .before .before .before .before .before .before .before .before .before .before .before .before .before .before .before .before in
       let q = c .before .before .before .before .before .before in
       let u = c .before .before in
-      laws.fit-good (st .args .marks .now) (st .args .first) (st .args .start) (st .args .end) (st .args .tolerance) (omega (arith, st .pre .1)) (y .try-part .result) (y .try-part .last .1 .1 .1 .1 .0) (y .try-part .ensures) (q .tried .given .0 .0) (st .args .curves .now) (u .put-record .last .0) (st .args .firsts .now) _ (st .args .worsts .now) _ (q .tried .given .1) (u .put-record .ensures) (laws.set-first _ (st .args .firsts .now) (omega (arith, st .pre .1))) (laws.set-first _ (st .args .worsts .now) (omega (arith, st .pre .1)))
+      laws.fit-good (st .args .marks .now) (st .args .first) (st .args .start) (st .args .end) (st .args .tolerance) (omega (arith, st .pre .1)) (st .pre .1 .usable) (y .try-part .result) (y .try-part .last .1 .1 .1 .1 .0) (y .try-part .ensures) (q .tried .given .0 .0) (st .args .curves .now) (u .put-record .last .0) (st .args .firsts .now) _ (st .args .worsts .now) _ (q .tried .given .1) (u .put-record .ensures) (laws.set-first _ (st .args .firsts .now) (omega (arith, st .pre .1))) (laws.set-first _ (st .args .worsts .now) (omega (arith, st .pre .1)))
 
   fit-same-length-5 : of-fit fits.Need-same-length-5
   fit-same-length-5 c = c .before .before .before .before .before .before .before .before .cut-part .kept .1 .1 .1 .1 .1 .1 .0
@@ -373,7 +373,7 @@ module _ (t : ℕ) where
       let st = c .before .before .before .before .before .before .before .before .before .before .before .before .before .before .before .before .before .before .before .before .before .before .before .before .before in
       let q = c .before .before .before .before .before .before .before .before .before .before .before .before .before .before in
       let u = c .before .before .before .before .before .before .before .before in
-      laws.fit-cut (st .args .marks .now) (st .args .first) (st .args .start) (st .args .end) (st .args .tolerance) (omega (arith, st .pre .1)) (y .try-part .result) (y .try-part .last .1 .1 .1 .1 .0) (y .try-part .ensures) (q .tried2 .given .0 .0) (u .cut-part .result) (st .args .curves .now) (u .cut-part .last .1 .1 .1 .1 .1 .1 .0) (st .args .firsts .now) (u .cut-part .last .1 .1 .1 .1 .1 .1 .1 .0) (st .args .worsts .now) (u .cut-part .last .1 .1 .1 .1 .1 .1 .1 .1 .0) (u .cut-part .last .1 .1 .1 .1 .1 .1 .1 .1 .1 .0) (q .tried2 .given .1) (u .cut-part .ensures)
+      laws.fit-cut (st .args .marks .now) (st .args .first) (st .args .start) (st .args .end) (st .args .tolerance) (omega (arith, st .pre .1)) (st .pre .1 .usable) (y .try-part .result) (y .try-part .last .1 .1 .1 .1 .0) (y .try-part .ensures) (q .tried2 .given .0 .0) (u .cut-part .result) (st .args .curves .now) (u .cut-part .last .1 .1 .1 .1 .1 .1 .0) (st .args .firsts .now) (u .cut-part .last .1 .1 .1 .1 .1 .1 .1 .0) (st .args .worsts .now) (u .cut-part .last .1 .1 .1 .1 .1 .1 .1 .1 .0) (u .cut-part .last .1 .1 .1 .1 .1 .1 .1 .1 .1 .0) (q .tried2 .given .1) (u .cut-part .ensures)
 
   fit-same-length-9 : of-fit fits.Need-same-length-9
   fit-same-length-9 c = c .before .before .before .before .before .try-part .kept .1 .1 .1 .1 .0
@@ -383,7 +383,7 @@ module _ (t : ℕ) where
       let y = c .before .before .before .before .before in
       let st = c .before .before .before .before .before .before .before .before .before .before .before .before in
       let q = c .before in
-      laws.fit-refused (st .args .marks .now) (st .args .first) (st .args .start) (st .args .end) (st .args .tolerance) (omega (arith, st .pre .1)) (y .try-part .result) (y .try-part .last .1 .1 .1 .1 .0) (y .try-part .ensures) (q .tried3 .given .0 .0) (st .args .curves .now) _ (st .args .firsts .now) _ (st .args .worsts .now) _ _ (q .tried3 .given .1)
+      laws.fit-refused (st .args .marks .now) (st .args .first) (st .args .start) (st .args .end) (st .args .tolerance) (omega (arith, st .pre .1)) (st .pre .1 .usable) (y .try-part .result) (y .try-part .last .1 .1 .1 .1 .0) (y .try-part .ensures) (q .tried3 .given .0 .0) (st .args .curves .now) _ (st .args .firsts .now) _ (st .args .worsts .now) _ _ (q .tried3 .given .1)
 
 pub +cut-part+fit-part-spec : {M : Type 1} → statement M
 +cut-part+fit-part-spec =

@@ -16,7 +16,7 @@ use Rattle.gate.specs.Gate.{gateOf}
 use Rattle.gate.proofs.Tests.{Passed, passed, passed-even}
 use Rattle.blocks.specs.Blocks.{blocksOf}
 use Rattle.fit.specs.Fit.{fittedAnswer, fitOf}
-use Rattle.fit.proofs.Entries.{size-within, of-size, of-outline, of-count, passed-room, Fit, end-gate, Ran, as-long, end-refused, end-done}
+use Rattle.fit.proofs.Entries.{size-within, of-size, of-outline, of-count, passed-ready, Fit, end-gate, Ran, as-long, end-refused, end-done}
 use Rattle.fit.proofs.fit_cut.Statement.{statement}
 use Rattle.fit.proofs.fit_cut.Tie as tie
 
@@ -119,7 +119,7 @@ fit-blocks-requires : tie.Need-fit-blocks-requires
 fit-blocks-requires c κs =
     let a = c .before .before .before .before .before in
     let f = first (a .before .before) .args in
-    (of-count (marks (a .before .before)) (f .curves .now) (f .firsts .now) (f .worsts .now) (f .params .now) (again (outline (a .before .before)) + count (f .marks .now)) (many a) (omega (arith, more a)) (passed-room 4096 (outline (a .before .before)) (f .marks .now) (f .tolerance) (f .curves .now) (f .firsts .now) (f .worsts .now) (f .params .now) (omega arith) (through (a .before))), size-within _ (c .before .before .before .before .max-points-to-fit .result) (c .before .before .before .before .max-points-to-fit .ensures))
+    (of-count (marks (a .before .before)) (f .tolerance) (f .curves .now) (f .firsts .now) (f .worsts .now) (f .params .now) (again (outline (a .before .before)) + count (f .marks .now)) (many a) (omega (arith, more a)) (passed-ready 4096 (outline (a .before .before)) (f .marks .now) (f .tolerance) (f .curves .now) (f .firsts .now) (f .worsts .now) (f .params .now) (omega arith) (through (a .before))), size-within _ (c .before .before .before .before .max-points-to-fit .result) (c .before .before .before .before .max-points-to-fit .ensures))
 
 enum-known-out : tie.Need-enum-known-out
 enum-known-out c = search needs

@@ -30,7 +30,7 @@ returns-2 : tie.Need-returns-2
 returns-2 c = part-lost _ _ _ _ _ (c .before .before .before .before .before .before .before .before .before .pre .1) (c .before .before .before .before .before .before .if1 .left) _ (lost _ _ _ (c .before .before .before .before .solve .ensures) (c .enum-told .given .1))
 
 judge-requires : tie.Need-judge-requires
-judge-requires c κs = omega arith
+judge-requires c κs = search needs
 
 same-length-3 : tie.Need-same-length-3
 same-length-3 c = c .before .before .before .before .before .before .solve .kept .1 .1 .1 .1 .0
