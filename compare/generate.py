@@ -14,6 +14,7 @@ sys.path.insert(0, os.path.join(os.path.dirname(os.path.dirname(os.path.realpath
 from shared.basis import point_at
 from shared.checker import kept_for
 from shared.command import Stop, run
+from shared.ends import ENDS, TOLERANCES
 from shared.meetings import ABOUTS
 from shared.ties import CURVE, PARAMS, TIES
 from shared.words import word_of
@@ -136,6 +137,13 @@ def limits():
         for marks in ([], [1.0], [1.0, 2.0], [1.0, 2.0, 3.0], [NAN], [NAN, 2.0], good[:-1], [1.0, 1.0] * 2, [1.0, 1.0] * 3, [1.0, 1.0] * 4, good[:4], good[:6], [1.0, NAN, 3.0]):
             yield line(kind, 0.5, ways, marks)
             yield line(kind, NAN, ways, marks)
+
+
+def ends():
+    """Parts whose end marks are put to the test, at the least tolerances and at a wider one."""
+    for marks in ENDS:
+        for tolerance in (*TOLERANCES, 0.25):
+            yield from fits(marks, tolerance)
 
 
 def joints():
@@ -416,7 +424,7 @@ def main(words):
     if len(words) > 1 or not all(text.isdecimal() for text in words):
         raise Stop('usage: compare/generate.py [SEED], SEED a whole number')
     hand.seed(int(words[0]) if words else 1)
-    for part in (single, near, outlines, joints, rings, limits, measures, lists, sizes, nonsense):
+    for part in (single, near, outlines, ends, joints, rings, limits, measures, lists, sizes, nonsense):
         for case in part():
             print(case)
     return 0

@@ -9,6 +9,7 @@ import itertools
 import math
 
 from shared import kept
+from shared.ends import ENDS
 from shared.meetings import ABOUTS
 from shared.table import FITS, fit_refusal
 from shared.words import INFINITY, MINUS, NAN, bits, digest_of, number, numbers, pattern_of, patterns_of, words
@@ -206,6 +207,8 @@ def borders(arc):
             yield taken(kind, THOUSANDTH, arc(count))
     yield from rings(arc)
     yield from meetings()
+    for kind, marks in itertools.product(FITS, ENDS):  # minus zero is the least tolerance
+        yield taken(kind, MINUS, patterns_of(*marks))
 
 
 def kept_borders():
@@ -251,7 +254,7 @@ def text(outline, said):
     """What the program has to write."""
     lent = [[before] * length for before, length in zip(BEFORE, outline.room)]
     more = ''
-    if said in ('6', '7'):
+    if said == '6':
         lent = [[0] * length for length in outline.room]
     if said.startswith('0 '):
         lists = Lists(said)

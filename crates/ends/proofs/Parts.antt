@@ -26,7 +26,7 @@ use Rattle.ends.specs.Rounds.{EndsStay, CutsInside}
 use Rattle.ends.proofs.Worst.{within, max-is, max-less, worst-among, none-off}
 use Rattle.ends.proofs.Lines.{line-near, line-far, line-far-less, line-good, line-params}
 use Rattle.ends.proofs.Usable.{not-below, marked}
-use Rattle.ends.proofs.Trials.{Kept, round-kept, kept-stays, tried-round}
+use Rattle.ends.proofs.Trials.{Kept, round-kept, kept-stays, end-in-round}
 
 -- one curve from the first mark to the last, near every mark
 pub record Fits (ms : List Float) (tol : Float) (c : Curve) (w : Worst) (ps : List Float) : Type 0 where
@@ -130,7 +130,7 @@ module _ (ms : List Float) (tol : Float) (two : 2 ≤ count ms) (u : Usable ms t
   part-sound st et = go (leb (count ms) 2) refl
     where
       kept : tried (count ms) ms st et tol .fine ≡ true → Kept ms (count ms) (tried (count ms) ms st et tol .val)
-      kept h = round-kept ms st et two (marked ms (u .near) 0 (omega arith) .0) (marked ms (u .near) (count ms - 1) (omega arith) .0) (tried-round ms st et tol h)
+      kept h = round-kept ms st et two (marked ms (u .near) 0 (omega arith) .0) (marked ms (u .near) (count ms - 1) (omega arith) .0) (end-in-round ms st et tol h)
 
       go : (b : Bool) → leb (count ms) 2 ≡ b → Sound ms tol (pick b (lined (unless 6 (lineOf (markAt ms 0) (markAt ms 1) .fine) (ok (lineOf (markAt ms 0) (markAt ms 1) .val)))) (judged tol (unless 6 (tried (count ms) ms st et tol .fine) (ok (tried (count ms) ms st et tol .val)))))
       go true e = lined-sound (lineOf (markAt ms 0) (markAt ms 1) .fine) (let l = leb-true (count ms) 2 e in omega arith)

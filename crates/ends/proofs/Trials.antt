@@ -22,7 +22,7 @@ use Rattle.squares.proofs.Least.{generate-ends, generate-good}
 use Rattle.part.specs.Trial.{Trial, attempt, enough, improve, tried}
 use Rattle.numbers.specs.Words.{one}
 use Rattle.ends.specs.Ends.{Params, FitsP, EndsAt}
-use Rattle.ends.specs.Rounds.{begun, onward, Round, first, next, EndsStay, RoundsKeepEnds}
+use Rattle.ends.specs.Rounds.{begun, onward, Round, first, next, EndInRound, EndsStay, RoundsKeepEnds}
 use Rattle.ends.proofs.Chords.{chords-length, chords-params}
 use Rattle.ends.proofs.Rounds.{reparam-length, reparam-keeps}
 use Rattle.ends.proofs.Basis.{error-start, error-end}
@@ -108,9 +108,9 @@ module _ (ms : List Float) (st et : Point) (tol : Float) where
       go true t s R h = s
       go false t s R h = R h
 
-  pub tried-round : Fine (tried (count ms) ms st et tol) → Round ms st et (tried (count ms) ms st et tol .val)
+  ends-in-round : Fine (tried (count ms) ms st et tol) → Round ms st et (tried (count ms) ms st et tol .val)
   unfolding tried
-  tried-round h =
+  ends-in-round h =
       let c = generateOf ms (chordsOf ms (count ms) .val) st et in
       let t = begun ms st et in
       let g = and-right (c .fine) _ (and-right (chordsOf ms (count ms) .fine) _ h) in
@@ -119,3 +119,6 @@ module _ (ms : List Float) (st et : Point) (tol : Float) where
       go : (b : Bool) (t : Trial) → Round ms st et t → Fine (cond {A = Calc Trial} b (improve 7 ms st et tol t) (give t)) → Round ms st et (cond {A = Calc Trial} b (improve 7 ms st et tol t) (give t) .val)
       go true t s h = improve-round 7 t s h
       go false t s h = s
+
+pub end-in-round : EndInRound
+end-in-round = ends-in-round

@@ -11,7 +11,7 @@ use Rattle.marks.specs.Marks.{count, markAt}
 use Rattle.stages.specs.Chords.{chordsOf}
 use Rattle.stages.specs.Worst.{errorOf}
 use Rattle.squares.specs.Squares.{generateOf}
-use Rattle.part.specs.Trial.{Trial, attempt}
+use Rattle.part.specs.Trial.{Trial, attempt, tried}
 use Rattle.part.specs.Part.{cuts, partOf}
 use Rattle.gate.specs.Gate.{inRange, Usable}
 use Rattle.numbers.specs.Words.{zer, one, Zero}
@@ -23,10 +23,14 @@ begun ms st et = let ts = chordsOf ms (count ms) .val in attempt ms st et (gener
 abbrev pub onward : List Float → Point → Point → Trial → Calc Trial
 onward ms st et a = attempt ms st et (a .curve) (a .params)
 
--- what a round of a part comes to, where no operation gave NaN or infinity
+-- what a round of a part comes to, where no operation of the rounds so far gave NaN or infinity
 pub data Round (ms : List Float) (st et : Point) : Trial → Type 0 where
   first : chordsOf ms (count ms) .fine ≡ true → begun ms st et .fine ≡ true → Round ms st et (begun ms st et .val)
   next : {a : Trial} → Round ms st et a → onward ms st et a .fine ≡ true → Round ms st et (onward ms st et a .val)
+
+-- what a part's rounds end in is one of these
+abbrev pub EndInRound : Type 0
+EndInRound = (ms : List Float) (st et : Point) (tol : Float) → tried (count ms) ms st et tol .fine ≡ true → Round ms st et (tried (count ms) ms st et tol .val)
 
 -- the first mark's parameter is a zero of either sign, the last one's is 1, and the squares of both distances are plus zero
 pub record EndsStay (ms : List Float) (a : Trial) : Type 0 where

@@ -1,1 +1,1 @@
-// Why what a part's fit accepts is near its marks: the end marks keep the parameters 0 and 1 through every round, and a mark within the worst distance is within the tolerance. There is no code here.
+// Laws of one part: through every round its end marks keep the parameters 0 and 1 and lie on its curve. So a cut falls between them, and what is accepted is near every mark. specs/Rounds.antt states the law of the rounds and of the cut, proofs/ proves them; there is no code here.
