@@ -17,8 +17,8 @@ use Rattle.ring.specs.Ring.{again, whole, Even}
 use Rattle.ring.specs.declared.Outline.{Outline}
 use Rattle.ring.specs.declared.Outline.the-variants.{Open, Closed}
 use Rattle.ring.proofs.Whole.{again-small, whole-length, halves, as-closed}
-use Rattle.tangents.specs.Joints.{jointAt, seamOf, leftEnd, rightStart}
-use Rattle.tangents.specs.Ways.{Inner, over, outlineOf, marksOf, startAt, endAt, meets, startOf, endOf}
+use Rattle.joints.specs.Joints.{Inner, jointAt, seamOf, leftEnd, rightStart}
+use Rattle.tangents.specs.Ways.{over, outlineOf, marksOf, startAt, endAt, meets, startOf, endOf}
 
 pub over-small : (k : Cutting) → over k ≤ 1
 unfolding over

@@ -14,12 +14,12 @@ use Rattle.plane.specs.declared.Point.{Point}
 use Rattle.plane.specs.declared.Direction.the-variants.{Toward, Nowhere}
 use Rattle.tangents.specs.NoKink.{Smooth, Folded, NoKink, NoKinkAtSeam}
 use Rattle.tangents.specs.declared.Ways.{Ways}
-use Rattle.tangents.specs.declared.Joint.{Joint}
+use Rattle.joints.specs.declared.Joint.{Joint}
 use Rattle.tangents.specs.declared.Cutting.{Cutting}
 use Rattle.tangents.specs.declared.Cutting.the-variants.{Ring}
 use Rattle.tangents.proofs.Blocks.{start-met, start-seam, end-met, end-seam}
-use Rattle.tangents.proofs.Cuts.{goes-on}
-use Rattle.tangents.specs.Joints.{jointAt, seamOf, through, opposite, endBy, startBy, leftEnd, rightStart}
+use Rattle.joints.proofs.Joints.{goes-on}
+use Rattle.joints.specs.Joints.{jointAt, seamOf, through, opposite, endBy, startBy, leftEnd, rightStart}
 use Rattle.tangents.specs.Ways.{over, meets, startOf, endOf, waysOf}
 
 fine-by : {A : Type 0} (b : Bool) (v x : A) → unless 6 b (ok v) ≡ ok x → (b ≡ true) × (v ≡ x)

@@ -10,10 +10,10 @@ use Rattle.plane.specs.declared.Point.{Point}
 use Rattle.plane.specs.declared.Direction.the-variants.{Toward, Nowhere}
 use Rattle.marks.specs.Tangent.{along}
 use Rattle.tangents.specs.declared.Ways.{Ways}
-use Rattle.tangents.specs.declared.Joint.{Joint}
+use Rattle.joints.specs.declared.Joint.{Joint}
 use Rattle.tangents.specs.declared.Cutting.{Cutting}
 use Rattle.tangents.specs.declared.Cutting.the-variants.{Ring}
-use Rattle.tangents.specs.Joints.{jointAt, seamOf, through}
+use Rattle.joints.specs.Joints.{jointAt, seamOf, through}
 use Rattle.tangents.specs.Ways.{over, waysOf}
 
 -- A joint that has a direction has no kink: the tangent that the right block starts with is the left block's end tangent times -1.

@@ -1,5 +1,5 @@
 -- The tangents at a cut and at the ends of a block. Definitions only.
-use Prim.Native.Nat.{ℕ, _+_, _-_, _*_, _<_}
+use Prim.Native.Nat.{ℕ, _+_, _-_, _*_}
 use mathlib.Core.Bool.{Bool, _&&_, cond}
 use mathlib.Core.List.{List}
 use lib.ListN.{take, drop}
@@ -8,21 +8,17 @@ use lib.Ieee.{Float}
 use Rattle.float.specs.Calc.{Calc, give, _>>=_}
 use Rattle.float.specs.Answer.{Answer, ok, refused}
 use Rattle.plane.specs.declared.Point.{Point}
-use Rattle.marks.specs.Marks.{count, markAt}
+use Rattle.marks.specs.Marks.{markAt}
 use Rattle.marks.specs.Tangent.{startTangent, endTangent, tangentBetween}
-use Rattle.ring.specs.Ring.{again, whole, Even}
+use Rattle.ring.specs.Ring.{whole}
 use Rattle.ring.specs.declared.Outline.{Outline}
 use Rattle.ring.specs.declared.Outline.the-variants.{Open, Closed}
-use Rattle.tangents.specs.Joints.{opposite, jointAt, seamOf, leftEnd, rightStart}
+use Rattle.joints.specs.Joints.{opposite, jointAt, seamOf, leftEnd, rightStart}
 use Rattle.tangents.specs.declared.Ways.{Ways}
 use Rattle.tangents.specs.declared.Turn.{Turn}
 use Rattle.tangents.specs.declared.Turn.the-variants as turn
 use Rattle.tangents.specs.declared.Cutting.{Cutting}
 use Rattle.tangents.specs.declared.Cutting.the-variants.{Source, Loop, Joined, Ring}
-
--- a mark of an outline with one before it and one after it
-abbrev pub Inner : Outline → List Float → ℕ → Type 0
-Inner o ms k = Even ms × ((0 < k) × (k + 1 < again o + count ms))
 
 -- the tangent at mark k: tangent_between of the mark before it, itself and the mark after it
 unfoldable pub tangentAt : List Float → ℕ → Calc Point

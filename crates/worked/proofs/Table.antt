@@ -15,7 +15,7 @@ use Rattle.cubic.specs.Subdivide.{subdivide4Of}
 use Rattle.part.specs.Part.{partOf}
 use Rattle.cut.specs.Run.{run, runOf}
 use Rattle.gate.specs.Gate.{inRange, tolerable, roomFor, gateFor}
-use Rattle.tangents.specs.Joints.{endBy, startBy, leftEnd, rightStart}
+use Rattle.joints.specs.Joints.{endBy, startBy, leftEnd, rightStart}
 use Rattle.tangents.specs.Ways.{over, startAt, endAt, waysOf}
 use Rattle.blocks.specs.Blocks.{blocks, blocksFrom, blocksOf}
 use Rattle.fit.specs.Fit.{fitOf}

@@ -18,8 +18,8 @@ use Rattle.form.specs.Form.{recordNumbers}
 use Rattle.cubic.specs.Basis.{pointAt}
 use Rattle.cubic.specs.Subdivide.{subdivide4Of}
 use Rattle.cubic.specs.declared.split.Halves.{Halves}
-use Rattle.tangents.specs.Joints.{leftEnd, rightStart}
-use Rattle.tangents.specs.declared.Joint.{Joint}
+use Rattle.joints.specs.Joints.{leftEnd, rightStart}
+use Rattle.joints.specs.declared.Joint.{Joint}
 use Rattle.tangents.specs.declared.Cutting.the-variants.{Joined}
 use Rattle.fit.specs.Fit.{Ending, ending, fitOf}
 

@@ -6,8 +6,8 @@ use Prim.Native.Nat.{_-_, _*_}
 use lib.ListN.{length, length-take}
 use Rattle.float.specs.Answer.{outcome}
 use Rattle.ring.specs.declared.Outline.the-variants.{Open}
-use Rattle.tangents.specs.declared.Joint.{Joint}
-use Rattle.tangents.specs.Joints.{leftEnd}
+use Rattle.joints.specs.declared.Joint.{Joint}
+use Rattle.joints.specs.Joints.{leftEnd}
 use Rattle.tangents.specs.Ways.{outlineOf, marksOf}
 use Rattle.tangents.proofs.Blocks.{end-within, met, marks-of, open-marks, open-length, joint-inner, joint-closed, joint-as-closed, end-met, end-alone, end-seam, seam-of}
 use Rattle.tangents.proofs.end_of.Statement.{statement}

@@ -7,8 +7,8 @@ use lib.ListN.{length, drop, length-take, length-drop}
 use lib.Seq.{take-all}
 use Rattle.float.specs.Answer.{outcome}
 use Rattle.ring.specs.declared.Outline.the-variants.{Open}
-use Rattle.tangents.specs.declared.Joint.{Joint}
-use Rattle.tangents.specs.Joints.{rightStart}
+use Rattle.joints.specs.declared.Joint.{Joint}
+use Rattle.joints.specs.Joints.{rightStart}
 use Rattle.tangents.specs.Ways.{outlineOf, marksOf}
 use Rattle.tangents.proofs.Blocks.{start-within, met, marks-of, open-marks, open-length, joint-inner, joint-closed, joint-as-closed, start-met, start-alone, start-seam, seam-of}
 use Rattle.tangents.proofs.start_of.Statement.{statement}

@@ -5,7 +5,7 @@ use mathlib.Core.Path.{ap, _∙_}
 use Rattle.float.specs.Answer.{outcome}
 use Rattle.marks.specs.Tangent.{tangentBetween}
 use Rattle.ring.specs.declared.Outline.the-variants.{Open}
-use Rattle.tangents.specs.declared.Joint.{Joint}
+use Rattle.joints.specs.declared.Joint.{Joint}
 use Rattle.tangents.specs.Ways.{tangentAt}
 use Rattle.tangents.proofs.Blocks.{joint-as-closed}
 use Rattle.tangents.proofs.tangent_at.Statement.{statement}

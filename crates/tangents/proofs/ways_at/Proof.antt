@@ -2,7 +2,7 @@
 use borrow.Author.Needs.{needs}
 use Rattle.plane.specs.declared.Point.{Point}
 use Rattle.tangents.specs.declared.Ways.{Ways}
-use Rattle.tangents.specs.Joints.{opposite}
+use Rattle.joints.specs.Joints.{opposite}
 use Rattle.tangents.specs.Ways.{waysAt, turnAnswer}
 use Rattle.tangents.proofs.Cuts.{no-first, no-second, both}
 use Rattle.tangents.proofs.ways_at.Statement.{statement}

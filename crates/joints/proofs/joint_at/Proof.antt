@@ -1,11 +1,11 @@
--- `tangents::joint_at` meets its contract. Assumes nothing.
+-- `joints::joint_at` meets its contract. Assumes nothing.
 use borrow.Author.Needs.{needs}
 use native.Mathlib.Omega.{arith}
 use mathlib.Core.Path.{sym, _∙_}
 use Rattle.ring.specs.declared.Outline.the-variants.{Closed}
 use Rattle.ring.proofs.Whole.{given}
-use Rattle.tangents.proofs.joint_at.Statement.{statement}
-use Rattle.tangents.proofs.joint_at.Tie as tie
+use Rattle.joints.proofs.joint_at.Statement.{statement}
+use Rattle.joints.proofs.joint_at.Tie as tie
 
 sub-before : tie.Need-sub-mark-at
 sub-before c = search needs

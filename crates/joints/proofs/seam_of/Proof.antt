@@ -1,4 +1,4 @@
--- `tangents::seam_of` meets its contract. Assumes nothing.
+-- `joints::seam_of` meets its contract. Assumes nothing.
 use borrow.Author.Needs.{needs}
 use native.Mathlib.Omega.{arith}
 use Prim.Native.Nat.{_+_, _-_}
@@ -6,8 +6,8 @@ use mathlib.Core.Path.{_≡_, sym, _∙_}
 use Rattle.marks.specs.Marks.{count}
 use Rattle.ring.specs.declared.Outline.the-variants.{Closed}
 use Rattle.ring.proofs.Whole.{given}
-use Rattle.tangents.proofs.seam_of.Statement.{statement}
-use Rattle.tangents.proofs.seam_of.Tie as tie
+use Rattle.joints.proofs.seam_of.Statement.{statement}
+use Rattle.joints.proofs.seam_of.Tie as tie
 
 sub-last : tie.Need-sub-last
 sub-last c = search needs

@@ -1,10 +1,10 @@
--- `tangents::opposite` meets its contract. Assumes nothing.
+-- `joints::opposite` meets its contract. Assumes nothing.
 use borrow.Author.Needs.{needs}
 use mathlib.Core.Path.{sym, _∙_}
 use Rattle.marks.specs.Answers.{wayAnswer}
-use Rattle.tangents.proofs.Cuts.{about, too-far}
-use Rattle.tangents.proofs.opposite.Statement.{statement}
-use Rattle.tangents.proofs.opposite.Tie as tie
+use Rattle.joints.proofs.Joints.{about, too-far}
+use Rattle.joints.proofs.opposite.Statement.{statement}
+use Rattle.joints.proofs.opposite.Tie as tie
 
 scale-requires : tie.Need-scale-requires
 scale-requires c κs = search needs

@@ -1,5 +1,5 @@
 -- Where two blocks meet: with which tangent the left one ends and the right one starts. Definitions only.
-use Prim.Native.Nat.{ℕ, _+_, _-_}
+use Prim.Native.Nat.{ℕ, _+_, _-_, _<_}
 use mathlib.Core.List.{List}
 use lib.Ieee.{Float, neg}
 use Rattle.float.specs.Number.{f1}
@@ -8,9 +8,15 @@ use Rattle.plane.specs.Plane.{times}
 use Rattle.plane.specs.declared.Point.{Point}
 use Rattle.plane.specs.declared.Direction.{Direction}
 use Rattle.plane.specs.declared.Direction.the-variants.{Toward, Nowhere}
-use Rattle.marks.specs.Marks.{markAt}
+use Rattle.marks.specs.Marks.{count, markAt}
 use Rattle.marks.specs.Tangent.{directionBetween, along}
-use Rattle.tangents.specs.declared.Joint.{Joint}
+use Rattle.ring.specs.Ring.{again, Even}
+use Rattle.ring.specs.declared.Outline.{Outline}
+use Rattle.joints.specs.declared.Joint.{Joint}
+
+-- a mark of an outline with one before it and one after it
+abbrev pub Inner : Outline → List Float → ℕ → Type 0
+Inner o ms k = Even ms × ((0 < k) × (k + 1 < again o + count ms))
 
 -- a mark with the one before it, which lies in the left block, and the one after it, in the right block
 abbrev pub jointAt : List Float → ℕ → Joint

@@ -1,11 +1,11 @@
--- `tangents::right_start`: the refusal is taken out first, and then whether there is a direction. Assumes nothing.
+-- `joints::right_start`: the refusal is taken out first, and then whether there is a direction. Assumes nothing.
 use borrow.Author.Needs.{needs}
 use Rattle.plane.specs.declared.Direction.the-variants.{Toward, Nowhere}
 use Rattle.marks.specs.Answers.{wayAnswer}
-use Rattle.tangents.specs.Joints.{startBy, rightStart}
-use Rattle.tangents.proofs.Cuts.{no-bearing, by-bearing}
-use Rattle.tangents.proofs.right_start.Statement.{statement}
-use Rattle.tangents.proofs.right_start.Tie as tie
+use Rattle.joints.specs.Joints.{startBy, rightStart}
+use Rattle.joints.proofs.Joints.{no-bearing, by-bearing}
+use Rattle.joints.proofs.right_start.Statement.{statement}
+use Rattle.joints.proofs.right_start.Tie as tie
 
 direction-between-requires : tie.Need-direction-between-requires
 direction-between-requires c κs = search needs

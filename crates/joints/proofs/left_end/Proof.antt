@@ -1,14 +1,14 @@
--- `tangents::left_end`: the refusal is taken out first, and then whether there is a direction. Assumes nothing.
+-- `joints::left_end`: the refusal is taken out first, and then whether there is a direction. Assumes nothing.
 use borrow.Author.Needs.{needs}
 use mathlib.Core.Path.{refl, sym}
 use Rattle.float.specs.Calc.{give}
 use Rattle.float.proofs.Answers.{outcome-ok}
 use Rattle.plane.specs.declared.Direction.the-variants.{Toward, Nowhere}
 use Rattle.marks.specs.Answers.{wayAnswer}
-use Rattle.tangents.specs.Joints.{endBy, leftEnd}
-use Rattle.tangents.proofs.Cuts.{no-bearing, by-bearing}
-use Rattle.tangents.proofs.left_end.Statement.{statement}
-use Rattle.tangents.proofs.left_end.Tie as tie
+use Rattle.joints.specs.Joints.{endBy, leftEnd}
+use Rattle.joints.proofs.Joints.{no-bearing, by-bearing}
+use Rattle.joints.proofs.left_end.Statement.{statement}
+use Rattle.joints.proofs.left_end.Tie as tie
 
 direction-between-requires : tie.Need-direction-between-requires
 direction-between-requires c κs = search needs
