@@ -21,7 +21,8 @@ use Rattle.part.specs.declared.Tried.the-variants.{Good, Cut}
 use Rattle.part.specs.declared.Tried.the-variants.{Refused as TRefused}
 use Rattle.gate.specs.Gate.{Usable}
 use Rattle.ends.proofs.Usable.{usable-take}
-use Rattle.ends.proofs.Parts.{Inside, Fits, Sound, part-sound, cuts-inside}
+use Rattle.ends.specs.Rounds.{Inside}
+use Rattle.ends.proofs.Parts.{Fits, Sound, part-sound, cuts-inside}
 use Rattle.cut.specs.Run.{Run, refused, done, Beside, firstsOf, worstsOf, flat, leftOf, rightOf, join, runOf, cutOf}
 use Rattle.tangents.specs.Ways.{waysAt}
 use Rattle.cut.specs.Lent.{Left, Ready}

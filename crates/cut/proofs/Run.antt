@@ -16,7 +16,8 @@ use Rattle.stages.specs.declared.worst.Worst.{Worst}
 use Rattle.part.specs.Part.{Part, fits, cuts, fails, partOf}
 use Rattle.gate.specs.Gate.{Usable}
 use Rattle.ends.proofs.Usable.{usable-take, usable-drop}
-use Rattle.ends.proofs.Parts.{Fits, Inside, Sound, part-sound, cuts-inside}
+use Rattle.ends.specs.Rounds.{Inside}
+use Rattle.ends.proofs.Parts.{Fits, Sound, part-sound, cuts-inside}
 use Rattle.cut.specs.Run.{Run, refused, done, Beside, beside, flat, leftOf, rightOf, join, turned, run, runOf, cutOf}
 use Rattle.tangents.specs.Ways.{waysAt}
 use Rattle.tangents.specs.declared.Ways.{Ways}

@@ -31,7 +31,7 @@ use Rattle.faults.specs.Tests.{distanceAt}
 use Rattle.ends.specs.Ends.{FitsP, Near, Params, worstOf, rooted}
 use Rattle.numbers.proofs.Zeros.{f0-is, f1-is}
 use Rattle.ends.proofs.Basis.{part, om, error-start, error-end}
-use Rattle.ends.proofs.Worst.{larger-none}
+use Rattle.ends.proofs.Worst.{root-zero, larger-none}
 use Rattle.numbers.proofs.Order.{zero-in, one-in}
 use Rattle.numbers.proofs.Bounds.{W, w-fin, w-up, mul-w, add-w, sub-w}
 
@@ -124,11 +124,8 @@ module _ (ms : List Float) (tol : Float) (t : Le f0 tol) (w0 : WP 20 (markAt ms 
   c = lineOf (markAt ms 0) (markAt ms 1) .val
 
   near-zero : (x : Float) → x ≡ zer false → (finite (sqrt binary64 x) ≡ true) × Le (sqrt binary64 x) tol
-  near-zero x e = subst (λ (v : Float). (finite (sqrt binary64 v) ≡ true) × Le (sqrt binary64 v) tol) (sym e) (fin-zero, subst (λ (v : Float). Le v tol) (f0-is ∙ sym root-zero) t)
+  near-zero x e = subst (λ (v : Float). (finite (sqrt binary64 v) ≡ true) × Le (sqrt binary64 v) tol) (sym e) (fin-zero, subst (λ (v : Float). Le v tol) (sym root-zero ∙ ap (sqrt binary64) f0-is) t)
     where
-      root-zero : sqrt binary64 (zer false) ≡ zer false
-      root-zero = unfold sqrt in refl
-
       fin-zero : finite (sqrt binary64 (zer false)) ≡ true
       fin-zero = unfold sqrt finite in refl
 
@@ -173,8 +170,7 @@ module _ (ms : List Float) (tol : Float) (t : Le f0 tol) (w0 : WP 20 (markAt ms 
   two-off = ap (λ (w : Worst). larger w (errorOf (markAt ms 1) c f1 .val) 1) one-off ∙ none-off 1 _ off1
 
   root-none : noWorst ≡ rooted noWorst
-  unfolding ofBits sqrt
-  root-none = refl
+  root-none = ap (λ (x : Float). record { err = x; at = 0 }) (sym root-zero)
 
   pub line-far : noWorst ≡ rooted (worstOf ms c ends 2)
   line-far = root-none ∙ ap rooted (sym two-off)

@@ -6,7 +6,7 @@ use Prim.Native.Nat.{ℕ, zero, suc, _+_, _-_, _≤_, _<_}
 use native.Mathlib.Omega.{arith}
 use lib.Dec.{leb}
 use lib.ListN.{length, getD}
-use lib.Ieee.{Float, nan, binary64, le, ofBits}
+use lib.Ieee.{Float, nan, binary64, le}
 use borrow.Author.Tests.{leb-true}
 use Rattle.float.specs.Number.{f0}
 use Rattle.float.specs.Answer.{ok, unless, outcome}
@@ -22,8 +22,8 @@ use Rattle.part.specs.Trial.{Trial, tried}
 use Rattle.part.specs.Part.{Part, fits, cuts, fails, pick, lined, judged, partOf}
 use Rattle.gate.specs.Gate.{Usable}
 use Rattle.ends.specs.Ends.{Params, Near, worstOf, rooted}
-use Rattle.ends.specs.Rounds.{EndsStay, CutsInside}
-use Rattle.ends.proofs.Worst.{within, max-is, max-less, worst-among, none-off}
+use Rattle.ends.specs.Rounds.{EndsStay, Inside, CutsInside}
+use Rattle.ends.proofs.Worst.{root-zero, within, max-is, max-less, worst-among, none-off}
 use Rattle.ends.proofs.Lines.{line-near, line-far, line-far-less, line-good, line-params}
 use Rattle.ends.proofs.Usable.{not-below, marked}
 use Rattle.ends.proofs.Trials.{Kept, round-kept, kept-stays, end-in-round}
@@ -41,17 +41,10 @@ pub record Fits (ms : List Float) (tol : Float) (c : Curve) (w : Worst) (ps : Li
   pub far-less : w ≡ rooted (worstOf ms c ps (count ms - 1))
   pub among : w .at < count ms
 
--- a cut between the end marks
-abbrev pub Inside : List Float → ℕ → Type 0
-Inside ms k = (0 < k) × (k + 1 < count ms)
-
 abbrev pub Sound : List Float → Float → Part → Type 0
 Sound ms tol (fits c w ps) = Fits ms tol c w ps
 Sound ms tol (cuts k) = Inside ms k
 Sound ms tol (fails q) = q ≡ 6
-
-root-zero : sqrt binary64 f0 ≡ f0
-root-zero = unfold sqrt ofBits in refl
 
 module _ (ms : List Float) (tol : Float) (two : 2 ≤ count ms) (u : Usable ms tol) where
   t : Le f0 tol

@@ -32,6 +32,9 @@ use Rattle.numbers.specs.Words.{zer}
 use Rattle.numbers.proofs.Plain.{plain-fin, plain-not-below, sqrt-plain, sqrt-le}
 use Rattle.ends.proofs.Squares.{dot-plain, dot-fits}
 
+pub root-zero : sqrt binary64 f0 ≡ f0
+root-zero = unfold sqrt ofBits in refl
+
 -- ---- a squared distance
 pub error-good : (m : Point) (c : Curve) (t : Float) → Fine (errorOf m c t) → Fin (errorOf m c t .val)
 error-good m c t h = is-so (errorOf m c t .fine) (finite (errorOf m c t .val)) h (error-bad m c t)

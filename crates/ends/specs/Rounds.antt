@@ -43,6 +43,10 @@ pub record EndsStay (ms : List Float) (a : Trial) : Type 0 where
 abbrev pub RoundsKeepEnds : Type 0
 RoundsKeepEnds = (ms : List Float) (st et : Point) (a : Trial) → 2 ≤ count ms → inRange ms ≡ true → Round ms st et a → EndsStay ms a
 
--- so a part is cut behind its first mark and before its last
+-- behind a part's first mark and before its last
+abbrev pub Inside : List Float → ℕ → Type 0
+Inside ms k = (0 < k) × (k + 1 < count ms)
+
+-- so it is cut there
 abbrev pub CutsInside : Type 0
-CutsInside = (ms : List Float) (st et : Point) (tol : Float) (k : ℕ) → 2 ≤ count ms → Usable ms tol → partOf ms st et tol ≡ cuts k → (0 < k) × (k + 1 < count ms)
+CutsInside = (ms : List Float) (st et : Point) (tol : Float) (k : ℕ) → 2 ≤ count ms → Usable ms tol → partOf ms st et tol ≡ cuts k → Inside ms k
