@@ -31,7 +31,7 @@ pub fn first_at(firsts: &[u32], j: usize) -> usize
 }
 
 // The curve at the front of these numbers.
-fn curve_of(own: &[f64]) -> Curve
+pub fn curve_of(own: &[f64]) -> Curve
     requires { ⌜ curveNumbers ≤ length (now own) ⌝ }
     ensures { λ r. ⌜ r ≡ curveOf (now (own .entry)) ⌝ }
 {

@@ -1,0 +1,23 @@
+-- `border::put_refined` meets its contract. Assumes nothing.
+use borrow.Author.Needs.{needs}
+use Rattle.bezier.specs.Calls.{numberAnswer}
+use Rattle.border.specs.Crossing.{numberCrossed}
+use Rattle.border.proofs.put_refined.Statement.{statement}
+use Rattle.border.proofs.put_refined.Tie as tie
+
+enum-known-answer : tie.Need-enum-known-answer
+enum-known-answer c = search needs
+
+enum-known-answer-2 : tie.Need-enum-known-answer-2
+enum-known-answer-2 c = search needs
+
+returns : tie.Need-returns
+unfolding numberAnswer numberCrossed
+returns c = search needs
+
+returns-2 : tie.Need-returns-2
+unfolding numberAnswer numberCrossed
+returns-2 c = rw (c .before .answer2 .given .1)
+
+pub put-refined-spec : {M : Type 1} → statement M
+put-refined-spec = tie.close (tie.spec enum-known-answer enum-known-answer-2 returns returns-2)

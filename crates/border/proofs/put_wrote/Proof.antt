@@ -1,0 +1,22 @@
+-- `border::put_wrote` meets its contract. Assumes nothing.
+use borrow.Author.Needs.{needs}
+use Rattle.border.specs.Crossing.{countCrossed}
+use Rattle.border.proofs.put_wrote.Statement.{statement}
+use Rattle.border.proofs.put_wrote.Tie as tie
+
+enum-known-answer : tie.Need-enum-known-answer
+enum-known-answer c = search needs
+
+enum-known-answer-2 : tie.Need-enum-known-answer-2
+enum-known-answer-2 c = search needs
+
+returns : tie.Need-returns
+unfolding countCrossed
+returns c = search needs
+
+returns-2 : tie.Need-returns-2
+unfolding countCrossed
+returns-2 c = search needs
+
+pub put-wrote-spec : {M : Type 1} → statement M
+put-wrote-spec = tie.close (tie.spec enum-known-answer enum-known-answer-2 returns returns-2)

@@ -1,0 +1,22 @@
+-- `wesalondo::wes_judge_file` meets its contract. Assumes nothing.
+use borrow.Author.Needs.{needs}
+use mathlib.Core.Path.{ap}
+use Rattle.wesalondo.specs.Left.{leftWithText}
+use Rattle.wesalondo.proofs.wes_judge_file.Statement.{statement}
+use Rattle.wesalondo.proofs.wes_judge_file.Tie as tie
+
+judge-file-requires : tie.Need-judge-file-requires
+judge-file-requires c κs = search needs
+
+put-listed-requires : tie.Need-put-listed-requires
+put-listed-requires c κs = search needs
+
+same-length : tie.Need-same-length
+same-length c = search needs
+
+returns : tie.Need-returns
+returns c = rw (c .put-listed .ensures) (ap leftWithText (c .before .before .before .before .judge-file .ensures))
+
+pub wes-judge-file-spec : {M : Type 1} → statement M
+wes-judge-file-spec =
+    tie.close (tie.spec judge-file-requires put-listed-requires same-length returns)
