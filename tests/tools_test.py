@@ -476,5 +476,29 @@ class Other(Case):
             write('docs/MAP.md', page)
 
 
+def page(name):
+    """A file of the repository; the copy has neither the readme nor the bindings."""
+    with open(os.path.join(ROOT, name), encoding='utf-8') as file:
+        return file.read()
+
+
+class Bindings(Case):
+    """The readme, the crate, the header and the crate for Rust have the same calls and refusals."""
+
+    def test_calls(self):
+        table = page('README.md').split('| to do | call |')[1].split('\n\n')[0]
+        told = {'wes_' + name for row in table.split('\n') for name in re.findall(r'`(?:\w+::)?(\w+)`', row.rpartition(' | ')[2])}
+        places = {
+            'crates/wesalondo/src/lib.rt': r'extern "C" fn (wes_\w+)\(', 'bindings/c/wesalondo.h': r'(?m)^[a-z].* \**(wes_\w+)\(',
+            'bindings/rust/src/sys.rs': r'pub fn (wes_\w+)\(', 'docs/PROMISES.md': r'`(wes_\w+)`'}
+        for name, pattern in places.items():
+            self.assertEqual(set(re.findall(pattern, page(name))), told, name)
+
+    def test_refusals(self):
+        told = re.findall(r'(?m)^\| ([0-9]+) \|', page('README.md'))
+        self.assertEqual(re.findall(r'WES_\w+ = ([0-9]+)', page('bindings/c/wesalondo.h')), ['0', *told])
+        self.assertEqual(re.findall(r'Refusal::\w+ => ([0-9]+),', page('bindings/rust/src/refusal.rs')), told)
+
+
 if __name__ == '__main__':
     sys.exit(support.main())

@@ -270,6 +270,17 @@ def whole():
         yield f'refine {ARCH} {QUERY} {HALF} {text}'
 
 
+EVALUATIONS = ('basis', 'de_casteljau4')
+
+
+def roundings():
+    """Curves and parameters of no short fraction: both evaluations of a curve come to the same point there, by other roundings."""
+    for t in (0.1, 0.3, 0.6, 0.8):
+        for curve in ((0.1, 0.2, 1.3, 2.7, 3.1, 2.9, 4.7, 0.3), (-812.6, 77.1, 310.9, -455.3, 901.7, 630.2, 12.4, -333.8)):
+            for kind in EVALUATIONS:
+                yield f'{kind} {values(t)} {values(*curve)}'
+
+
 def nans():
     """Every NaN pattern stands for NaN."""
     for text in ('7FF0000000000001', '7FFFFFFFFFFFFFFF', 'FFF0000000000001', 'FFF8000000000000', 'FFFFFFFFFFFFFFFF'):
@@ -304,7 +315,7 @@ def made_rows():
     """The cases that are made here or by the other programs' modules, in their parts."""
     return {
         'roots': root_lines(), 'curve borders': to_ask(curve_borders()), 'nearest': nearest_lines() + [(line, '5') for line in nearest_borders()],
-        'outline borders': to_ask(outline_borders()), 'whole': to_ask(whole()), 'nans': list(nans()), 'distances': to_ask(distance_lines()), 'blocks': list(block_lines()), 'sizes': list(size_lines())}
+        'outline borders': to_ask(outline_borders()), 'whole': to_ask(whole()), 'roundings': to_ask(roundings()), 'nans': list(nans()), 'distances': to_ask(distance_lines()), 'blocks': list(block_lines()), 'sizes': list(size_lines())}
 
 
 def collected_lists(lines):
@@ -340,7 +351,7 @@ def cases(before):
     fits = kept.at_least(by_kind['outlines'], KEPT_OUTLINES, NAME)
     claims = kept.at_least(collected_lists(by_kind['lists']), KEPT_LISTS, NAME)
     rows = made['roots'] + to_ask(curves) + made['curve borders'] + made['nearest']
-    rows += to_ask(fits) + made['outline borders'] + made['whole'] + made['nans'] + made['distances'] + made['blocks'] + made['sizes']
+    rows += to_ask(fits) + made['outline borders'] + made['whole'] + made['roundings'] + made['nans'] + made['distances'] + made['blocks'] + made['sizes']
     return rows + list(list_rows(claims))
 
 
@@ -364,6 +375,13 @@ def hold_lists(rows, rust):
             raise Stop(f'the two checkers differ, {said} and {want}, on: {line[:200]!r}', 1)
 
 
+def hold_roundings(rust):
+    """The lines of `roundings` tell one evaluation from the other."""
+    said = [answer for answer, _ in rust.ask(list(roundings()))]
+    if any(one == other for one, other in zip(said[::2], said[1::2])):
+        raise Stop('two evaluations of a curve are to differ by their roundings, and some do not', 1)
+
+
 def make(rust):
     before = kept.read_stdin(NAME).decode('latin-1').split('\n')
     wrong = list(bad())
@@ -371,6 +389,7 @@ def make(rust):
     rows = cases(kept.without(before, wrong + [line for line, _ in end]))
     hold(wrong, rust)
     hold_lists(rows, rust)
+    hold_roundings(rust)
     found = mixed(answered(rows, rust), [(line, 'BAD') for line in wrong]) + end
     stdin = '\n'.join(line for line, _ in found).encode('latin-1')
     return kept.Made(NAME, stdin, ''.join(said + '\n' for _, said in found), len(found), len(before), kept.tally(said for _, said in found))

@@ -1,6 +1,7 @@
 -- What C is handed of an answer: its number, 0 where nothing is refused, and its value; where something is refused, zeros in the value's place. And what C's words for an
 -- outline and for a list of curves stand for. Definitions only.
 use Prim.Native.Nat.{ℕ}
+use mathlib.Core.Path.{_≡_}
 use mathlib.Core.Bool.{Bool, true, false}
 use mathlib.Core.List.{List, [], _∷_}
 use lib.ListN.{replicate}
@@ -15,6 +16,7 @@ use Rattle.form.specs.declared.Form.{Form}
 use Rattle.form.specs.declared.Form.the-variants.{Eight, Nine}
 use Rattle.ring.specs.declared.Outline.{Outline}
 use Rattle.ring.specs.declared.Outline.the-variants.{Open, Closed}
+use Rattle.faults.specs.Tests.{curveOf}
 use Rattle.checker.specs.Check.{Verdict, passed, fault, place}
 use Rattle.checker.specs.declared.Place.{Place}
 use Rattle.checker.specs.declared.Fault.{Fault}
@@ -72,6 +74,10 @@ coefficientsCrossed = crossing abcd (replicate 4 f0)
 -- the two parts of a curve, each by its eight numbers
 abbrev pub eight : Curve → List Float
 eight c = c .start .x ∷ c .start .y ∷ c .cp1 .x ∷ c .cp1 .y ∷ c .cp2 .x ∷ c .cp2 .y ∷ c .end .x ∷ c .end .y ∷ []
+
+-- they are the numbers by which a list holds a curve: what goes out comes in again as it was
+abbrev pub ReadAgain : Type 0
+ReadAgain = (c : Curve) → curveOf (eight c) ≡ c
 
 pub record Parts : Type 0 where
   pub left : List Float

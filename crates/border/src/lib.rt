@@ -1,7 +1,5 @@
 // What crosses to C. An answer goes over as its number, 0 where nothing is refused, and its values through references; where something is refused they are zeros.
 ghost use mathlib.Core.Path.{_≡_};
-ghost use lib.ListN.{replicate};
-ghost use Rattle.float.specs.Number.{f0};
 ghost use Rattle.fit.specs.Fit.{fittedAnswer};
 ghost use Rattle.bezier.specs.Calls.{pointAnswer, numberAnswer, coefficientsAnswer, halvesAnswer};
 ghost use Rattle.nearest.specs.Nearest.{nearestAnswer};

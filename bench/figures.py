@@ -1,0 +1,154 @@
+"""The figures of bench/run: the lines of its Rust program as rows, their means, and what is printed and written of them."""
+import collections
+import math
+import re
+
+from shared.command import Stop
+
+BOTH = ('fit_curve', 'fit_curve_loop', 'fit_curve_cubic')  # fits that flo_curves has too
+ALONE = ('fit_joined', 'fit_ring', 'check_worst')          # timed by the mark as well, without a counterpart
+SINGLE = ('nearest_point_on_curve', 'sqrt')                # timed by the call
+ALL = 'all fits'
+FAMILIES = ('smooth', 'noisy', 'long')
+OPEN, CLOSE = '<!-- figures: from here on bench/run --out writes anew -->\n', '<!-- figures: up to here -->\n'
+
+
+class Row(collections.namedtuple('Row', 'call family marks tolerance curves rust port')):
+    """What one call took on one outline, in nanoseconds a mark, or of SINGLE a call; `rust` is None where flo_curves has no such call."""
+
+    @property
+    def ratio(self):
+        return None if self.rust is None else self.port / self.rust
+
+
+def parse(line):
+    """A line of the Rust program: call, family, marks, tolerance, curves, nanoseconds of the Rust and of the port."""
+    number = r'\d+(?:\.\d+)?'
+    found = re.fullmatch(rf'(\w+) (\w+) (\d+) ({number}|-) (\d+) ({number}|-) ({number})', line)
+    if not found or found[1] not in BOTH + ALONE + SINGLE:
+        raise Stop(f'this is no line of figures: {line[:100]}')
+    rust = None if found[6] == '-' else float(found[6])
+    if rust == 0 or float(found[7]) == 0:
+        raise Stop(f'a call that takes no time: {line[:100]}')
+    return Row(found[1], found[2], int(found[3]), found[4], int(found[5]), rust, float(found[7]))
+
+
+def geometric_mean(values):
+    values = list(values)
+    return math.exp(math.fsum(map(math.log, values)) / len(values))
+
+
+def chosen(rows, **wanted):
+    """The rows with these values."""
+    return [row for row in rows if all(getattr(row, name) == value for name, value in wanted.items())]
+
+
+def sizes(rows):
+    return sorted({row.marks for row in rows})
+
+
+# ---- texts
+
+def duration(value):
+    """Nanoseconds for a reader: three figures will do."""
+    return '-' if value is None else f'{value:.1f}' if value < 99.95 else f'{value:,.0f}'
+
+
+def share(value):
+    return '-' if value is None else f'{value:.2f}'
+
+
+HEAD = f'{"call":24}{"family":10}{"marks":>6}{"tolerance":>11}{"curves":>8}{"Rust, ns":>10}{"port, ns":>10}{"port/Rust":>11}'
+
+
+def printed(row):
+    return (f'{row.call:24}{row.family:10}{row.marks:>6,}{row.tolerance:>11}{row.curves:>8,}'
+            f'{duration(row.rust):>10}{duration(row.port):>10}{share(row.ratio):>11}')
+
+
+Mean = collections.namedtuple('Mean', 'name count mean least most')
+
+
+def means(rows):
+    """The geometric mean of the ratios of each call, and over all fits, with how many they are and the least and the largest one."""
+    of_call = [(call, chosen(rows, call=call)) for call in BOTH + SINGLE]
+    groups = of_call[:len(BOTH)] + [(ALL, [row for row in rows if row.call in BOTH])] + of_call[len(BOTH):]
+    ratios = [(name, [row.ratio for row in group]) for name, group in groups if group]
+    return [Mean(name, len(found), geometric_mean(found), min(found), max(found)) for name, found in ratios]
+
+
+def printed_mean(mean):
+    return f'{mean.name:24}{mean.count:>4}   port/Rust {mean.mean:.3f}   from {mean.least:.2f} to {mean.most:.2f}'
+
+
+def outlines_of(rows):
+    """How many different outlines the fits were timed on."""
+    return len({row[1:4] for row in rows if row.call in BOTH})
+
+
+def table(head, rows):
+    """A Markdown table; the first column is words, the others numbers."""
+    return '\n'.join('| ' + ' | '.join(cells) + ' |' for cells in [head, ['---'] + ['--:'] * (len(head) - 1), *rows]) + '\n'
+
+
+def mean_of(rows):
+    """Nanoseconds of the Rust and of the port and their ratio, each as the geometric mean over rows that differ in tolerance; as text."""
+    if not rows:
+        return ['', '', '']
+    port = geometric_mean(row.port for row in rows)
+    rust = None if rows[0].rust is None else geometric_mean(row.rust for row in rows)
+    return [duration(rust), duration(port), share(None if rust is None else port / rust)]
+
+
+def fit_table(rows, call):
+    """A row for each size; for each family the Rust, the port and the ratio."""
+    own = chosen(rows, call=call)
+    head = ['marks'] + [f'{family}: {side}' for family in FAMILIES for side in ('Rust', 'port', 'ratio')]
+    cells = lambda marks: [cell for family in FAMILIES for cell in mean_of(chosen(own, marks=marks, family=family))]
+    return table(head, [[f'{marks:,}', *cells(marks)] for marks in sizes(own)])
+
+
+def alone_table(rows):
+    """A row for each size; for each call and family the port's nanoseconds."""
+    own = [row for row in rows if row.call in ALONE]
+    head = ['marks'] + [f'`{call}`: {family}' for call in ALONE for family in FAMILIES]
+    cells = lambda marks: [mean_of(chosen(own, call=call, marks=marks, family=family))[1] for call in ALONE for family in FAMILIES]
+    return table(head, [[f'{marks:,}', *cells(marks)] for marks in sizes(own)])
+
+
+def mean_table(rows):
+    """The means of the fits."""
+    head = ['call', 'timed on', 'port / Rust, geometric mean', 'least', 'largest']
+    name = lambda mean: mean.name if mean.name == ALL else f'`{mean.name}`'
+    timed = lambda mean: f'{mean.count} fits' if mean.name == ALL else f'{mean.count} outlines'
+    found = [mean for mean in means(rows) if mean.name not in SINGLE]
+    return table(head, [[name(mean), timed(mean), f'{mean.mean:.3f}', share(mean.least), share(mean.most)] for mean in found])
+
+
+def single_table(rows):
+    own = [row for row in rows if row.call in SINGLE]
+    return table(['call', 'Rust, ns a call', 'port, ns a call', 'port / Rust'],
+                 [[f'`{row.call}`, {row.family}', duration(row.rust), duration(row.port), share(row.ratio)] for row in own])
+
+
+def markdown(rows, machine):
+    """All that stands between the two comments of docs/SPEED.md."""
+    parts = [
+        f'Measured on {machine}\n',
+        f'{outlines_of(rows)} outlines. A ratio is the port\'s time by the Rust\'s: below 1 the port is the quicker one.\n',
+        mean_table(rows), single_table(rows),
+        '![What a mark costs, against the number of marks: three fits by the Rust and by the port, and by the port alone '
+        'the joined fit, the ring fit and the list checker](speed.svg)\n',
+        'Nanoseconds a mark; a figure is the geometric mean over the tolerances.\n']
+    for call in BOTH:
+        parts += [f'### `{call}`\n', fit_table(rows, call)]
+    return '\n'.join(parts + ['### The port alone: what flo_curves has not\n', alone_table(rows)])
+
+
+def renewed(page, new):
+    """The page with other figures between its two comments."""
+    before, opened, rest = page.partition(OPEN)
+    _, closed, after = rest.partition(CLOSE)
+    if not opened or not closed:
+        raise Stop(f'SPEED.md has no place for the figures: the two lines {OPEN.strip()} and {CLOSE.strip()}')
+    return f'{before}{opened}\n{new}\n{closed}{after}'

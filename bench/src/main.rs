@@ -1,0 +1,310 @@
+//! Times the functions of flo_curves and those of the port, in one process and on the same outlines, for bench/run.
+//! Before anything is timed, every outline is fitted by both, and the curves must be the same bits: an outline where they are not is named on
+//! standard error, and the status is 1.
+//! A line for each call and outline: call, family, marks, tolerance, curves, nanoseconds a mark of the Rust (`-` where flo_curves has no such call)
+//! and of the port. Of the nearest point and the square root it is questions in the place of marks, `-` for the tolerance, and nanoseconds a question.
+use flo_curves::bezier::*;
+use std::f64::consts::TAU;
+use std::hint::black_box;
+use std::time::{Duration, Instant};
+use wesalondo::sys;
+
+type Plain = Curve<Coord2>;
+
+const SIZES: [usize; 10] = [12, 24, 50, 100, 200, 300, 512, 1000, 2000, 4096];
+const MOST: usize = 4096;
+const MOST_DIRECT: usize = 512; // that fit_curve_cubic of the port takes
+const QUESTIONS: usize = 512; // that are asked in turn where one call is too short for the clock
+const SEED: u64 = 0x9E37_79B9_7F4A_7C15;
+
+// ---- numbers that look random, the same in every run
+
+struct Dice(u64);
+impl Dice {
+    /// The next number of an xorshift generator: from 0 to below 1.
+    fn roll(&mut self) -> f64 {
+        self.0 ^= self.0 << 13;
+        self.0 ^= self.0 >> 7;
+        self.0 ^= self.0 << 17;
+        (self.0 >> 11) as f64 / (1u64 << 53) as f64
+    }
+    /// From -reach to below reach.
+    fn within(&mut self, reach: f64) -> f64 { (2.0 * self.roll() - 1.0) * reach }
+    fn near(&mut self, p: Coord2, reach: f64) -> Coord2 { Coord2(p.0 + self.within(reach), p.1 + self.within(reach)) }
+}
+
+// ---- outlines, in millimetres
+
+/// A closed Lissajous figure of 800 by 500 mm, whatever the number of marks.
+fn smooth(n: usize) -> Vec<Coord2> {
+    (0..n).map(|i| TAU * i as f64 / n as f64).map(|a| Coord2(400.0 * a.cos(), 250.0 * (2.0 * a + 0.6).sin())).collect()
+}
+/// The same as a shaking hand would mark it: each mark is off by up to 0.4 mm each way.
+fn noisy(n: usize) -> Vec<Coord2> {
+    let mut dice = Dice(SEED);
+    smooth(n).into_iter().map(|p| dice.near(p, 0.4)).collect()
+}
+/// A spiral with 75 marks a turn, so that it grows with its marks.
+fn long(n: usize) -> Vec<Coord2> {
+    (0..n).map(|i| (20.0 + 0.25 * i as f64, TAU * i as f64 / 75.0)).map(|(r, a)| Coord2(r * a.cos(), r * a.sin())).collect()
+}
+
+struct Outline { family: &'static str, tolerance: f64, marks: Vec<Coord2>, numbers: Vec<f64> }
+
+/// A family, how its marks are made, and the tolerances that suit it.
+type Family = (&'static str, fn(usize) -> Vec<Coord2>, &'static [f64]);
+const FAMILIES: [Family; 3] = [("smooth", smooth, &[0.05, 0.5]), ("noisy", noisy, &[0.1, 0.5, 2.0]), ("long", long, &[0.05, 0.5])];
+
+fn outline(family: &'static str, tolerance: f64, marks: Vec<Coord2>) -> Outline {
+    let numbers = marks.iter().flat_map(|p| [p.0, p.1]).collect();
+    Outline { family, tolerance, marks, numbers }
+}
+fn outlines() -> Vec<Outline> {
+    let of_size = |n: usize| FAMILIES.iter().flat_map(move |(name, made, tolerances)| tolerances.iter().map(move |t| outline(name, *t, made(n))));
+    SIZES.iter().flat_map(|n| of_size(*n)).collect()
+}
+/// The unit vectors from the first mark to the second and from the last to the one before, which fit_curve_cubic is given.
+fn tangents(p: &[Coord2]) -> (Coord2, Coord2) {
+    let last = p.len() - 1;
+    ((p[1] - p[0]).to_unit_vector(), (p[last - 1] - p[last]).to_unit_vector())
+}
+
+// ---- the port's calls, on slices that are lent once
+
+struct Room { curves: Vec<f64>, firsts: Vec<u32>, worsts: Vec<u32>, params: Vec<f64>, made: usize }
+type Check = unsafe extern "C" fn(
+    *const f64, usize, f64, usize, *const f64, usize, *const u32, usize, *const u32, usize, *const f64, usize, *mut usize, *mut usize,
+) -> u32;
+
+impl Room {
+    /// As much as a ring of the most marks asks for.
+    fn new() -> Room { Room { curves: vec![0.0; 9 * MOST], firsts: vec![0; MOST], worsts: vec![0; MOST], params: vec![0.0; MOST + 1], made: 0 } }
+    fn fit(&mut self, fit: sys::FitCall, o: &Outline) -> u32 {
+        let (curves, firsts, worsts, params) = (&mut self.curves, &mut self.firsts, &mut self.worsts, &mut self.params);
+        // every pointer is a vector's own, with its own length
+        unsafe {
+            fit(
+                o.numbers.as_ptr(), o.numbers.len(), o.tolerance, curves.as_mut_ptr(), curves.len(), firsts.as_mut_ptr(), firsts.len(),
+                worsts.as_mut_ptr(), worsts.len(), params.as_mut_ptr(), params.len(), &mut self.made,
+            )
+        }
+    }
+    fn fit_direct(&mut self, o: &Outline) -> u32 {
+        let (curves, firsts, worsts, params) = (&mut self.curves, &mut self.firsts, &mut self.worsts, &mut self.params);
+        let (start, end) = tangents(&o.marks);
+        unsafe {
+            sys::wes_fit_curve_cubic(
+                o.numbers.as_ptr(), o.numbers.len(), start.0, start.1, end.0, end.1, o.tolerance, curves.as_mut_ptr(), curves.len(),
+                firsts.as_mut_ptr(), firsts.len(), worsts.as_mut_ptr(), worsts.len(), params.as_mut_ptr(), params.len(), &mut self.made,
+            )
+        }
+    }
+    /// Judges the list that the last fit has left here.
+    fn check(&self, check: Check, o: &Outline) -> u32 {
+        let (mut curve, mut mark) = (0, 0);
+        unsafe {
+            check(
+                o.numbers.as_ptr(), o.numbers.len(), o.tolerance, self.made, self.curves.as_ptr(), self.curves.len(), self.firsts.as_ptr(),
+                self.firsts.len(), self.worsts.as_ptr(), self.worsts.len(), self.params.as_ptr(), self.params.len(), &mut curve, &mut mark,
+            )
+        }
+    }
+}
+
+// ---- what is compared
+
+type Port = fn(&Outline, &mut Room) -> u32;
+type Rust = fn(&Outline) -> Vec<Plain>;
+/// Against what an answer of the port is held before it is timed: the Rust's curves, or the list checker.
+enum Held { Same(Rust), Sound(Port) }
+struct Call { name: &'static str, most: usize, before: Option<Port>, port: Port, held: Held }
+
+const JOINED: Port = |o, room| room.fit(sys::wes_fit_joined, o);
+const CHECKED: Port = |o, room| room.check(sys::wes_check_worst, o);
+const CHECKED_RING: Port = |o, room| room.check(sys::wes_check_worst_ring, o);
+
+fn rust_direct(o: &Outline) -> Vec<Plain> {
+    let (start, end) = tangents(&o.marks);
+    fit_curve_cubic(&o.marks, &start, &end, o.tolerance)
+}
+fn calls() -> [Call; 6] {
+    let both = |name, most, port, rust| Call { name, most, before: None, port, held: Held::Same(rust) };
+    let alone = |name, before, port, check| Call { name, most: MOST, before, port, held: Held::Sound(check) };
+    [
+        both("fit_curve", MOST, |o, room| room.fit(sys::wes_fit_curve, o), |o| fit_curve(&o.marks, o.tolerance).expect("two marks")),
+        both("fit_curve_loop", MOST, |o, room| room.fit(sys::wes_fit_curve_loop, o), |o| fit_curve_loop(&o.marks, o.tolerance).expect("two marks")),
+        both("fit_curve_cubic", MOST_DIRECT, |o, room| room.fit_direct(o), rust_direct),
+        alone("fit_joined", None, JOINED, CHECKED),
+        alone("fit_ring", None, |o, room| room.fit(sys::wes_fit_ring, o), CHECKED_RING),
+        alone("check_worst", Some(JOINED), CHECKED, CHECKED),
+    ]
+}
+
+fn eight(c: &Plain) -> [f64; 8] {
+    let (s, (a, b), e) = c.all_points();
+    [s.0, s.1, a.0, a.1, b.0, b.1, e.0, e.1]
+}
+fn same_bits(a: &[f64], b: &[f64]) -> bool { a.len() == b.len() && a.iter().zip(b).all(|(x, y)| x.to_bits() == y.to_bits()) }
+fn same_curves(rust: &[Plain], room: &Room) -> bool {
+    rust.len() == room.made && rust.iter().zip(room.curves.chunks(9)).all(|(c, numbers)| same_bits(&eight(c), &numbers[..8]))
+}
+/// Puts into the room what a call reads there.
+fn prepare(call: &Call, o: &Outline, room: &mut Room) -> bool { call.before.map_or(0, |before| before(o, room)) == 0 }
+/// Whether the port takes an outline and its answer is the Rust's, or passes the list checker.
+fn holds(call: &Call, o: &Outline, room: &mut Room) -> bool {
+    let taken = prepare(call, o, room) && (call.port)(o, room) == 0;
+    taken && match &call.held { Held::Same(rust) => same_curves(&rust(o), room), Held::Sound(check) => check(o, room) == 0 }
+}
+
+// ---- timing
+
+const BATCH: Duration = Duration::from_millis(4); // how long the clock runs at least: short, so that some batch is not interrupted
+const ROUNDS: usize = 5;
+const PASSES: usize = 5; // over everything, so that a spell in which the machine is slow falls on one of the five times that a call is timed
+
+/// Nanoseconds of one call, by so many in a row.
+fn batch(side: &mut dyn FnMut(), times: u32) -> f64 {
+    let start = Instant::now();
+    for _ in 0..times { side(); }
+    start.elapsed().as_nanos() as f64 / f64::from(times)
+}
+/// How many calls in a row are long enough for the clock.
+fn enough(side: &mut dyn FnMut()) -> u32 {
+    let longest = BATCH.as_nanos() as f64;
+    let mut times = 1;
+    while batch(side, times) * f64::from(times) < longest { times *= 2; }
+    times
+}
+/// The least nanoseconds of a call of each side, all sides by turns, another one first in each round.
+fn least(sides: &mut [&mut dyn FnMut()]) -> Vec<f64> {
+    let times: Vec<u32> = sides.iter_mut().map(|side| enough(side)).collect();
+    let mut found = vec![f64::INFINITY; sides.len()];
+    for round in 0..ROUNDS {
+        for turn in 0..sides.len() {
+            let k = (round + turn) % sides.len();
+            found[k] = found[k].min(batch(sides[k], times[k]));
+        }
+    }
+    found
+}
+
+/// What is timed: a call on an outline, or so many questions in a row.
+enum Item<'a> { Fit(&'a Call, &'a Outline), Nearest(&'a str, &'a [Question]), Roots(&'a [f64]) }
+
+impl Item<'_> {
+    /// The least nanoseconds of each side: the Rust, where it has such a call, and the port.
+    fn time(&self, room: &mut Room) -> Vec<f64> {
+        match self {
+            Item::Fit(call, o) => time_call(call, o, room),
+            Item::Nearest(_, asked) => time_nearest(asked),
+            Item::Roots(numbers) => time_roots(numbers),
+        }
+    }
+    /// Call, family, marks or questions, tolerance and curves; and by how many the nanoseconds are divided.
+    fn told(&self, room: &Room) -> (String, usize) {
+        match self {
+            Item::Fit(call, o) => (format!("{} {} {} {} {}", call.name, o.family, o.marks.len(), o.tolerance, room.made), o.marks.len()),
+            Item::Nearest(family, asked) => (format!("nearest_point_on_curve {} {} - 0", family, asked.len()), asked.len()),
+            Item::Roots(numbers) => (format!("sqrt squares {} - 0", numbers.len()), numbers.len()),
+        }
+    }
+}
+
+fn time_call(call: &Call, o: &Outline, room: &mut Room) -> Vec<f64> {
+    assert!(prepare(call, o, room), "it was taken before");
+    let mut port = || { black_box((call.port)(black_box(o), black_box(&mut *room))); };
+    match &call.held {
+        Held::Same(rust) => least(&mut [&mut || { black_box(rust(black_box(o))); }, &mut port]),
+        Held::Sound(_) => least(&mut [&mut port]),
+    }
+}
+
+/// Times every item PASSES times, and prints it with the least of them in the last pass.
+fn time_all(items: &[Item], room: &mut Room) {
+    let mut least = vec![vec![f64::INFINITY; 2]; items.len()];
+    for pass in 1..=PASSES {
+        for (item, best) in items.iter().zip(&mut least) {
+            let found = item.time(room);
+            *best = found.iter().zip(&*best).map(|(now, before)| now.min(*before)).collect();
+            if pass == PASSES {
+                let (told, count) = item.told(room);
+                let each: Vec<String> = best.iter().map(|ns| format!("{:.3}", ns / count as f64)).collect();
+                println!("{} {}{}", told, if each.len() == 1 { "- " } else { "" }, each.join(" "));
+            }
+        }
+    }
+}
+
+// ---- the nearest point
+
+struct Question { curve: Plain, numbers: [f64; 8], point: Coord2 }
+
+/// Curves of a fit, in turn, and for each a point that `place` puts somewhere.
+fn questions(place: fn(&mut Dice, &Plain) -> Coord2) -> Vec<Question> {
+    let mut dice = Dice(SEED);
+    let curves: Vec<Plain> = fit_curve(&noisy(200), 0.5).expect("two marks");
+    let asked = |curve: Plain| Question { numbers: eight(&curve), point: place(&mut dice, &curve), curve };
+    curves.into_iter().cycle().take(QUESTIONS).map(asked).collect()
+}
+fn beside(dice: &mut Dice, curve: &Plain) -> Coord2 {
+    let t = dice.roll();
+    dice.near(curve.point_at_pos(t), 2.0)
+}
+fn anywhere(dice: &mut Dice, _: &Plain) -> Coord2 { dice.near(Coord2::origin(), 600.0) }
+/// The port's parameter and squared distance.
+fn port_nearest(q: &Question) -> Option<(f64, f64)> {
+    let (mut t, mut square) = (0.0, 0.0);
+    let said = unsafe { sys::wes_nearest_point_on_curve(&q.numbers, q.point.0, q.point.1, &mut t, &mut square) };
+    Some((t, square)).filter(|_| said == 0)
+}
+/// The port claims no equal bits here: its point must not be farther off than the Rust's, but for noise (compare/rules.txt).
+fn near_enough(q: &Question) -> bool {
+    let far = Coordinate::distance_to(&q.curve.point_at_pos(nearest_point_on_curve(&q.curve, &q.point)), &q.point);
+    port_nearest(q).is_some_and(|(_, square)| square.sqrt() <= far + 1e-9)
+}
+fn time_nearest(asked: &[Question]) -> Vec<f64> {
+    let mut rust = || for q in asked { black_box(nearest_point_on_curve(black_box(&q.curve), black_box(&q.point))); };
+    let mut port = || for q in asked { black_box(port_nearest(black_box(q))); };
+    least(&mut [&mut rust, &mut port])
+}
+
+// ---- the square root
+
+fn port_root(x: f64) -> f64 { unsafe { sys::wes_sqrt(x) } }
+/// Squares of distances from a thousandth of a millimetre to a kilometre.
+fn squares() -> Vec<f64> {
+    let mut dice = Dice(SEED);
+    (0..QUESTIONS).map(|_| 10.0f64.powf(-6.0 + 18.0 * dice.roll())).collect()
+}
+fn time_roots(numbers: &[f64]) -> Vec<f64> {
+    let mut rust = || for x in numbers { black_box(black_box(*x).sqrt()); };
+    let mut port = || for x in numbers { black_box(port_root(black_box(*x))); };
+    least(&mut [&mut rust, &mut port])
+}
+
+/// Ends with status 1 where anything that is to be timed is not held to be right, and names it.
+fn hold_all(calls: &[Call], outlines: &[Outline], nearest: &[(&str, Vec<Question>)], roots: &[f64], room: &mut Room) {
+    let mut unlike = vec![];
+    for call in calls {
+        for o in outlines.iter().filter(|o| o.marks.len() <= call.most) {
+            if !holds(call, o, room) { unlike.push(format!("{} {} {} {}", call.name, o.family, o.marks.len(), o.tolerance)); }
+        }
+    }
+    for (family, asked) in nearest {
+        let farther = asked.iter().enumerate().filter(|(_, q)| !near_enough(q));
+        unlike.extend(farther.map(|(i, _)| format!("nearest_point_on_curve {} question {}", family, i)));
+    }
+    unlike.extend(roots.iter().filter(|x| !same_bits(&[x.sqrt()], &[port_root(**x)])).map(|x| format!("sqrt {:e}", x)));
+    for name in &unlike { eprintln!("the Rust and the port are unlike: {}", name); }
+    if !unlike.is_empty() { std::process::exit(1); }
+}
+
+fn main() {
+    let (calls, outlines, roots, mut room) = (calls(), outlines(), squares(), Room::new());
+    let nearest = [("beside", questions(beside)), ("anywhere", questions(anywhere))];
+    hold_all(&calls, &outlines, &nearest, &roots, &mut room);
+    let taken = |call: &'_ Call, o: &Outline| o.marks.len() <= call.most;
+    let fits = calls.iter().flat_map(|call| outlines.iter().filter(|o| taken(call, o)).map(move |o| Item::Fit(call, o)));
+    let others = nearest.iter().map(|(family, asked)| Item::Nearest(family, asked)).chain([Item::Roots(&roots)]);
+    time_all(&fits.chain(others).collect::<Vec<_>>(), &mut room);
+}

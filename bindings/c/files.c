@@ -1,0 +1,314 @@
+/* Every call on house files, accepted and refused: files EXAMPLES, the folder of the example files. The files are put together here by the
+   format's own rules, and what is expected of them follows from these, from arithmetic and from examples/README.md. */
+#include "test.h"
+
+static double many[2 * (MOST_MARKS + 1)];
+
+/* ---- House files read and written */
+
+/* Room to read a file into, and what it says beside its slices. */
+typedef struct {
+    Lent marks, firsts, worsts, curves, params;
+    double tolerance;
+    size_t mark_count, curve_count;
+    bool nine;
+} Held;
+
+static Held held;
+static Lent written;
+static uint8_t composed[LONGEST_FILE + 64];
+
+static void lend_held(size_t n, size_t k, size_t width, size_t params) {
+    lend(&held.marks, 2 * n * sizeof(double), 21);
+    lend(&held.firsts, k * sizeof(uint32_t), 22);
+    lend(&held.worsts, (width == 9 ? k : 0) * sizeof(uint32_t), 23);
+    lend(&held.curves, width * k * sizeof(double), 24);
+    lend(&held.params, params * sizeof(double), 25);
+}
+
+static uint32_t read_held(const uint8_t *file, size_t size) {
+    held.tolerance = 7, held.mark_count = held.curve_count = 77, held.nine = true;
+    return wes_read_file(file, size, &held.tolerance, numbers(&held.marks), held.marks.bytes / sizeof(double), indices(&held.firsts),
+                         held.firsts.bytes / sizeof(uint32_t), indices(&held.worsts), held.worsts.bytes / sizeof(uint32_t),
+                         numbers(&held.curves), held.curves.bytes / sizeof(double), numbers(&held.params),
+                         held.params.bytes / sizeof(double), &held.mark_count, &held.curve_count, &held.nine);
+}
+
+static bool held_kept(void) {
+    return kept_from(&held.marks, 0) && kept_from(&held.firsts, 0) && kept_from(&held.worsts, 0) && kept_from(&held.curves, 0) &&
+           kept_from(&held.params, 0);
+}
+
+static void expect_unread(const char *why, const uint8_t *file, size_t size, uint32_t expected) {
+    uint32_t answer = read_held(file, size);
+    CHECK(answer == expected, "%s: %u in place of %u", why, answer, expected);
+    CHECK(bits_of(held.tolerance) == 0 && held.mark_count == 0 && held.curve_count == 0 && !held.nine, "%s: not zeros", why);
+    CHECK(held_kept(), "%s: the slices", why);
+}
+
+static uint32_t write_held(size_t room, size_t *size) {
+    *size = 77;
+    lend(&written, room, 26);
+    return wes_write_file(held.nine, &held.tolerance, numbers(&held.marks), 2 * held.mark_count, held.curve_count, indices(&held.firsts),
+                          held.firsts.bytes / sizeof(uint32_t), indices(&held.worsts), held.worsts.bytes / sizeof(uint32_t),
+                          numbers(&held.curves), held.curves.bytes / sizeof(double), numbers(&held.params),
+                          held.params.bytes / sizeof(double), written.place, room, size);
+}
+
+static void expect_unwritten(const char *why, size_t room, uint32_t expected) {
+    size_t size;
+    uint32_t answer = write_held(room, &size);
+    CHECK(answer == expected && size == 0, "%s: %u and %zu in place of %u", why, answer, size, expected);
+    CHECK(kept_from(&written, 0), "%s: the bytes", why);
+}
+
+static bool holds(const Lent *slice, const void *expected, size_t bytes) {
+    return memcmp(slice->place, expected, bytes) == 0 && kept_from(slice, bytes);
+}
+
+/* A file read into just enough room, held against what it was made of, and written again into just enough. */
+static void round_trip(const char *what, const List *l, size_t width, size_t k, const double *curves, size_t size) {
+    size_t n = l->marks_len / 2, again, times = k > 0 ? n : 0;
+    lend_held(n, k, width, times);
+    CHECK(read_held(composed, size) == 0, "%s: not read", what);
+    CHECK(same_bits(&held.tolerance, &l->tolerance, 1) && held.mark_count == n && held.curve_count == k && held.nine == (width == 9),
+          "%s: counts", what);
+    CHECK(holds(&held.marks, l->marks, 16 * n) && holds(&held.firsts, l->first, 4 * k) &&
+              holds(&held.worsts, l->worst, width == 9 ? 4 * k : 0) && holds(&held.curves, curves, 8 * width * k) &&
+              holds(&held.params, l->times, 8 * times),
+          "%s: numbers", what);
+    CHECK(write_held(size, &again) == 0 && again == size && memcmp(written.place, composed, size) == 0, "%s: other bytes", what);
+    CHECK(kept_from(&written, size), "%s: bytes beyond", what);
+    CHECK(write_held(size + 9, &again) == 0 && again == size && kept_from(&written, size), "%s: bytes behind the file", what);
+    expect_unwritten(what, size - 1, 4);
+}
+
+/* One place too few in each slice that the file wants room in. */
+static void short_of_room(const char *what, size_t n, size_t k, size_t width, size_t size) {
+    Lent *each[5] = {&held.marks, &held.firsts, &held.worsts, &held.curves, &held.params};
+    for (size_t i = 0; i < 5; i++) {
+        lend_held(n, k, width, k > 0 ? n : 0);
+        if (each[i]->bytes == 0) continue;
+        lend(each[i], each[i]->bytes - (i == 1 || i == 2 ? 4 : 8), 27);
+        expect_unread(what, composed, size, 4);
+        composed[size] = 0;
+        expect_unread("badly formed before no room", composed, size + 1, 9);
+    }
+}
+
+/* Prefixes and changed heads. What remains a file is one without curves, where the marks end. */
+static void damaged(size_t n, size_t k, size_t width, size_t size) {
+    lend_held(n, k, width, n);
+    for (size_t i = 0; i < size; i++)
+        if (i != 20 + 16 * n) expect_unread("a prefix", composed, i, 9);
+    const size_t heads[] = {0, 4, 14, 18, 20 + 16 * n, 24 + 16 * n};
+    for (size_t i = 0; i < COUNT(heads) && heads[i] < size; i++) {
+        composed[heads[i]] ^= 0x40;
+        expect_unread("a changed head", composed, size, 9);
+        composed[heads[i]] ^= 0x40;
+    }
+}
+
+static void house_files(void) {
+    List l = open_list;
+    double eight[16];
+    eight_of(l.numbers, 2, eight);
+    /* Numbers are moved and not judged: these NaNs must come back with their own bits. */
+    l.tolerance = of_bits(0x7FF0000000000123), l.marks[3] = of_bits(0xFFF800000000BEEF), l.numbers[17] = of_bits(0x7FFFFFFFFFFFFFFF);
+    const struct {
+        const char *what;
+        size_t width, k, size;
+        const double *curves;
+    } kinds[] = {{"nine", 9, 2, 20 + 80 + 2 * 82 + 6 + 40, l.numbers},
+                 {"eight", 8, 2, 20 + 80 + 2 * 72 + 6 + 40, eight},
+                 {"no curves", 8, 0, 20 + 80, eight}};
+    for (size_t i = 0; i < COUNT(kinds); i++) {
+        size_t width = kinds[i].width, k = kinds[i].k;
+        size_t size = compose(composed, l.tolerance, l.marks, 5, width, k, l.first, l.worst, kinds[i].curves, l.times);
+        CHECK(size == kinds[i].size, "%s: %zu bytes", kinds[i].what, size);
+        round_trip(kinds[i].what, &l, width, k, kinds[i].curves, size);
+        short_of_room(kinds[i].what, 5, k, width, size);
+        damaged(5, k, width, size);
+    }
+    lend_held(0, 0, 8, 0);
+    expect_unread("no bytes", NULL, 0, 9);
+    straight(many, MOST_MARKS + 1);
+    expect_unread("4,097 marks before no room", composed, compose(composed, 1, many, MOST_MARKS + 1, 8, 0, NULL, NULL, NULL, NULL), 2);
+    expect_unread("badly formed before too many", composed, 20 + 16 * (MOST_MARKS + 1) - 1, 9);
+}
+
+/* The writer's own order: 3, 2, 4, 9. */
+static void writer_refusals(void) {
+    size_t size = 77;
+    List l = open_list;
+    size_t bytes = compose(composed, l.tolerance, l.marks, 5, 9, 2, l.first, l.worst, l.numbers, l.times);
+    lend_held(5, 2, 9, 5);
+    CHECK(read_held(composed, bytes) == 0, "not read");
+    indices(&held.firsts)[0] = 65536;
+    expect_unwritten("a first mark above two bytes", bytes, 9);
+    expect_unwritten("no room before it", bytes - 1, 4);
+    indices(&held.firsts)[0] = 65535;
+    CHECK(write_held(bytes, &size) == 0 && size == bytes, "the largest first mark");
+    indices(&held.worsts)[1] = 65536;
+    expect_unwritten("a worst mark above two bytes", bytes, 9);
+    held.nine = false;
+    CHECK(write_held(bytes, &size) == 0 && size == bytes - 20, "eight numbers do not look at worst marks");
+    held.curve_count = 0, held.nine = true;
+    CHECK(write_held(bytes, &size) == 0 && size == 20 + 80, "no curves are no records");
+    held.mark_count = 2, held.curve_count = 2;
+    expect_unwritten("as many curves as marks", bytes, 9);
+    held.mark_count = 5, held.curve_count = 3;
+    expect_unwritten("more curves than first marks", bytes, 4);
+    lend(&written, 64, 28);
+    size = 77;
+    CHECK(wes_write_file(true, &held.tolerance, many, 2 * MOST_MARKS + 3, 9, NULL, 0, NULL, 0, NULL, 0, NULL, 0, written.place, 64,
+                         &size) == 3 &&
+              size == 0,
+          "odd before too many");
+    size = 77;
+    CHECK(wes_write_file(true, &held.tolerance, many, 2 * MOST_MARKS + 2, 9, NULL, 0, NULL, 0, NULL, 0, NULL, 0, written.place, 64,
+                         &size) == 2 &&
+              size == 0,
+          "too many before no room");
+    CHECK(kept_from(&written, 0), "the bytes after either");
+    CHECK(wes_write_file(true, &held.tolerance, NULL, 0, 0, NULL, 0, NULL, 0, NULL, 0, NULL, 0, NULL, 0, &size) == 4 && size == 0,
+          "nothing into no room");
+}
+
+/* ---- House files to texts */
+
+typedef uint32_t TextCall(const uint8_t *file, size_t file_len, uint8_t *out, size_t out_len, size_t *size);
+
+static const char *folder;
+static uint8_t example[LONGEST_FILE + 1];
+
+static size_t load_example(const char *name) {
+    char path[4096];
+    snprintf(path, sizeof path, "%s/%s.house", folder, name);
+    return load(path, example, sizeof example);
+}
+
+/* Asks for a text into just as much room as it has, into more, and into one byte too few, which is 4 and leaves the bytes. */
+static void expect_text(const char *why, TextCall *call, const uint8_t *file, size_t file_len, const void *text, size_t text_size) {
+    size_t size = 77;
+    for (size_t more = 0; more < 2; more++) {
+        lend(&written, text_size + 40 * more, 31);
+        uint32_t answer = call(file, file_len, written.place, written.bytes, &size);
+        CHECK(answer == 0 && size == text_size && memcmp(written.place, text, text_size) == 0, "%s: %u, %.*s", why, answer,
+              size < 40 ? (int)size : 40, (char *)written.place);
+        CHECK(kept_from(&written, text_size), "%s: bytes beyond", why);
+    }
+    lend(&written, text_size - 1, 32);
+    CHECK(call(file, file_len, written.place, written.bytes, &size) == 4 && size == 0 && kept_from(&written, 0), "%s: a byte too few", why);
+    size = 77;
+    CHECK(call(file, file_len, NULL, 0, &size) == 4 && size == 0, "%s: no room at all", why);
+}
+
+static void expect_line(const char *why, TextCall *call, const uint8_t *file, size_t file_len, const char *text) {
+    expect_text(why, call, file, file_len, text, strlen(text));
+}
+
+/* The three calls on a file that each refuses by one number, or that the judge has a line of its own for. */
+static void expect_lines(const char *why, const uint8_t *file, size_t size, const char *listed, const char *judged, const char *saved) {
+    expect_line(why, wes_list_outline, file, size, listed);
+    expect_line(why, wes_judge_file, file, size, judged);
+    expect_line(why, wes_save_fit, file, size, saved);
+}
+
+static void bad_texts(void) {
+    const char *r9 = "REFUSED 9\n", *r2 = "REFUSED 2\n", *r1 = "REFUSED 1\n", *r5 = "REFUSED 5\n", *r6 = "REFUSED 6\n";
+    size_t size = load_example("cover");
+    expect_lines("nothing", NULL, 0, r9, r9, r9);
+    expect_lines("cut short", example, size - 1, r9, r9, r9);
+    example[4] ^= 1;
+    expect_lines("another kind", example, size, r9, r9, r9);
+    expect_lines("a mark that is NaN", example, load_example("lost"), r5, "NO CURVES 24\n", r5);
+    expect_lines("equal marks", example, load_example("rested"), r6, "NO CURVES 3\n", r6);
+    expect_lines("one mark", composed, compose(composed, 1, many, 1, 8, 0, NULL, NULL, NULL, NULL), r1, "NO CURVES 1\n", r1);
+    /* The listing takes no file of more than 65,536 bytes, so that 4,097 marks are badly formed to it. */
+    expect_lines("too many", composed, compose(composed, 1, many, MOST_MARKS + 1, 8, 0, NULL, NULL, NULL, NULL), r9, r2, r2);
+    expect_lines("too long", composed, LONGEST_FILE + 1, r9, r9, r9);
+    straight(many, MOST_DIRECT + 1);
+    expect_line("513 marks", wes_list_outline, composed, compose(composed, 1, many, MOST_DIRECT + 1, 8, 0, NULL, NULL, NULL, NULL), r2);
+}
+
+static void expect_judged(const char *why, const List *l, const char *text) {
+    double eight[16];
+    eight_of(l->numbers, 2, eight);
+    expect_line(why, wes_judge_file, composed, compose(composed, l->tolerance, l->marks, 5, 9, 2, l->first, l->worst, l->numbers, l->times),
+                text);
+    if (strlen(text) > 6 && text[6] == 'E') text = "PASSED 5 2\n";
+    expect_line(why, wes_judge_file, composed, compose(composed, l->tolerance, l->marks, 5, 8, 2, l->first, NULL, eight, l->times), text);
+}
+
+/* The judge's line for each fault, and for a refusal of the checker. Eight numbers a curve have no fault E. */
+static void judged_texts(void) {
+    List l = open_list;
+    expect_judged("sound", &l, "PASSED 5 2\n");
+    l.first[1] = 4;
+    expect_judged("a curve of the last mark alone", &l, "FAULT A 1 0\n");
+    l = open_list, l.numbers[9] = 3.125;
+    expect_judged("a start moved", &l, "FAULT B 1 2\n");
+    l = open_list, l.times[3] = 2;
+    expect_judged("a parameter of 2", &l, "FAULT C 1 3\n");
+    l = open_list, l.tolerance = 0.375;
+    expect_judged("a mark too far off", &l, "FAULT D 0 1\n");
+    l = open_list, l.worst[1] = 2;
+    expect_judged("another worst mark", &l, "FAULT E 1 2\n");
+    l = open_list, l.marks[9] = not_a_number();
+    expect_judged("a mark that is NaN", &l, "REFUSED 5\n");
+}
+
+/* The listing's text of what a saved file holds. */
+static size_t listing_of(char *to) {
+    char *at = to + snprintf(to, 64, "OUTLINE %zu %zu\n", held.mark_count, held.curve_count);
+    for (size_t j = 0; j < held.curve_count; j++) {
+        at += snprintf(at, 64, "PIECE %u", indices(&held.firsts)[j]);
+        for (size_t i = 0; i < 8; i++) at += snprintf(at, 64, " %016lX", bits_of(numbers(&held.curves)[9 * j + i]));
+        *at++ = '\n';
+    }
+    return (size_t)(at - to);
+}
+
+/* cover.house has 142 marks, and 24 curves by examples/README.md: a saved file is as long as that makes it, it passes, and the listing and
+   the joined fit have the same curves. */
+static void cover(void) {
+    static char listing[LONGEST_LISTING];
+    static uint8_t saved[LONGEST_FILE];
+    size_t size = load_example("cover"), n = 142, k = 24, bytes = 20 + 16 * n + 82 * k + 6 + 8 * n, got = 77;
+    expect_line("a file without curves", wes_judge_file, example, size, "NO CURVES 142\n");
+    CHECK(wes_save_fit(example, size, saved, sizeof saved, &got) == 0 && got == bytes, "a saved file of %zu bytes", got);
+    CHECK(memcmp(saved, example, size) == 0, "a saved file begins as the file");
+    expect_text("the saved file", wes_save_fit, example, size, saved, bytes);
+    expect_text("of what is kept only the marks count", wes_save_fit, saved, bytes, saved, bytes);
+    expect_line("the saved file", wes_judge_file, saved, bytes, "PASSED 142 24\n");
+    lend_held(n, k, 9, n);
+    CHECK(read_held(saved, bytes) == 0 && held.mark_count == n && held.curve_count == k && held.nine, "the saved file read");
+    expect_text("the listing", wes_list_outline, example, size, listing, listing_of(listing));
+    Slices slices = new_slices();
+    lend_slices(&slices, &fits[JOINED], n, 0, 33);
+    CHECK(fit_into(&fits[JOINED], numbers(&held.marks), 2 * n, held.tolerance, &slices) == 0 && slices.made == k, "the same marks fitted");
+    CHECK(memcmp(slices.curves.place, held.curves.place, 72 * k) == 0 && memcmp(slices.params.place, held.params.place, 8 * n) == 0,
+          "the same curves");
+    saved[20 + 16 * n + 6 + 2] ^= 1;
+    expect_line("another worst mark", wes_judge_file, saved, bytes, "FAULT E 0 0\n");
+    saved[20 + 16 * n + 6] = 1;
+    expect_line("another first mark", wes_judge_file, saved, bytes, "FAULT A 0 0\n");
+}
+
+int main(int argc, char **argv) {
+    if (argc != 2) return 2;
+    folder = argv[1];
+    held.marks = new_lent(2 * MOST_MARKS * sizeof(double));
+    held.firsts = new_lent(MOST_MARKS * sizeof(uint32_t));
+    held.worsts = new_lent(MOST_MARKS * sizeof(uint32_t));
+    held.curves = new_lent(9 * MOST_MARKS * sizeof(double));
+    held.params = new_lent(MOST_MARKS * sizeof(double));
+    written = new_lent(LONGEST_FILE + 64);
+    house_files();
+    writer_refusals();
+    bad_texts();
+    judged_texts();
+    cover();
+    return finish();
+}

@@ -1,0 +1,121 @@
+/* Answers the records of crates/house_cases/stdin through the C calls, and holds the answers against the kept ones: house CASES ANSWERS.
+   crates/house_cases/src/main.rt says what a record is. */
+#include "test.h"
+
+/* As much room as crates/house_cases has. */
+enum { ALL = 1 << 22, FILE_ROOM = 163840, NUMBERS = 8192, FIRSTS = 1024, PARAMS = 4096, HEAD = 64 };
+
+/* A record's head: what to do, how long the file is, and how much room to lend. */
+typedef struct {
+    uint64_t what, file, marks, firsts, worsts, curves, params, out;
+} Head;
+
+static uint8_t cases[ALL], answers[ALL], out[FILE_ROOM];
+static double tolerance, marks[NUMBERS], curves[NUMBERS], params[PARAMS];
+static uint32_t firsts[FIRSTS], worsts[FIRSTS];
+static size_t mark_count, curve_count;
+static bool nine;
+
+/* ---- The answer: a text. */
+
+static char said[FILE_ROOM];
+static size_t said_size;
+
+static void say_text(const void *text, size_t size) {
+    memcpy(said + said_size, text, size);
+    said_size += size;
+}
+
+static void say_count(size_t n, const char *behind) { said_size += (size_t)snprintf(said + said_size, 32, "%zu%s", n, behind); }
+
+/* ---- What a record asks for */
+
+static uint32_t read_into_room(const uint8_t *file, size_t size, const Head *head) {
+    return wes_read_file(file, size, &tolerance, marks, head->marks, firsts, head->firsts, worsts, head->worsts, curves, head->curves,
+                         params, head->params, &mark_count, &curve_count, &nine);
+}
+
+static void list(const uint8_t *file, const Head *head) {
+    size_t size;
+    uint32_t number = wes_list_outline(file, head->file, out, head->out, &size);
+    if (number != 0)
+        say_count(number, "\n");
+    else
+        say_text(out, size);
+}
+
+static void write_again(const uint8_t *file, const Head *head) {
+    size_t size;
+    uint32_t number = wes_write_file(nine, &tolerance, marks, 2 * mark_count, curve_count, firsts, head->firsts, worsts, head->worsts,
+                                     curves, head->curves, params, head->params, out, head->out, &size);
+    say_count(number, number == 0 ? " " : "\n");
+    if (number != 0) return;
+    say_count(size, "\n");
+    if (size != head->file || memcmp(file, out, size) != 0) say_text("DIFFERS\n", 8);
+}
+
+static void read_and_write(const uint8_t *file, const Head *head) {
+    uint32_t number = read_into_room(file, head->file, head);
+    say_count(number, number == 0 ? " " : "\n");
+    if (number != 0) return;
+    say_count(mark_count, " ");
+    say_count(curve_count, " ");
+    if (head->what == 4 && head->worsts > 0) worsts[0] = 65536;
+    write_again(file, head);
+}
+
+/* How often 0, 2, 4 and 9 were answered. */
+static size_t tally[10];
+
+static void say_tally(void) {
+    say_count(tally[0], " ");
+    say_count(tally[2], " ");
+    say_count(tally[4], " ");
+    say_count(tally[9], "\n");
+    memset(tally, 0, sizeof tally);
+}
+
+static void count_answer(uint32_t number) { tally[number < 10 ? number : 7]++; }
+
+static void prefixes(const uint8_t *file, const Head *head) {
+    for (size_t i = 0; i < head->file; i++) count_answer(read_into_room(file, i, head));
+    say_tally();
+}
+
+static void changes(uint8_t *file, const Head *head) {
+    for (size_t i = 0; i < head->file; i++) {
+        for (unsigned d = 1; d < 256; d++) {
+            file[i]++;
+            count_answer(read_into_room(file, head->file, head));
+        }
+        file[i]++;
+    }
+    say_tally();
+}
+
+static void answer(uint8_t *file, const Head *head) {
+    said_size = 0;
+    switch (head->what) {
+    case 0: list(file, head); break;
+    case 2: prefixes(file, head); break;
+    case 3: changes(file, head); break;
+    default: read_and_write(file, head);
+    }
+}
+
+int main(int argc, char **argv) {
+    if (argc != 3) return 2;
+    size_t size = load(argv[1], cases, ALL), kept = 0, kept_size = load(argv[2], answers, ALL), count = 0;
+    for (size_t at = 0; at + HEAD <= size; count++) {
+        Head head;
+        memcpy(&head, cases + at, HEAD);
+        answer(cases + at + HEAD, &head);
+        CHECK(said_size <= kept_size - kept && memcmp(said, answers + kept, said_size) == 0, "record %zu: %.*s", count,
+              said_size < 60 ? (int)said_size : 60, said);
+        kept += said_size <= kept_size - kept ? said_size : 0;
+        at += HEAD + head.file;
+    }
+    CHECK(count > 100, "only %zu records", count);
+    CHECK(kept == kept_size, "kept are %zu bytes, and %zu were compared", kept_size, kept);
+    return finish();
+}

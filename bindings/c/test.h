@@ -1,0 +1,118 @@
+/* What the test programs share: counted checks, slices lent between guard bytes, the five fits under one signature, random numbers and
+ * files. */
+#ifndef TEST_H
+#define TEST_H
+
+#include <stdio.h>
+#include <string.h>
+#include "wesalondo.h"
+
+#define COUNT(list) (sizeof(list) / sizeof *(list))
+
+enum { MOST_MARKS = 4096, MOST_DIRECT = 512, LONGEST_FILE = 434120, LONGEST_LISTING = 78233 };
+
+/* ---- Checks: counted, and told where they fail. */
+#define CHECK(holds, ...) (counted(holds) ? (void)0 : (void)(printf("%s: ", __func__), printf(__VA_ARGS__), printf("\n")))
+
+bool counted(bool holds);
+
+/* Prints `N passed, M failed`; what main hands back. */
+int finish(void);
+
+/* ---- Numbers by their bits, for a NaN and the two zeros differ by them alone. */
+uint64_t bits_of(double x);
+double of_bits(uint64_t bits);
+bool same_bits(const double *a, const double *b, size_t count);
+double not_a_number(void);
+double infinity(void);
+
+/* ---- Lent slices. The slice and 256 guard bytes on either side hold a pattern that goes by the seed, so that any change can be seen. */
+typedef struct {
+    uint8_t *place;
+    size_t room, bytes;
+    unsigned seed;
+} Lent;
+
+Lent new_lent(size_t room);
+void lend(Lent *slice, size_t bytes, unsigned seed);
+double *numbers(const Lent *slice);
+uint32_t *indices(const Lent *slice);
+
+/* Whether the guards, and the slice's own bytes from `from` on, are as they were lent. */
+bool kept_from(const Lent *slice, size_t from);
+bool all_zero(const Lent *slice);
+
+/* ---- The five fits. */
+typedef uint32_t FitCall(const double *marks, size_t marks_len, double tolerance, double *curves, size_t curves_len, uint32_t *firsts,
+                         size_t firsts_len, uint32_t *worsts, size_t worsts_len, double *params, size_t params_len, size_t *made);
+
+typedef struct {
+    const char *name;
+    FitCall *call;
+    bool ring;
+    size_t most;
+} Fit;
+
+enum { JOINED, RING, SOURCE, LOOP, DIRECT, FITS };
+
+extern const Fit fits[FITS];
+
+/* The tangents that the direct fit is handed: start x and y, end x and y. */
+extern double tangents[4];
+
+/* The fewest marks of a fit, the most curves of n marks, and how many parameters they have. */
+size_t fewest(const Fit *fit);
+size_t most_curves(const Fit *fit, size_t n);
+size_t params_for(const Fit *fit, size_t n);
+
+/* The four slices of a fit, and how many curves it made. */
+typedef struct {
+    Lent curves, firsts, worsts, params;
+    size_t made;
+} Slices;
+
+Slices new_slices(void);
+
+/* Lends as many places as the header asks for, and `more` of each beside them. */
+void lend_slices(Slices *to, const Fit *fit, size_t n, size_t more, unsigned seed);
+uint32_t fit_into(const Fit *fit, const double *marks, size_t marks_len, double tolerance, Slices *to);
+
+/* Whether the slices are as they were; whether all their numbers are zero; whether only what a fit of n marks writes has changed. */
+bool slices_kept(const Slices *s);
+bool slices_zero(const Slices *s);
+bool kept_beyond(const Slices *s, const Fit *fit, size_t n);
+
+/* What the checker of nine numbers a curve says of a fit's list. */
+uint32_t verdict(bool ring, const double *marks, size_t marks_len, double tolerance, const Slices *s, size_t *curve, size_t *mark);
+
+/* The curves of nine numbers as curves of eight. */
+void eight_of(const double *nine, size_t count, double *eight);
+
+/* ---- Small lists that can be worked out by hand. */
+
+/* A list of curves, each of nine numbers, with the lengths that are handed over. */
+typedef struct {
+    bool ring;
+    size_t marks_len, count, curves, firsts, worsts, params;
+    double tolerance, marks[12], numbers[5 * 9], times[6];
+    uint32_t first[5], worst[5];
+} List;
+
+extern const List open_list, ring_list;
+
+/* n marks along the x axis, a unit apart. */
+void straight(double *marks, size_t n);
+
+/* ---- Random numbers, the same in every run. */
+uint64_t random_bits(void);
+size_t random_below(size_t n);
+double random_within(double low, double high);
+
+/* ---- House files. Reads a whole file; the program ends where it can't. */
+size_t load(const char *path, uint8_t *to, size_t room);
+
+/* Puts a house file together by the format's own rules, not by the library, and hands back its size. `width` is 8 or 9. */
+size_t compose(uint8_t *to, double tolerance, const double *marks, size_t n, size_t width, size_t count, const uint32_t *firsts,
+               const uint32_t *worsts, const double *curves, const double *params);
+
+#endif

@@ -1,0 +1,190 @@
+/* Wesalondo for C and C++: the proved library libwesalondo.a, which `rt staticlib wesalondo` makes, for x86-64 Linux.
+
+   ANSWERS. A call answers 0, or the number of a refusal (WES_TOO_FEW and so on; README.md has them all). The checkers also answer a fault, which is
+   its letter: 'A' to 'E'. Where a call refuses, every single value and every array of fixed length that it hands back is zeros (`made`, `point`, ..).
+   Slices stay as they were, but 6 leaves every number of the slices lent to a fit zero. Where several refusals would do, the first of 9, 3, 1, 2, 4, 5 is
+   given, and 6 or 8 only where none of these is; wes_write_file has an order of its own.
+
+   RANGES, behind refusal 5. A coordinate is finite and at most 1,000,000 in magnitude, a tangent's component at most 2; a tolerance is finite and not below
+   zero; a parameter or an estimate is finite; a dimension is 0 or 1; there are at most 64 rounds of Newton's.
+
+   SLICES. A slice is a pointer and how many elements it has (`marks`, `marks_len`). Marks are x and y in turn, so n marks are a slice of 2n numbers.
+   An empty slice may be NULL with length 0. A call never reads or writes beyond a slice, whatever the numbers in it, and ends on every input.
+
+   WHAT THE CALLER OWES, for nothing can test it:
+   - each pointer is valid for as many elements as its length says, and aligned as its type is; no array that a call writes overlaps another of the call's;
+   - this header's declarations, unchanged;
+   - the default float environment: rounding to nearest, subnormals kept. Never link with -ffast-math (or -Ofast): it has the processor
+     take subnormal numbers for zero, in this library too, and what is proved no longer holds;
+   - a stack with room for the call (STACK below).
+   The library keeps nothing between calls and has no data of its own: calls from several threads at once are fine, on different slices.
+
+   STACK, in KB of 1,024 bytes, rounded up. These figures are measured, not proved: the most that bindings/c/stack.c saw on 2026-11-16.
+     wes_fit_joined 164 KB, wes_fit_ring 164 KB, wes_fit_curve 163 KB, wes_fit_curve_loop 162 KB, wes_fit_curve_cubic 408 KB,
+     wes_nearest_point_on_curve 24 KB, wes_list_outline 292 KB, wes_judge_file 801 KB, wes_save_fit 1316 KB; every other call at most 1 KB.
+   Seen over outlines of 4,096 marks at tolerance 0 (512 for the direct fit and the listing), among them zigzags that a fit cuts one mark at a time, as
+   deep as it can go, and over files of 4,096 marks with 4,095 curves. Of fewer marks a direct fit takes less: some 0.8 KB a mark.
+*/
+#ifndef WESALONDO_H
+#define WESALONDO_H
+
+#include <stdbool.h>
+#include <stddef.h>
+#include <stdint.h>
+
+#if !defined(__x86_64__) || !defined(__linux__)
+#error "libwesalondo.a is for x86-64 Linux"
+#endif
+
+#ifdef __cplusplus
+extern "C" {
+#define WES_APART __restrict
+#else
+#define WES_APART restrict
+#endif
+
+/* The refusals. 7 is given to nothing. */
+enum {
+    WES_OK = 0,
+    WES_TOO_FEW = 1,       /* fewer than 2 marks; fewer than 3 of a ring */
+    WES_TOO_MANY = 2,      /* more than 4,096 marks; more than 512 for the direct fit and the listing */
+    WES_ODD = 3,           /* a mark slice of odd length */
+    WES_NO_ROOM = 4,       /* too little room in a lent slice */
+    WES_OUT_OF_RANGE = 5,  /* an input number is out of range */
+    WES_NOT_FINITE = 6,    /* an operation of the run gave NaN or infinity */
+    WES_TOO_DEEP = 8,      /* the nearest search goes too deep */
+    WES_BADLY_FORMED = 9   /* a house file is badly formed */
+};
+
+/* ---- Fits: marks to curves.
+   For n marks lend 9(n-1) numbers in `curves`, n-1 in `firsts` and in `worsts`, n in `params`; for wes_fit_ring 9n, n, n and n+1. `made` is how many curves
+   there are. Curve j is the nine numbers from curves[9*j] on: start, first control, second control, end, each x then y, and the largest distance of a
+   mark under it. firsts[j] is the number of its first mark, worsts[j] that of the mark with that distance; params[i] is where on its curve mark i lies. */
+
+/* Fits an outline without gaps, and without a kink where its blocks meet. This is the one to use for an open outline. */
+uint32_t wes_fit_joined(const double *WES_APART marks, size_t marks_len, double tolerance, double *WES_APART curves, size_t curves_len,
+                        uint32_t *WES_APART firsts, size_t firsts_len, uint32_t *WES_APART worsts, size_t worsts_len,
+                        double *WES_APART params, size_t params_len, size_t *WES_APART made);
+
+/* Fits a closed outline: mark 0 counts again behind the last one, and the last curve comes back to it. */
+uint32_t wes_fit_ring(const double *WES_APART marks, size_t marks_len, double tolerance, double *WES_APART curves, size_t curves_len,
+                      uint32_t *WES_APART firsts, size_t firsts_len, uint32_t *WES_APART worsts, size_t worsts_len,
+                      double *WES_APART params, size_t params_len, size_t *WES_APART made);
+
+/* Fits as flo_curves' fit_curve does: in blocks that do not meet. The checkers do not pass such a list of more than one block. */
+uint32_t wes_fit_curve(const double *WES_APART marks, size_t marks_len, double tolerance, double *WES_APART curves, size_t curves_len,
+                       uint32_t *WES_APART firsts, size_t firsts_len, uint32_t *WES_APART worsts, size_t worsts_len,
+                       double *WES_APART params, size_t params_len, size_t *WES_APART made);
+
+/* Fits as flo_curves' fit_curve_loop does: the same blocks, with tangents from beyond their ends, the last mark being followed by the first. */
+uint32_t wes_fit_curve_loop(const double *WES_APART marks, size_t marks_len, double tolerance, double *WES_APART curves, size_t curves_len,
+                            uint32_t *WES_APART firsts, size_t firsts_len, uint32_t *WES_APART worsts, size_t worsts_len,
+                            double *WES_APART params, size_t params_len, size_t *WES_APART made);
+
+/* Fits up to 512 marks in one piece, with the tangents at its two ends given, as flo_curves' fit_curve_cubic does. */
+uint32_t wes_fit_curve_cubic(const double *WES_APART marks, size_t marks_len, double start_x, double start_y, double end_x, double end_y,
+                             double tolerance, double *WES_APART curves, size_t curves_len,
+                             uint32_t *WES_APART firsts, size_t firsts_len, uint32_t *WES_APART worsts, size_t worsts_len,
+                             double *WES_APART params, size_t params_len, size_t *WES_APART made);
+
+/* ---- Checkers: whether `count` curves are a sound list for these marks and this tolerance, whoever made them.
+   0 is a sound list; 'A' to 'E' the first fault, at the curve number `curve` and the mark number `mark`: a wrong count or first mark (A), a curve's numbers or
+   ends (B), a parameter (C), a mark too far off (D), a worst mark or distance that is not the list's own (E). A count of 0 is fault A. Slices may be longer
+   than the list; what stands behind it is not looked at. */
+
+/* Judges curves of nine numbers with their worst marks, as the fits hand them out, over an open outline. */
+uint32_t wes_check_worst(const double *marks, size_t marks_len, double tolerance, size_t count, const double *curves, size_t curves_len,
+                         const uint32_t *firsts, size_t firsts_len, const uint32_t *worsts, size_t worsts_len,
+                         const double *params, size_t params_len, size_t *WES_APART curve, size_t *WES_APART mark);
+
+/* The same over a closed outline, with n+1 parameters for n marks. */
+uint32_t wes_check_worst_ring(const double *marks, size_t marks_len, double tolerance, size_t count, const double *curves, size_t curves_len,
+                              const uint32_t *firsts, size_t firsts_len, const uint32_t *worsts, size_t worsts_len,
+                              const double *params, size_t params_len, size_t *WES_APART curve, size_t *WES_APART mark);
+
+/* Judges curves of eight numbers, without worst marks, over an open outline. */
+uint32_t wes_check_list(const double *marks, size_t marks_len, double tolerance, size_t count, const double *curves, size_t curves_len,
+                        const uint32_t *firsts, size_t firsts_len, const double *params, size_t params_len,
+                        size_t *WES_APART curve, size_t *WES_APART mark);
+
+/* The same over a closed outline. */
+uint32_t wes_check_ring(const double *marks, size_t marks_len, double tolerance, size_t count, const double *curves, size_t curves_len,
+                        const uint32_t *firsts, size_t firsts_len, const double *params, size_t params_len,
+                        size_t *WES_APART curve, size_t *WES_APART mark);
+
+/* Any of these four: `ring` for a closed outline, `nine` for curves of nine numbers with worst marks (else `worsts` is not looked at). */
+uint32_t wes_check(bool ring, bool nine, const double *marks, size_t marks_len, double tolerance, size_t count,
+                   const double *curves, size_t curves_len, const uint32_t *firsts, size_t firsts_len,
+                   const uint32_t *worsts, size_t worsts_len, const double *params, size_t params_len,
+                   size_t *WES_APART curve, size_t *WES_APART mark);
+
+/* ---- One curve. Its eight numbers are start, first control, second control, end, each x then y: &curves[9*j] of a fit will do. */
+
+/* The point of a curve at t. */
+uint32_t wes_basis(const double curve[8], double t, double point[2]);
+
+/* The same point by other roundings: flo_curves' de_casteljau4. */
+uint32_t wes_de_casteljau4(const double curve[8], double t, double point[2]);
+
+/* The point at t of a quadratic curve of three points. */
+uint32_t wes_de_casteljau3(const double curve[6], double t, double point[2]);
+
+/* The point at t of a line of two points. */
+uint32_t wes_de_casteljau2(const double curve[4], double t, double point[2]);
+
+/* The four coefficients of a curve in x (dimension 0) or in y (dimension 1). */
+uint32_t wes_bezier_coefficients(const double curve[8], size_t dimension, double coefficients[4]);
+
+/* The two parts of a curve that is cut at t. */
+uint32_t wes_subdivide4(const double curve[8], double t, double left[8], double right[8]);
+
+/* The point of a curve that is nearest to (x, y): its parameter, and the square of its distance. */
+uint32_t wes_nearest_point_on_curve(const double curve[8], double x, double y, double *WES_APART t, double *WES_APART distance_sq);
+
+/* A better parameter than an estimated one, in at most num_iterations rounds of Newton's (up to 64). */
+uint32_t wes_nearest_point_on_curve_newton_raphson_with_estimate(const double curve[8], double x, double y, double estimated_t,
+                                                                 size_t num_iterations, double *t);
+
+/* ---- House files. Numbers are moved as their bits and not judged: a NaN comes as it was written. */
+
+/* Takes a file apart. For n marks and k curves lend 2n numbers in `marks`, k in `firsts`, 9k in `curves` and k in `worsts` (8k and none where `nine` is false),
+   and n in `params`; a file without curves wants no room but that of its marks, and `nine` is false then. Files of no mark or one are taken. Refusals: 9, 2, 4. */
+uint32_t wes_read_file(const uint8_t *file, size_t file_len, double *WES_APART tolerance, double *WES_APART marks, size_t marks_len,
+                       uint32_t *WES_APART firsts, size_t firsts_len, uint32_t *WES_APART worsts, size_t worsts_len,
+                       double *WES_APART curves, size_t curves_len, double *WES_APART params, size_t params_len,
+                       size_t *WES_APART mark_count, size_t *WES_APART curve_count, bool *WES_APART nine);
+
+/* Puts a file together, with `count` curves, in the first `size` bytes of `out`. `nine` is as for wes_check. Refusals: 3, 2, 4, 9, in this order. */
+uint32_t wes_write_file(bool nine, const double *tolerance, const double *marks, size_t marks_len, size_t count,
+                        const uint32_t *firsts, size_t firsts_len, const uint32_t *worsts, size_t worsts_len,
+                        const double *curves, size_t curves_len, const double *params, size_t params_len,
+                        uint8_t *WES_APART out, size_t out_len, size_t *WES_APART size);
+
+/* Fits a file of up to 512 marks and lists its curves as text, in the first `size` bytes of `out`; 78,233 bytes are room for every listing. A refused
+   file is the text "REFUSED n\n", one of more than 65,536 bytes "REFUSED 9\n"; the call itself, as the two below, then answers 0, and refuses by 4 alone. */
+uint32_t wes_list_outline(const uint8_t *file, size_t file_len, uint8_t *WES_APART out, size_t out_len, size_t *WES_APART size);
+
+/* Says in one line whether a file's curves are sound: "PASSED marks curves\n", "FAULT A curve mark\n", "NO CURVES marks\n" (whatever its marks are) or
+   "REFUSED n\n" (9 for more than 434,120 bytes, too). 64 bytes are room for it. */
+uint32_t wes_judge_file(const uint8_t *file, size_t file_len, uint8_t *WES_APART out, size_t out_len, size_t *WES_APART size);
+
+/* Fits a file's marks and writes them with their curves, as a file. 434,120 bytes are room for every file, and no longer one is taken; a refused one gives the
+   text "REFUSED n\n" instead. */
+uint32_t wes_save_fit(const uint8_t *file, size_t file_len, uint8_t *WES_APART out, size_t out_len, size_t *WES_APART size);
+
+/* ---- Numbers. These three refuse nothing. */
+
+/* How many marks a block of the fits has, where n marks are cut (a ring's mark 0 counts twice). */
+size_t wes_max_points_to_fit(size_t n);
+
+/* How many blocks a joined fit of n marks has; for a ring of n marks ask for n+1. */
+size_t wes_joined_blocks(size_t n);
+
+/* The square root, rounded to the nearest number; NaN below zero. */
+double wes_sqrt(double x);
+
+#undef WES_APART
+#ifdef __cplusplus
+}
+#endif
+#endif

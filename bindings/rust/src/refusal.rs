@@ -1,0 +1,110 @@
+//! Why a call gives no answer.
+use std::error::Error;
+use std::fmt;
+
+/// Why a call gives no answer. Nothing of a refused call's result is to be had.
+#[non_exhaustive]
+#[derive(Clone, Copy, Debug, PartialEq, Eq, Hash)]
+pub enum Refusal {
+    /// Fewer than 2 marks; fewer than 3 of a ring.
+    TooFew,
+    /// More than 4,096 marks; more than 512 for `fit_curve_cubic` and the listing.
+    TooMany,
+    /// A mark with an x and no y, which slices of [`Point`](crate::Point) can't have.
+    Odd,
+    /// A slice is too short for what the call is to do; of this crate's calls only those that take a [`List`](crate::List) or a
+    /// [`House`](crate::House) can find one.
+    NoRoom,
+    /// An input number is out of range.
+    OutOfRange,
+    /// An operation of the run gave NaN or infinity; with a fit nearly always because three or more marks lie on one spot.
+    NotFinite,
+    /// The search for the nearest point went too deep.
+    TooDeep,
+    /// A house file is badly formed, or a house does not fit into a file.
+    BadlyFormed,
+}
+
+impl Refusal {
+    const ALL: [Refusal; 8] = [
+        Refusal::TooFew,
+        Refusal::TooMany,
+        Refusal::Odd,
+        Refusal::NoRoom,
+        Refusal::OutOfRange,
+        Refusal::NotFinite,
+        Refusal::TooDeep,
+        Refusal::BadlyFormed,
+    ];
+
+    /// The number by which the library gives it, and `./wesalondo explain` explains it. 7 is given to nothing.
+    pub const fn number(self) -> u32 {
+        match self {
+            Refusal::TooFew => 1,
+            Refusal::TooMany => 2,
+            Refusal::Odd => 3,
+            Refusal::NoRoom => 4,
+            Refusal::OutOfRange => 5,
+            Refusal::NotFinite => 6,
+            Refusal::TooDeep => 8,
+            Refusal::BadlyFormed => 9,
+        }
+    }
+
+    fn words(self) -> &'static str {
+        match self {
+            Refusal::TooFew => "there are fewer than 2 marks, or fewer than 3 of a ring",
+            Refusal::TooMany => "there are more than 4,096 marks, or more than 512 for the direct fit and the listing",
+            Refusal::Odd => "a mark has an x and no y",
+            Refusal::NoRoom => "a slice is too short",
+            Refusal::OutOfRange => "an input number is out of range",
+            Refusal::NotFinite => "an operation gave NaN or infinity; of a fit, three or more marks may lie on one spot",
+            Refusal::TooDeep => "the search for the nearest point went too deep",
+            Refusal::BadlyFormed => "the house file is badly formed",
+        }
+    }
+}
+
+impl fmt::Display for Refusal {
+    fn fmt(&self, f: &mut fmt::Formatter<'_>) -> fmt::Result {
+        write!(f, "refusal {}: {}", self.number(), self.words())
+    }
+}
+
+impl Error for Refusal {}
+
+/// A number that no refusal has.
+#[derive(Clone, Copy, Debug, PartialEq, Eq)]
+pub struct UnknownNumber(pub u32);
+
+impl fmt::Display for UnknownNumber {
+    fn fmt(&self, f: &mut fmt::Formatter<'_>) -> fmt::Result {
+        write!(f, "{} is the number of no refusal that this crate knows", self.0)
+    }
+}
+
+impl Error for UnknownNumber {}
+
+impl TryFrom<u32> for Refusal {
+    type Error = UnknownNumber;
+
+    fn try_from(number: u32) -> Result<Refusal, UnknownNumber> {
+        Refusal::ALL.into_iter().find(|refusal| refusal.number() == number).ok_or(UnknownNumber(number))
+    }
+}
+
+/// The refusal that the library gave by its number.
+pub(crate) fn given(number: u32) -> Refusal {
+    match Refusal::try_from(number) {
+        Ok(refusal) => refusal,
+        Err(unknown) => panic!("{unknown}: libwesalondo.a is newer than this crate"),
+    }
+}
+
+/// What a call's answer says: 0, or a refusal.
+pub(crate) fn answered(number: u32) -> Result<(), Refusal> {
+    match number {
+        0 => Ok(()),
+        refused => Err(given(refused)),
+    }
+}

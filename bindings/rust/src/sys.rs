@@ -1,0 +1,169 @@
+//! The library's own calls, as bindings/c/wesalondo.h declares them, under the same names. That header is the authority on what they mean.
+//!
+//! A call answers 0 or the number of a refusal ([`Refusal::number`](crate::Refusal::number)); the checkers also the letter of a fault, in ASCII.
+//! Where a call refuses, every single value and every array of fixed length that it hands back is zeros; slices stay as they were, but refusal 6
+//! leaves every number of the slices lent to a fit zero.
+//!
+//! A slice is a pointer and how many elements it has (`marks`, `marks_len`); marks are x and y in turn. For n marks a fit wants 9(n-1) numbers in
+//! `curves`, n-1 in `firsts` and in `worsts`, and n in `params`; for a ring 9n, n, n and n+1.
+//!
+//! # Safety
+//!
+//! Of every call here the caller owes that
+//!
+//! - each pointer is valid for as many elements as its length, or its array type, says, and aligned; one to an empty slice may be null;
+//! - what is written (`*mut`) overlaps nothing else of the call's;
+//! - the float environment is the default one, as it is in Rust unless something foreign has changed it;
+//! - the stack has room for the call; the header says how much it takes.
+//!
+//! Nothing else is asked: no value of any number is wrong, and calls from several threads at once are fine, on different slices.
+
+/// The type of the four fits that take nothing but marks and a tolerance.
+#[rustfmt::skip]
+pub type FitCall = unsafe extern "C" fn(
+    marks: *const f64, marks_len: usize, tolerance: f64, curves: *mut f64, curves_len: usize, firsts: *mut u32, firsts_len: usize,
+    worsts: *mut u32, worsts_len: usize, params: *mut f64, params_len: usize, made: *mut usize,
+) -> u32;
+
+/// The type of the three calls from a house file's bytes to other bytes.
+pub type FileCall = unsafe extern "C" fn(file: *const u8, file_len: usize, out: *mut u8, out_len: usize, size: *mut usize) -> u32;
+
+// Not formatted, so that a pointer and its length stay side by side, as in the header.
+#[rustfmt::skip]
+extern "C" {
+    // ---- fits
+
+    /// Fits an outline without gaps, and without a kink where its blocks meet. This is the one to use for an open outline.
+    pub fn wes_fit_joined(
+        marks: *const f64, marks_len: usize, tolerance: f64, curves: *mut f64, curves_len: usize, firsts: *mut u32, firsts_len: usize,
+        worsts: *mut u32, worsts_len: usize, params: *mut f64, params_len: usize, made: *mut usize,
+    ) -> u32;
+
+    /// Fits a closed outline: mark 0 counts again behind the last one, and the last curve comes back to it.
+    pub fn wes_fit_ring(
+        marks: *const f64, marks_len: usize, tolerance: f64, curves: *mut f64, curves_len: usize, firsts: *mut u32, firsts_len: usize,
+        worsts: *mut u32, worsts_len: usize, params: *mut f64, params_len: usize, made: *mut usize,
+    ) -> u32;
+
+    /// Fits as flo_curves' fit_curve does: in blocks that do not meet. The checkers do not pass such a list of more than one block.
+    pub fn wes_fit_curve(
+        marks: *const f64, marks_len: usize, tolerance: f64, curves: *mut f64, curves_len: usize, firsts: *mut u32, firsts_len: usize,
+        worsts: *mut u32, worsts_len: usize, params: *mut f64, params_len: usize, made: *mut usize,
+    ) -> u32;
+
+    /// Fits as flo_curves' fit_curve_loop does: the same blocks, with tangents from beyond their ends, the last mark being followed by the
+    /// first.
+    pub fn wes_fit_curve_loop(
+        marks: *const f64, marks_len: usize, tolerance: f64, curves: *mut f64, curves_len: usize, firsts: *mut u32, firsts_len: usize,
+        worsts: *mut u32, worsts_len: usize, params: *mut f64, params_len: usize, made: *mut usize,
+    ) -> u32;
+
+    /// Fits up to 512 marks in one piece, with the tangents at its two ends given, as flo_curves' fit_curve_cubic does.
+    pub fn wes_fit_curve_cubic(
+        marks: *const f64, marks_len: usize, start_x: f64, start_y: f64, end_x: f64, end_y: f64, tolerance: f64, curves: *mut f64, curves_len: usize,
+        firsts: *mut u32, firsts_len: usize, worsts: *mut u32, worsts_len: usize, params: *mut f64, params_len: usize, made: *mut usize,
+    ) -> u32;
+
+    // ---- checkers
+
+    /// Judges curves of nine numbers with their worst marks, as the fits hand them out, over an open outline.
+    pub fn wes_check_worst(
+        marks: *const f64, marks_len: usize, tolerance: f64, count: usize, curves: *const f64, curves_len: usize,
+        firsts: *const u32, firsts_len: usize, worsts: *const u32, worsts_len: usize, params: *const f64, params_len: usize, curve: *mut usize,
+        mark: *mut usize,
+    ) -> u32;
+
+    /// The same over a closed outline, with n+1 parameters for n marks.
+    pub fn wes_check_worst_ring(
+        marks: *const f64, marks_len: usize, tolerance: f64, count: usize, curves: *const f64, curves_len: usize,
+        firsts: *const u32, firsts_len: usize, worsts: *const u32, worsts_len: usize, params: *const f64, params_len: usize, curve: *mut usize,
+        mark: *mut usize,
+    ) -> u32;
+
+    /// Judges curves of eight numbers, without worst marks, over an open outline.
+    pub fn wes_check_list(
+        marks: *const f64, marks_len: usize, tolerance: f64, count: usize, curves: *const f64, curves_len: usize,
+        firsts: *const u32, firsts_len: usize, params: *const f64, params_len: usize, curve: *mut usize, mark: *mut usize,
+    ) -> u32;
+
+    /// The same over a closed outline.
+    pub fn wes_check_ring(
+        marks: *const f64, marks_len: usize, tolerance: f64, count: usize, curves: *const f64, curves_len: usize,
+        firsts: *const u32, firsts_len: usize, params: *const f64, params_len: usize, curve: *mut usize, mark: *mut usize,
+    ) -> u32;
+
+    /// Any of these four: `ring` for a closed outline, `nine` for curves of nine numbers with worst marks (else `worsts` is not looked at).
+    pub fn wes_check(
+        ring: bool, nine: bool, marks: *const f64, marks_len: usize, tolerance: f64, count: usize, curves: *const f64, curves_len: usize,
+        firsts: *const u32, firsts_len: usize, worsts: *const u32, worsts_len: usize, params: *const f64, params_len: usize, curve: *mut usize,
+        mark: *mut usize,
+    ) -> u32;
+
+    // ---- one curve
+
+    /// The point of a curve at t.
+    pub fn wes_basis(curve: *const [f64; 8], t: f64, point: *mut [f64; 2]) -> u32;
+
+    /// The same point by other roundings: flo_curves' de_casteljau4.
+    pub fn wes_de_casteljau4(curve: *const [f64; 8], t: f64, point: *mut [f64; 2]) -> u32;
+
+    /// The point at t of a quadratic curve of three points.
+    pub fn wes_de_casteljau3(curve: *const [f64; 6], t: f64, point: *mut [f64; 2]) -> u32;
+
+    /// The point at t of a line of two points.
+    pub fn wes_de_casteljau2(curve: *const [f64; 4], t: f64, point: *mut [f64; 2]) -> u32;
+
+    /// The four coefficients of a curve in x (dimension 0) or in y (dimension 1).
+    pub fn wes_bezier_coefficients(curve: *const [f64; 8], dimension: usize, coefficients: *mut [f64; 4]) -> u32;
+
+    /// The two parts of a curve that is cut at t.
+    pub fn wes_subdivide4(curve: *const [f64; 8], t: f64, left: *mut [f64; 8], right: *mut [f64; 8]) -> u32;
+
+    /// The point of a curve that is nearest to (x, y): its parameter, and the square of its distance.
+    pub fn wes_nearest_point_on_curve(curve: *const [f64; 8], x: f64, y: f64, t: *mut f64, distance_sq: *mut f64) -> u32;
+
+    /// A better parameter than an estimated one, in at most num_iterations rounds of Newton's (up to 64).
+    pub fn wes_nearest_point_on_curve_newton_raphson_with_estimate(
+        curve: *const [f64; 8], x: f64, y: f64, estimated_t: f64, num_iterations: usize, t: *mut f64,
+    ) -> u32;
+
+    // ---- house files
+
+    /// Takes a file apart. For n marks and k curves lend 2n numbers in `marks`, k in `firsts`, 9k in `curves` and k in `worsts` (8k and none
+    /// where `nine` is false), and n in `params`; a file without curves wants no room but that of its marks.
+    pub fn wes_read_file(
+        file: *const u8, file_len: usize, tolerance: *mut f64, marks: *mut f64, marks_len: usize, firsts: *mut u32, firsts_len: usize,
+        worsts: *mut u32, worsts_len: usize, curves: *mut f64, curves_len: usize, params: *mut f64, params_len: usize, mark_count: *mut usize,
+        curve_count: *mut usize, nine: *mut bool,
+    ) -> u32;
+
+    /// Puts a file together, with `count` curves, in the first `size` bytes of `out`. `nine` is as for wes_check. It refuses in the order 3, 2,
+    /// 4, 9.
+    pub fn wes_write_file(
+        nine: bool, tolerance: *const f64, marks: *const f64, marks_len: usize, count: usize, firsts: *const u32, firsts_len: usize,
+        worsts: *const u32, worsts_len: usize, curves: *const f64, curves_len: usize, params: *const f64, params_len: usize,
+        out: *mut u8, out_len: usize, size: *mut usize,
+    ) -> u32;
+
+    /// Fits a file of up to 512 marks and lists its curves as text, in the first `size` bytes of `out`; 78,233 bytes are room for every listing.
+    /// A refused file is the text "REFUSED n\n", and the call itself answers 0: it refuses by 4 alone.
+    pub fn wes_list_outline(file: *const u8, file_len: usize, out: *mut u8, out_len: usize, size: *mut usize) -> u32;
+
+    /// Says in one line whether a file's curves are sound: "PASSED marks curves\n", "FAULT A curve mark\n", "NO CURVES marks\n" or "REFUSED
+    /// n\n". 64 bytes are room for it.
+    pub fn wes_judge_file(file: *const u8, file_len: usize, out: *mut u8, out_len: usize, size: *mut usize) -> u32;
+
+    /// Fits a file and writes it with its curves. 434,120 bytes are room for every file; a refused one gives the text "REFUSED n\n" instead.
+    pub fn wes_save_fit(file: *const u8, file_len: usize, out: *mut u8, out_len: usize, size: *mut usize) -> u32;
+
+    // ---- numbers, which refuse nothing
+
+    /// How many marks a block of the fits has, where n marks are cut (a ring's mark 0 counts twice).
+    pub fn wes_max_points_to_fit(n: usize) -> usize;
+
+    /// How many blocks a joined fit of n marks has; for a ring of n marks ask for n+1.
+    pub fn wes_joined_blocks(n: usize) -> usize;
+
+    /// The square root, rounded to the nearest number; NaN below zero.
+    pub fn wes_sqrt(x: f64) -> f64;
+}
