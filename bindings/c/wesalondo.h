@@ -38,9 +38,9 @@
 
 #ifdef __cplusplus
 extern "C" {
-#define WES_APART __restrict
-#else
-#define WES_APART restrict
+#pragma push_macro("restrict") /* C++ has no such word; the caller's own, if there is one, comes back below */
+#undef restrict
+#define restrict __restrict
 #endif
 
 /* The refusals. 7 is given to nothing. */
@@ -62,30 +62,30 @@ enum {
    mark under it. firsts[j] is the number of its first mark, worsts[j] that of the mark with that distance; params[i] is where on its curve mark i lies. */
 
 /* Fits an outline without gaps, and without a kink where its blocks meet. This is the one to use for an open outline. */
-uint32_t wes_fit_joined(const double *WES_APART marks, size_t marks_len, double tolerance, double *WES_APART curves, size_t curves_len,
-                        uint32_t *WES_APART firsts, size_t firsts_len, uint32_t *WES_APART worsts, size_t worsts_len,
-                        double *WES_APART params, size_t params_len, size_t *WES_APART made);
+uint32_t wes_fit_joined(const double *restrict marks, size_t marks_len, double tolerance, double *restrict curves, size_t curves_len,
+                        uint32_t *restrict firsts, size_t firsts_len, uint32_t *restrict worsts, size_t worsts_len,
+                        double *restrict params, size_t params_len, size_t *restrict made);
 
 /* Fits a closed outline: mark 0 counts again behind the last one, and the last curve comes back to it. */
-uint32_t wes_fit_ring(const double *WES_APART marks, size_t marks_len, double tolerance, double *WES_APART curves, size_t curves_len,
-                      uint32_t *WES_APART firsts, size_t firsts_len, uint32_t *WES_APART worsts, size_t worsts_len,
-                      double *WES_APART params, size_t params_len, size_t *WES_APART made);
+uint32_t wes_fit_ring(const double *restrict marks, size_t marks_len, double tolerance, double *restrict curves, size_t curves_len,
+                      uint32_t *restrict firsts, size_t firsts_len, uint32_t *restrict worsts, size_t worsts_len,
+                      double *restrict params, size_t params_len, size_t *restrict made);
 
 /* Fits as flo_curves' fit_curve does: in blocks that do not meet. The checkers do not pass such a list of more than one block. */
-uint32_t wes_fit_curve(const double *WES_APART marks, size_t marks_len, double tolerance, double *WES_APART curves, size_t curves_len,
-                       uint32_t *WES_APART firsts, size_t firsts_len, uint32_t *WES_APART worsts, size_t worsts_len,
-                       double *WES_APART params, size_t params_len, size_t *WES_APART made);
+uint32_t wes_fit_curve(const double *restrict marks, size_t marks_len, double tolerance, double *restrict curves, size_t curves_len,
+                       uint32_t *restrict firsts, size_t firsts_len, uint32_t *restrict worsts, size_t worsts_len,
+                       double *restrict params, size_t params_len, size_t *restrict made);
 
 /* Fits as flo_curves' fit_curve_loop does: the same blocks, with tangents from beyond their ends, the last mark being followed by the first. */
-uint32_t wes_fit_curve_loop(const double *WES_APART marks, size_t marks_len, double tolerance, double *WES_APART curves, size_t curves_len,
-                            uint32_t *WES_APART firsts, size_t firsts_len, uint32_t *WES_APART worsts, size_t worsts_len,
-                            double *WES_APART params, size_t params_len, size_t *WES_APART made);
+uint32_t wes_fit_curve_loop(const double *restrict marks, size_t marks_len, double tolerance, double *restrict curves, size_t curves_len,
+                            uint32_t *restrict firsts, size_t firsts_len, uint32_t *restrict worsts, size_t worsts_len,
+                            double *restrict params, size_t params_len, size_t *restrict made);
 
 /* Fits up to 512 marks in one piece, with the tangents at its two ends given, as flo_curves' fit_curve_cubic does. */
-uint32_t wes_fit_curve_cubic(const double *WES_APART marks, size_t marks_len, double start_x, double start_y, double end_x, double end_y,
-                             double tolerance, double *WES_APART curves, size_t curves_len,
-                             uint32_t *WES_APART firsts, size_t firsts_len, uint32_t *WES_APART worsts, size_t worsts_len,
-                             double *WES_APART params, size_t params_len, size_t *WES_APART made);
+uint32_t wes_fit_curve_cubic(const double *restrict marks, size_t marks_len, double start_x, double start_y, double end_x, double end_y,
+                             double tolerance, double *restrict curves, size_t curves_len,
+                             uint32_t *restrict firsts, size_t firsts_len, uint32_t *restrict worsts, size_t worsts_len,
+                             double *restrict params, size_t params_len, size_t *restrict made);
 
 /* ---- Checkers: whether `count` curves are a sound list for these marks and this tolerance, whoever made them.
    0 is a sound list; 'A' to 'E' the first fault, at the curve number `curve` and the mark number `mark`: a wrong count or first mark (A), a curve's numbers or
@@ -95,28 +95,28 @@ uint32_t wes_fit_curve_cubic(const double *WES_APART marks, size_t marks_len, do
 /* Judges curves of nine numbers with their worst marks, as the fits hand them out, over an open outline. */
 uint32_t wes_check_worst(const double *marks, size_t marks_len, double tolerance, size_t count, const double *curves, size_t curves_len,
                          const uint32_t *firsts, size_t firsts_len, const uint32_t *worsts, size_t worsts_len,
-                         const double *params, size_t params_len, size_t *WES_APART curve, size_t *WES_APART mark);
+                         const double *params, size_t params_len, size_t *restrict curve, size_t *restrict mark);
 
 /* The same over a closed outline, with n+1 parameters for n marks. */
 uint32_t wes_check_worst_ring(const double *marks, size_t marks_len, double tolerance, size_t count, const double *curves, size_t curves_len,
                               const uint32_t *firsts, size_t firsts_len, const uint32_t *worsts, size_t worsts_len,
-                              const double *params, size_t params_len, size_t *WES_APART curve, size_t *WES_APART mark);
+                              const double *params, size_t params_len, size_t *restrict curve, size_t *restrict mark);
 
 /* Judges curves of eight numbers, without worst marks, over an open outline. */
 uint32_t wes_check_list(const double *marks, size_t marks_len, double tolerance, size_t count, const double *curves, size_t curves_len,
                         const uint32_t *firsts, size_t firsts_len, const double *params, size_t params_len,
-                        size_t *WES_APART curve, size_t *WES_APART mark);
+                        size_t *restrict curve, size_t *restrict mark);
 
 /* The same over a closed outline. */
 uint32_t wes_check_ring(const double *marks, size_t marks_len, double tolerance, size_t count, const double *curves, size_t curves_len,
                         const uint32_t *firsts, size_t firsts_len, const double *params, size_t params_len,
-                        size_t *WES_APART curve, size_t *WES_APART mark);
+                        size_t *restrict curve, size_t *restrict mark);
 
 /* Any of these four: `ring` for a closed outline, `nine` for curves of nine numbers with worst marks (else `worsts` is not looked at). */
 uint32_t wes_check(bool ring, bool nine, const double *marks, size_t marks_len, double tolerance, size_t count,
                    const double *curves, size_t curves_len, const uint32_t *firsts, size_t firsts_len,
                    const uint32_t *worsts, size_t worsts_len, const double *params, size_t params_len,
-                   size_t *WES_APART curve, size_t *WES_APART mark);
+                   size_t *restrict curve, size_t *restrict mark);
 
 /* ---- One curve. Its eight numbers are start, first control, second control, end, each x then y: &curves[9*j] of a fit will do. */
 
@@ -139,7 +139,7 @@ uint32_t wes_bezier_coefficients(const double curve[8], size_t dimension, double
 uint32_t wes_subdivide4(const double curve[8], double t, double left[8], double right[8]);
 
 /* The point of a curve that is nearest to (x, y): its parameter, and the square of its distance. */
-uint32_t wes_nearest_point_on_curve(const double curve[8], double x, double y, double *WES_APART t, double *WES_APART distance_sq);
+uint32_t wes_nearest_point_on_curve(const double curve[8], double x, double y, double *restrict t, double *restrict distance_sq);
 
 /* A better parameter than an estimated one, in at most num_iterations rounds of Newton's (up to 64). */
 uint32_t wes_nearest_point_on_curve_newton_raphson_with_estimate(const double curve[8], double x, double y, double estimated_t,
@@ -149,28 +149,28 @@ uint32_t wes_nearest_point_on_curve_newton_raphson_with_estimate(const double cu
 
 /* Takes a file apart. For n marks and k curves lend 2n numbers in `marks`, k in `firsts`, 9k in `curves` and k in `worsts` (8k and none where `nine` is false),
    and n in `params`; a file without curves wants no room but that of its marks, and `nine` is false then. Files of no mark or one are taken. Refusals: 9, 2, 4. */
-uint32_t wes_read_file(const uint8_t *file, size_t file_len, double *WES_APART tolerance, double *WES_APART marks, size_t marks_len,
-                       uint32_t *WES_APART firsts, size_t firsts_len, uint32_t *WES_APART worsts, size_t worsts_len,
-                       double *WES_APART curves, size_t curves_len, double *WES_APART params, size_t params_len,
-                       size_t *WES_APART mark_count, size_t *WES_APART curve_count, bool *WES_APART nine);
+uint32_t wes_read_file(const uint8_t *file, size_t file_len, double *restrict tolerance, double *restrict marks, size_t marks_len,
+                       uint32_t *restrict firsts, size_t firsts_len, uint32_t *restrict worsts, size_t worsts_len,
+                       double *restrict curves, size_t curves_len, double *restrict params, size_t params_len,
+                       size_t *restrict mark_count, size_t *restrict curve_count, bool *restrict nine);
 
 /* Puts a file together, with `count` curves, in the first `size` bytes of `out`. `nine` is as for wes_check. Refusals: 3, 2, 4, 9, in this order. */
 uint32_t wes_write_file(bool nine, const double *tolerance, const double *marks, size_t marks_len, size_t count,
                         const uint32_t *firsts, size_t firsts_len, const uint32_t *worsts, size_t worsts_len,
                         const double *curves, size_t curves_len, const double *params, size_t params_len,
-                        uint8_t *WES_APART out, size_t out_len, size_t *WES_APART size);
+                        uint8_t *restrict out, size_t out_len, size_t *restrict size);
 
 /* Fits a file of up to 512 marks and lists its curves as text, in the first `size` bytes of `out`; 78,233 bytes are room for every listing. A refused
    file is the text "REFUSED n\n", one of more than 65,536 bytes "REFUSED 9\n"; the call itself, as the two below, then answers 0, and refuses by 4 alone. */
-uint32_t wes_list_outline(const uint8_t *file, size_t file_len, uint8_t *WES_APART out, size_t out_len, size_t *WES_APART size);
+uint32_t wes_list_outline(const uint8_t *file, size_t file_len, uint8_t *restrict out, size_t out_len, size_t *restrict size);
 
 /* Says in one line whether a file's curves are sound: "PASSED marks curves\n", "FAULT A curve mark\n", "NO CURVES marks\n" (whatever its marks are) or
    "REFUSED n\n" (9 for more than 434,120 bytes, too). 64 bytes are room for it. */
-uint32_t wes_judge_file(const uint8_t *file, size_t file_len, uint8_t *WES_APART out, size_t out_len, size_t *WES_APART size);
+uint32_t wes_judge_file(const uint8_t *file, size_t file_len, uint8_t *restrict out, size_t out_len, size_t *restrict size);
 
 /* Fits a file's marks and writes them with their curves, as a file. 434,120 bytes are room for every file, and no longer one is taken; a refused one gives the
    text "REFUSED n\n" instead. */
-uint32_t wes_save_fit(const uint8_t *file, size_t file_len, uint8_t *WES_APART out, size_t out_len, size_t *WES_APART size);
+uint32_t wes_save_fit(const uint8_t *file, size_t file_len, uint8_t *restrict out, size_t out_len, size_t *restrict size);
 
 /* ---- Numbers. These three refuse nothing. */
 
@@ -183,8 +183,9 @@ size_t wes_joined_blocks(size_t n);
 /* The square root, rounded to the nearest number; NaN below zero. */
 double wes_sqrt(double x);
 
-#undef WES_APART
 #ifdef __cplusplus
+#undef restrict
+#pragma pop_macro("restrict")
 }
 #endif
 #endif

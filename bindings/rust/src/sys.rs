@@ -2,7 +2,8 @@
 //!
 //! A call answers 0 or the number of a refusal ([`Refusal::number`](crate::Refusal::number)); the checkers also the letter of a fault, in ASCII.
 //! Where a call refuses, every single value and every array of fixed length that it hands back is zeros; slices stay as they were, but refusal 6
-//! leaves every number of the slices lent to a fit zero.
+//! leaves every number of the slices lent to a fit zero. Where several refusals would do, the first of 9, 3, 1, 2, 4, 5 is given, and 6 or 8 only where
+//! none of these is; `wes_write_file` has an order of its own.
 //!
 //! A slice is a pointer and how many elements it has (`marks`, `marks_len`); marks are x and y in turn. For n marks a fit wants 9(n-1) numbers in
 //! `curves`, n-1 in `firsts` and in `worsts`, and n in `params`; for a ring 9n, n, n and n+1.
@@ -130,15 +131,16 @@ extern "C" {
     // ---- house files
 
     /// Takes a file apart. For n marks and k curves lend 2n numbers in `marks`, k in `firsts`, 9k in `curves` and k in `worsts` (8k and none
-    /// where `nine` is false), and n in `params`; a file without curves wants no room but that of its marks.
+    /// where `nine` is false), and n in `params`; a file without curves wants no room but that of its marks, and `nine` is false then. Files of no
+    /// mark or one are taken. Refusals: 9, 2, 4.
     pub fn wes_read_file(
         file: *const u8, file_len: usize, tolerance: *mut f64, marks: *mut f64, marks_len: usize, firsts: *mut u32, firsts_len: usize,
         worsts: *mut u32, worsts_len: usize, curves: *mut f64, curves_len: usize, params: *mut f64, params_len: usize, mark_count: *mut usize,
         curve_count: *mut usize, nine: *mut bool,
     ) -> u32;
 
-    /// Puts a file together, with `count` curves, in the first `size` bytes of `out`. `nine` is as for wes_check. It refuses in the order 3, 2,
-    /// 4, 9.
+    /// Puts a file together, with `count` curves, in the first `size` bytes of `out`. `nine` is as for wes_check. Refusals: 3, 2, 4, 9, in this
+    /// order.
     pub fn wes_write_file(
         nine: bool, tolerance: *const f64, marks: *const f64, marks_len: usize, count: usize, firsts: *const u32, firsts_len: usize,
         worsts: *const u32, worsts_len: usize, curves: *const f64, curves_len: usize, params: *const f64, params_len: usize,
@@ -146,14 +148,16 @@ extern "C" {
     ) -> u32;
 
     /// Fits a file of up to 512 marks and lists its curves as text, in the first `size` bytes of `out`; 78,233 bytes are room for every listing.
-    /// A refused file is the text "REFUSED n\n", and the call itself answers 0: it refuses by 4 alone.
+    /// A refused file is the text "REFUSED n\n", one of more than 65,536 bytes "REFUSED 9\n"; the call itself, as the two below, then answers 0,
+    /// and refuses by 4 alone.
     pub fn wes_list_outline(file: *const u8, file_len: usize, out: *mut u8, out_len: usize, size: *mut usize) -> u32;
 
-    /// Says in one line whether a file's curves are sound: "PASSED marks curves\n", "FAULT A curve mark\n", "NO CURVES marks\n" or "REFUSED
-    /// n\n". 64 bytes are room for it.
+    /// Says in one line whether a file's curves are sound: "PASSED marks curves\n", "FAULT A curve mark\n", "NO CURVES marks\n" (whatever its
+    /// marks are) or "REFUSED n\n" (9 for more than 434,120 bytes, too). 64 bytes are room for it.
     pub fn wes_judge_file(file: *const u8, file_len: usize, out: *mut u8, out_len: usize, size: *mut usize) -> u32;
 
-    /// Fits a file and writes it with its curves. 434,120 bytes are room for every file; a refused one gives the text "REFUSED n\n" instead.
+    /// Fits a file's marks and writes them with their curves, as a file. 434,120 bytes are room for every file, and no longer one is taken; a
+    /// refused one gives the text "REFUSED n\n" instead.
     pub fn wes_save_fit(file: *const u8, file_len: usize, out: *mut u8, out_len: usize, size: *mut usize) -> u32;
 
     // ---- numbers, which refuse nothing

@@ -19,7 +19,7 @@ fn kind(c: &str) -> &str {
 
 /// A C parameter in Rust: an array of fixed length is a pointer to one.
 fn parameter(c: &str) -> String {
-    let c = c.replace("WES_APART ", "");
+    let c = c.replace("restrict ", "");
     let (reads, rest) = c.trim().strip_prefix("const ").map_or((false, c.trim()), |rest| (true, rest));
     let pointer = if reads { "*const" } else { "*mut" };
     let (of, name) = rest.split_once(' ').expect("a type and a name");
