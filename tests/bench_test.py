@@ -42,7 +42,7 @@ LINES = [
     'fit_ring smooth 12 0.5 3 - 2500.00',
     'check_worst smooth 12 0.5 3 - 61.20',
     'nearest_point_on_curve beside 512 - 0 1500.000 750.000',
-    'sqrt squares 512 - 0 2.000 28.000',
+    'sqrt apart 512 - 0 2.000 28.000',
 ]
 run = figures = plot = rows = None  # the copy's bench/run and its two modules, and the rows of LINES
 
@@ -98,7 +98,7 @@ class Figures(unittest.TestCase):
         self.assertIn('| 12 | 100 | 100 | 1.00 |  |  |  |  |  |  |\n', figures.fit_table(rows, 'fit_curve'))  # over two tolerances
         self.assertIn('| 12 | 96.0 |  |  | 2,500 |  |  | 61.2 |  |  |\n', figures.alone_table(rows))
         self.assertIn('| all fits | 5 fits | 1.320 | 0.25 | 16.00 |\n', figures.mean_table(rows))
-        self.assertIn('| `sqrt`, squares | 2.0 | 28.0 | 14.00 |\n', figures.single_table(rows))
+        self.assertIn('| `sqrt`, apart | 2.0 | 28.0 | 14.00 |\n', figures.single_table(rows))
         for found in re.findall(r'(?:^\|.*\n)+', figures.markdown(rows, 'a machine.'), re.M):
             self.assertEqual(len({line.count('|') for line in found.splitlines()}), 1, found)
 

@@ -189,7 +189,7 @@ fn least(sides: &mut [&mut dyn FnMut()]) -> Vec<f64> {
 }
 
 /// What is timed: a call on an outline, or so many questions in a row.
-enum Item<'a> { Fit(&'a Call, &'a Outline), Nearest(&'a str, &'a [Question]), Roots(&'a [f64]) }
+enum Item<'a> { Fit(&'a Call, &'a Outline), Nearest(&'a str, &'a [Question]), Roots(&'a str, Timed, &'a [f64]) }
 
 impl Item<'_> {
     /// The least nanoseconds of each side: the Rust, where it has such a call, and the port.
@@ -197,7 +197,7 @@ impl Item<'_> {
         match self {
             Item::Fit(call, o) => time_call(call, o, room),
             Item::Nearest(_, asked) => time_nearest(asked),
-            Item::Roots(numbers) => time_roots(numbers),
+            Item::Roots(_, timed, numbers) => timed(numbers),
         }
     }
     /// Call, family, marks or questions, tolerance and curves; and by how many the nanoseconds are divided.
@@ -205,7 +205,7 @@ impl Item<'_> {
         match self {
             Item::Fit(call, o) => (format!("{} {} {} {} {}", call.name, o.family, o.marks.len(), o.tolerance, room.made), o.marks.len()),
             Item::Nearest(family, asked) => (format!("nearest_point_on_curve {} {} - 0", family, asked.len()), asked.len()),
-            Item::Roots(numbers) => (format!("sqrt squares {} - 0", numbers.len()), numbers.len()),
+            Item::Roots(family, _, numbers) => (format!("sqrt {} {} - 0", family, numbers.len()), numbers.len()),
         }
     }
 }
@@ -276,9 +276,21 @@ fn squares() -> Vec<f64> {
     let mut dice = Dice(SEED);
     (0..QUESTIONS).map(|_| 10.0f64.powf(-6.0 + 18.0 * dice.roll())).collect()
 }
-fn time_roots(numbers: &[f64]) -> Vec<f64> {
-    let mut rust = || for x in numbers { black_box(black_box(*x).sqrt()); };
-    let mut port = || for x in numbers { black_box(port_root(black_box(*x))); };
+/// How roots are timed: the least nanoseconds of all of them, by the Rust and by the port.
+type Timed = fn(&[f64]) -> Vec<f64>;
+const ROOTS: [(&str, Timed); 2] = [("apart", time_apart), ("chained", time_chained)];
+
+/// Each of a number of its own, so that the next one is begun before this one is done. The numbers are hidden from the compiler as a slice: hidden
+/// one by one, each goes through memory, which was seen to take the port's calls two to three times as long and the Rust's instruction no longer.
+fn time_apart(numbers: &[f64]) -> Vec<f64> {
+    let mut rust = || for x in black_box(numbers) { black_box(x.sqrt()); };
+    let mut port = || for x in black_box(numbers) { black_box(port_root(*x)); };
+    least(&mut [&mut rust, &mut port])
+}
+/// Each of a number that the one before is added to, so that it has to wait.
+fn time_chained(numbers: &[f64]) -> Vec<f64> {
+    let mut rust = || { black_box(black_box(numbers).iter().fold(0.0, |root: f64, x| (x + root).sqrt())); };
+    let mut port = || { black_box(black_box(numbers).iter().fold(0.0, |root, x| port_root(x + root))); };
     least(&mut [&mut rust, &mut port])
 }
 
@@ -305,6 +317,6 @@ fn main() {
     hold_all(&calls, &outlines, &nearest, &roots, &mut room);
     let taken = |call: &'_ Call, o: &Outline| o.marks.len() <= call.most;
     let fits = calls.iter().flat_map(|call| outlines.iter().filter(|o| taken(call, o)).map(move |o| Item::Fit(call, o)));
-    let others = nearest.iter().map(|(family, asked)| Item::Nearest(family, asked)).chain([Item::Roots(&roots)]);
+    let others = nearest.iter().map(|(family, asked)| Item::Nearest(family, asked)).chain(ROOTS.iter().map(|(family, timed)| Item::Roots(family, *timed, &roots)));
     time_all(&fits.chain(others).collect::<Vec<_>>(), &mut room);
 }
