@@ -1,5 +1,6 @@
 -- `border::put_coefficients` meets its contract. Assumes nothing.
 use borrow.Author.Needs.{needs}
+use mathlib.Core.Path.{refl}
 use Rattle.bezier.specs.Calls.{coefficientsAnswer}
 use Rattle.border.specs.Crossing.{coefficientsCrossed}
 use Rattle.border.proofs.put_coefficients.Statement.{statement}
@@ -13,11 +14,11 @@ enum-known-answer-2 c = search needs
 
 returns : tie.Need-returns
 unfolding coefficientsAnswer coefficientsCrossed
-returns c = rw (c .before .before .answer .given .1)
+returns c = rw (c .before .before .answer .given .1) refl
 
 returns-2 : tie.Need-returns-2
 unfolding coefficientsAnswer coefficientsCrossed
-returns-2 c = rw (c .before .before .answer2 .given .1)
+returns-2 c = rw (c .before .before .answer2 .given .1) refl
 
 pub put-coefficients-spec : {M : Type 1} → statement M
 put-coefficients-spec =

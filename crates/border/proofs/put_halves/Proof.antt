@@ -1,5 +1,6 @@
 -- `border::put_halves` meets its contract. Assumes nothing.
 use borrow.Author.Needs.{needs}
+use mathlib.Core.Path.{refl}
 use Rattle.bezier.specs.Calls.{halvesAnswer}
 use Rattle.border.specs.Crossing.{halvesCrossed}
 use Rattle.border.proofs.put_halves.Statement.{statement}
@@ -19,11 +20,11 @@ enum-known-answer-2 c = search needs
 
 returns : tie.Need-returns
 unfolding halvesAnswer halvesCrossed
-returns c = rw (c .before .before .before .answer .given .1, c .before .eight .ensures, c .eight2 .ensures)
+returns c = rw (c .before .before .before .answer .given .1, c .before .eight .ensures, c .eight2 .ensures) refl
 
 returns-2 : tie.Need-returns-2
 unfolding halvesAnswer halvesCrossed
-returns-2 c = rw (c .before .before .before .answer2 .given .1)
+returns-2 c = rw (c .before .before .before .answer2 .given .1) refl
 
 pub put-halves-spec : {M : Type 1} → statement M
 put-halves-spec =

@@ -1,5 +1,6 @@
 -- `border::put_listed` meets its contract. Assumes nothing.
 use borrow.Author.Needs.{needs}
+use mathlib.Core.Path.{refl}
 use Rattle.border.specs.Crossing.{countCrossed}
 use Rattle.border.proofs.put_listed.Statement.{statement}
 use Rattle.border.proofs.put_listed.Tie as tie
@@ -12,11 +13,11 @@ enum-known-answer-2 c = search needs
 
 returns : tie.Need-returns
 unfolding countCrossed
-returns c = search needs
+returns c = rw (c .before .answer .given .1) refl
 
 returns-2 : tie.Need-returns-2
 unfolding countCrossed
-returns-2 c = search needs
+returns-2 c = rw (c .before .answer2 .given .1) refl
 
 pub put-listed-spec : {M : Type 1} → statement M
 put-listed-spec = tie.close (tie.spec enum-known-answer enum-known-answer-2 returns returns-2)

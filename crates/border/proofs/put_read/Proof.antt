@@ -1,5 +1,6 @@
 -- `border::put_read` meets its contract. Assumes nothing.
 use borrow.Author.Needs.{needs}
+use mathlib.Core.Path.{refl}
 use Rattle.border.specs.Crossing.{foundCrossed}
 use Rattle.border.proofs.put_read.Statement.{statement}
 use Rattle.border.proofs.put_read.Tie as tie
@@ -15,11 +16,11 @@ enum-known-answer-2 c = search needs
 
 returns : tie.Need-returns
 unfolding foundCrossed
-returns c = rw (c .before .before .answer .given .1, c .is-nine .ensures)
+returns c = rw (c .before .before .answer .given .1, c .is-nine .ensures) refl
 
 returns-2 : tie.Need-returns-2
 unfolding foundCrossed
-returns-2 c = rw (c .before .answer2 .given .1)
+returns-2 c = rw (c .before .answer2 .given .1) refl
 
 pub put-read-spec : {M : Type 1} → statement M
 put-read-spec =

@@ -1,5 +1,6 @@
 -- `border::put_refined` meets its contract. Assumes nothing.
 use borrow.Author.Needs.{needs}
+use mathlib.Core.Path.{refl}
 use Rattle.bezier.specs.Calls.{numberAnswer}
 use Rattle.border.specs.Crossing.{numberCrossed}
 use Rattle.border.proofs.put_refined.Statement.{statement}
@@ -13,11 +14,11 @@ enum-known-answer-2 c = search needs
 
 returns : tie.Need-returns
 unfolding numberAnswer numberCrossed
-returns c = search needs
+returns c = rw (c .before .answer .given .1) refl
 
 returns-2 : tie.Need-returns-2
 unfolding numberAnswer numberCrossed
-returns-2 c = rw (c .before .answer2 .given .1)
+returns-2 c = rw (c .before .answer2 .given .1) refl
 
 pub put-refined-spec : {M : Type 1} → statement M
 put-refined-spec = tie.close (tie.spec enum-known-answer enum-known-answer-2 returns returns-2)
