@@ -81,7 +81,8 @@ uint32_t wes_fit_curve_loop(const double *restrict marks, size_t marks_len, doub
                             uint32_t *restrict firsts, size_t firsts_len, uint32_t *restrict worsts, size_t worsts_len,
                             double *restrict params, size_t params_len, size_t *restrict made);
 
-/* Fits up to 512 marks in one piece, with the tangents at its two ends given, as flo_curves' fit_curve_cubic does. */
+/* Fits up to 512 marks in one piece, with the tangents at its two ends given, as flo_curves' fit_curve_cubic does. They are unit vectors from the first
+   and the last mark towards the curve's controls, so the second one points backwards. */
 uint32_t wes_fit_curve_cubic(const double *restrict marks, size_t marks_len, double start_x, double start_y, double end_x, double end_y,
                              double tolerance, double *restrict curves, size_t curves_len,
                              uint32_t *restrict firsts, size_t firsts_len, uint32_t *restrict worsts, size_t worsts_len,
@@ -132,7 +133,7 @@ uint32_t wes_de_casteljau3(const double curve[6], double t, double point[2]);
 /* The point at t of a line of two points. */
 uint32_t wes_de_casteljau2(const double curve[4], double t, double point[2]);
 
-/* The four coefficients of a curve in x (dimension 0) or in y (dimension 1). */
+/* The four coefficients of a curve, that of the cube first, in x (dimension 0) or in y (dimension 1). */
 uint32_t wes_bezier_coefficients(const double curve[8], size_t dimension, double coefficients[4]);
 
 /* The two parts of a curve that is cut at t. */

@@ -59,7 +59,8 @@ extern "C" {
         worsts: *mut u32, worsts_len: usize, params: *mut f64, params_len: usize, made: *mut usize,
     ) -> u32;
 
-    /// Fits up to 512 marks in one piece, with the tangents at its two ends given, as flo_curves' fit_curve_cubic does.
+    /// Fits up to 512 marks in one piece, with the tangents at its two ends given, as flo_curves' fit_curve_cubic does. They are unit vectors from
+    /// the first and the last mark towards the curve's controls, so the second one points backwards.
     pub fn wes_fit_curve_cubic(
         marks: *const f64, marks_len: usize, start_x: f64, start_y: f64, end_x: f64, end_y: f64, tolerance: f64, curves: *mut f64, curves_len: usize,
         firsts: *mut u32, firsts_len: usize, worsts: *mut u32, worsts_len: usize, params: *mut f64, params_len: usize, made: *mut usize,
@@ -114,7 +115,7 @@ extern "C" {
     /// The point at t of a line of two points.
     pub fn wes_de_casteljau2(curve: *const [f64; 4], t: f64, point: *mut [f64; 2]) -> u32;
 
-    /// The four coefficients of a curve in x (dimension 0) or in y (dimension 1).
+    /// The four coefficients of a curve, that of the cube first, in x (dimension 0) or in y (dimension 1).
     pub fn wes_bezier_coefficients(curve: *const [f64; 8], dimension: usize, coefficients: *mut [f64; 4]) -> u32;
 
     /// The two parts of a curve that is cut at t.
