@@ -281,7 +281,7 @@ type Timed = fn(&[f64]) -> Vec<f64>;
 const ROOTS: [(&str, Timed); 2] = [("apart", time_apart), ("chained", time_chained)];
 
 /// Each of a number of its own, so that the next one is begun before this one is done. The numbers are hidden from the compiler as a slice: hidden
-/// one by one, each goes through memory, which was seen to take the port's calls two to three times as long and the Rust's instruction no longer.
+/// one by one, each goes through memory, which was seen to take the port's calls two to three times as long and the Rust's instruction hardly longer.
 fn time_apart(numbers: &[f64]) -> Vec<f64> {
     let mut rust = || for x in black_box(numbers) { black_box(x.sqrt()); };
     let mut port = || for x in black_box(numbers) { black_box(port_root(*x)); };
@@ -317,6 +317,7 @@ fn main() {
     hold_all(&calls, &outlines, &nearest, &roots, &mut room);
     let taken = |call: &'_ Call, o: &Outline| o.marks.len() <= call.most;
     let fits = calls.iter().flat_map(|call| outlines.iter().filter(|o| taken(call, o)).map(move |o| Item::Fit(call, o)));
-    let others = nearest.iter().map(|(family, asked)| Item::Nearest(family, asked)).chain(ROOTS.iter().map(|(family, timed)| Item::Roots(family, *timed, &roots)));
-    time_all(&fits.chain(others).collect::<Vec<_>>(), &mut room);
+    let nearest_items = nearest.iter().map(|(family, asked)| Item::Nearest(family, asked));
+    let root_items = ROOTS.iter().map(|(family, timed)| Item::Roots(family, *timed, &roots));
+    time_all(&fits.chain(nearest_items).chain(root_items).collect::<Vec<_>>(), &mut room);
 }
