@@ -1,7 +1,7 @@
 #!/usr/bin/env python3
 """generate.py [SEED]: prints cases for replay and for the Rust, one a line; the same seed gives the same lines.
 
-Single curves, nearest points, outlines (smooth, noisy, long, damaged), distances, numbers of blocks and their sizes, lists for the checker, and both sides of every limit.
+Single curves, nearest points, outlines (smooth, noisy, long, damaged), distances, numbers of blocks and their sizes, lists for the checker, path data, and both sides of every limit.
 """
 import math
 import os
@@ -16,6 +16,9 @@ from shared.checker import kept_for
 from shared.command import Stop, run
 from shared.ends import ENDS, TOLERANCES
 from shared.meetings import ABOUTS
+from shared.path_cases import TEXTS, meeting, random_list, random_number, random_soup, random_text
+from shared.path_cases import lists as path_lists
+from shared.path_data import Refused, exported
 from shared.ties import CURVE, PARAMS, TIES
 from shared.words import word_of
 
@@ -386,6 +389,24 @@ def lists():
     yield from tied_records()
 
 
+def path_line(ring, curves_):
+    return line('export RING' if ring else 'export OPEN', len(curves_), *curves_)
+
+
+def paths():
+    """Lists to export, and each text that comes of one to import; texts in every form of the grammar, and beside it. Bytes above 127 are not for cases in ASCII."""
+    made = [*path_lists(), *(random_list(hand) for _ in range(400)), (False, meeting([random_number(hand) for _ in range(2 + 6 * 300)])), (True, meeting([random_number(hand) for _ in range(2 + 6 * 500)], True))]
+    for ring, curves_ in made:
+        yield path_line(ring, curves_)
+        try:
+            yield f'import {exported(curves_, ring)}'
+        except Refused:
+            pass
+    for text in [*TEXTS, *(random_text(hand) for _ in range(800)), *(random_soup(hand) for _ in range(400))]:
+        if text.isascii():
+            yield f'import {text}'
+
+
 def nonsense():
     yield 'bezier 3FF0000000000000'
     yield 'sqrt'
@@ -418,13 +439,22 @@ def nonsense():
         yield checked_record(ring, 0.5, *sound, [4294967296], [0.0])
     yield 'check_worst'
     yield 'check_worsts 3FF0000000000000 0 0'
+    yield 'import'
+    yield 'imports M 1 2'
+    yield 'export'
+    yield 'export OPEN'
+    yield 'export CLOSED 0'
+    yield 'export OPEN 1'
+    yield 'export OPEN 01 ' + ' '.join(['0000000000000000'] * 8)
+    yield 'export RING 2 ' + ' '.join(['0000000000000000'] * 8)
+    yield 'export RING 1 ' + ' '.join(['0000000000000000'] * 9)
 
 
 def main(words):
     if len(words) > 1 or not all(text.isdecimal() for text in words):
         raise Stop('usage: compare/generate.py [SEED], SEED a whole number')
     hand.seed(int(words[0]) if words else 1)
-    for part in (single, near, outlines, ends, joints, rings, limits, measures, lists, sizes, nonsense):
+    for part in (single, near, outlines, ends, joints, rings, limits, measures, lists, sizes, paths, nonsense):
         for case in part():
             print(case)
     return 0

@@ -93,13 +93,13 @@ class Case(unittest.TestCase):
         self.assertEqual((got, out, said.count('\n')), (status, '', 1), said)
         self.assertIn(piece, said)
 
-    def program(self, name, data):
-        """What one of the port's programs writes to these bytes."""
-        return subprocess.run([in_copy('tools/run_program'), name], input=data, capture_output=True, check=True).stdout
+    def program(self, name, data, *words_):
+        """What one of the port's programs writes to these bytes, with these words behind its name."""
+        return subprocess.run([in_copy('tools/run_program'), name, *words_], input=data, capture_output=True, check=True).stdout
 
     def answers(self, lines):
         """What the port says to lines of replay."""
-        return self.program('replay', ''.join(line + '\n' for line in lines).encode('ascii')).decode('ascii').split('\n')[:-1]
+        return self.program('replay', ''.join(line + '\n' for line in lines).encode('latin-1')).decode('ascii').split('\n')[:-1]
 
 
 def main():

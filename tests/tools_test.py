@@ -10,19 +10,22 @@ import importlib.util
 import itertools
 import math
 import os
+import random
 import re
 import shutil
 import subprocess
 import sys
+from fractions import Fraction
 
 sys.dont_write_bytecode = True
 
 import support
-from support import ROOT, SIDES, TRIANGLE, in_copy, read, write
+from support import ROOT, SIDES, TRIANGLE, in_copy, read, straight, write
 
-from shared import house
+from shared import house, path_cases
 from shared.blocks import size_of
 from shared.checker import FAULT_A, FAULT_B, FAULT_C, FAULT_D, FAULT_E, PASSED, REFUSED, check, kept_for
+from shared.path_data import Refused, exported, imported, written
 from shared.table import fit_refusal
 from shared.ties import CURVE, PARAMS, TIES
 from shared.words import NAN, numbers, pattern_of, patterns_of, word_of, words
@@ -158,6 +161,7 @@ class Compare(Case):
         sizes = {len(line[2:]) / 2 for line in lines if line[0] == 'ring'}
         self.assertLessEqual({0, 0.5, 1, 2, 3, 4, 199, 200, 201, 4095, 4096, 4097}, sizes)
         self.assertGreater(sum(line[0] == 'check_ring' for line in lines), 1000)
+        self.assertGreater(min(sum(line[0] == kind for line in lines) for kind in ('export', 'import')), 500)
         for kind in ('check_worst', 'check_worst_ring'):
             said = self.answers([' '.join(line) for line in lines if line[0] == kind])
             faults = {answer[:7] for answer in said if answer.startswith('FAULT')}
@@ -474,6 +478,66 @@ class Other(Case):
         finally:
             write('crates.txt', crates)
             write('docs/MAP.md', page)
+
+
+class Paths(Case):
+    """Path data by the document's text (tools/shared/path_data.py), and the port beside it."""
+
+    def refusal(self, call, *rest):
+        try:
+            call(*rest)
+        except Refused as refused:
+            return refused.refusal
+        return 0
+
+    def test_numbers(self):
+        for value, text in (
+                (0.0, '0'), (-0.0, '0'), (0.5, '0.5'), (5.0, '5'), (0.12, '0.12'), (120.0, '120'), (0.0625, '0.063'), (-0.0625, '-0.063'), (0.1875, '0.188'), (0.0005, '0.001'), (-0.0005, '-0.001'),
+                (1.0005, '1'), (-0.0004999, '0'), (5e-324, '0'), (1e9, '1000000000'), (-999999999.9999, '-1000000000'), (999999999.999, '999999999.999'), (10.01, '10.01'), (7.0, '7')):
+            self.assertEqual(written(value), text)
+
+    def test_numbers_by_fractions(self):
+        hand = random.Random(21)
+        for value in path_cases.NUMBERS + [path_cases.random_number(hand) for _ in range(3000)]:
+            above = abs(Fraction(value)) * 1000 + Fraction(1, 2)
+            count = above.numerator // above.denominator
+            text = written(value)
+            self.assertEqual(Fraction(text), Fraction(count, 1000) * (-1 if value < 0 else 1))
+            self.assertRegex(text, r'^(0|-?0\.[0-9]{0,2}[1-9]|-?[1-9][0-9]*(\.[0-9]{0,2}[1-9])?)$')
+
+    def test_grammar(self):
+        for texts, want in ((path_cases.TAKEN, 0), (path_cases.OUTSIDE, 11), (path_cases.LARGE, 10), (path_cases.BOTH, 11)):
+            for text in texts:
+                self.assertEqual(self.refusal(imported, text), want, text)
+
+    def test_lines(self):
+        self.assertEqual(imported('M0 0L4 0 4 4Z'), ([straight((0.0, 0.0), (4.0, 0.0)), straight((4.0, 0.0), (4.0, 4.0)), straight((4.0, 4.0), (0.0, 0.0))], True))
+        self.assertEqual([len(imported(text)[0]) for text in ('M0 0', 'M0 0Z', 'M0 0 0 0Z', 'M0 0L1 0L-0 .0Z', 'M0 0L1 0L0 .001Z')], [0, 0, 1, 2, 3])
+        self.assertEqual([word_of(value) for value in imported('M-0-0-0-0')[0][0]], [word_of(0.0)] * 8)
+        self.assertEqual((self.refusal(imported, 'M0 0 1 1', 7), self.refusal(imported, 'M0 0 1 1', 8), self.refusal(imported, 'M0 0 1 1e', 7)), (4, 0, 11))
+
+    def test_order_of_refusals(self):
+        arch, beyond = path_cases.ARCH, path_cases.BEYOND
+        for ring, curves, want in (
+                (False, [arch[:2] + [beyond] + arch[3:], arch[:5] + [math.nan] + arch[6:]], 5), (False, [arch, arch[:5] + [-beyond] + arch[6:]], 10), (False, [arch, arch], 12), (True, [arch], 12), (False, [], 12), (False, [arch], 0)):
+            self.assertEqual(self.refusal(exported, curves, ring), want)
+
+    def test_there_and_back(self):
+        """What is exported is imported as so many curves that meet, each number the nearest to its decimal, and exported again to the same text."""
+        hand, trips = random.Random(22), 0
+        for ring, curves in [*path_cases.lists(), *(path_cases.random_list(hand) for _ in range(500))]:
+            if not self.refusal(exported, curves, ring):
+                text, trips = exported(curves, ring), trips + 1
+                again, closed = imported(text)
+                self.assertEqual((len(again), closed, exported(again, ring)), (len(curves), ring, text))
+                self.assertEqual([written(value) for curve in again for value in curve], [written(value) for curve in curves for value in curve])
+        self.assertGreater(trips, 300)
+
+    def test_port(self):
+        from vectors import paths
+        for rows in (paths.rows(), list(paths.random_rows(23, 1500))):
+            for (line, want), said in zip(rows, self.answers([line for line, _ in rows])):
+                self.assertEqual(said, want, line[:300])
 
 
 def page(name):

@@ -23,8 +23,8 @@ from vectors import creators, files, lines, lists, near, outlines, roots, single
 
 MAKERS = {
     'sqrt_cases': roots.make, 'eval_cases': single.make, 'fit_cases': outlines.make, 'check_cases': lists.make, 'nearest_cases': near.make,
-    'house_cases': files.make, 'listing': files.make_listing, 'save': files.make_save, 'judge': files.make_judge, 'replay': lines.make, 'creators': creators.make,
-    'size_cases': sizes.make}
+    'house_cases': files.make, 'listing': files.make_listing, 'save': files.make_save, 'judge': files.make_judge, 'path_out': files.make_path_out, 'path_in': files.make_path_in,
+    'replay': lines.make, 'creators': creators.make, 'size_cases': sizes.make}
 ASK_NOTHING = ('sqrt_cases', 'size_cases', 'creators')
 USAGE = 'usage: tools/make_vectors.py [FLO_CURVES] [PROGRAM..] [--write], PROGRAM one of ' + ' '.join(MAKERS)
 

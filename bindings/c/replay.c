@@ -178,6 +178,34 @@ static void check_ring_case(void) { check_marks(true, false); }
 static void check_worst_case(void) { check_marks(false, true); }
 static void check_worst_ring_case(void) { check_marks(true, true); }
 
+/* ---- Path data */
+
+static void export_case(void) {
+    bool ring = at[1] == 'R';
+    size_t size = 77;
+    at += 5;
+    size_t k = take_count();
+    take_numbers(curves, 8 * k);
+    say_count(wes_export_path(false, curves, 8 * k, k, ring, (uint8_t *)answer + 2, sizeof answer - 2, &size));
+    if (answer[0] != '0') return;
+    *answer_end++ = ' ';
+    answer_end += size;
+}
+
+/* All that is behind the blank is the text. */
+static void import_case(void) {
+    size_t count;
+    bool closed;
+    uint32_t number = wes_import_path((const uint8_t *)at + 1, (size_t)(line_end - at - 1), curves, 8 * CURVES, &count, &closed);
+    at = line_end;
+    say_count(number);
+    if (number != 0) return;
+    say_count(count);
+    memcpy(answer_end, closed ? " CLOSED" : " OPEN", closed ? 7 : 5);
+    answer_end += closed ? 7 : 5;
+    for (size_t i = 0; i < 8 * count; i++) say_number(curves[i]);
+}
+
 /* ---- Kinds */
 
 typedef struct {
@@ -207,6 +235,8 @@ static Kind kinds[] = {
     {"check_worst_ring", check_worst_ring_case, 0},
     {"blocks", blocks_case, 0},
     {"size", size_case, 0},
+    {"export", export_case, 0},
+    {"import", import_case, 0},
 };
 
 enum { KINDS = COUNT(kinds) };

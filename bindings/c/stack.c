@@ -75,8 +75,23 @@ static void curves_file(void) {
     file_size = compose(file, tolerance, marks, n, 9, made, firsts, worsts, curves, params);
 }
 
+/* Curves from mark to mark, which meet, and the text of them. */
+static void drawn_list(void) {
+    made = LONG - 1;
+    for (size_t j = 0; j < made; j++)
+        for (size_t i = 0; i < 4; i++) memcpy(eight + 8 * j + 2 * i, marks + 2 * (j + i / 2), 2 * sizeof *marks);
+}
+
+static void export_path(void) { answer = wes_export_path(false, eight, 8 * LONG, made, false, text, sizeof text, &size); }
+
+static void drawn_text(void) {
+    drawn_list();
+    export_path();
+}
+
 /* ---- The calls */
 
+static void import_path(void) { answer = wes_import_path(text, size, curves, 9 * LONG, &made, &nine); }
 static void fit_joined(void) { fit_by(JOINED); }
 static void fit_ring(void) { fit_by(RING); }
 static void fit_curve(void) { fit_by(SOURCE); }
@@ -161,6 +176,8 @@ static const struct {
     {"wes_list_outline", short_file, list_outline},
     {"wes_judge_file", curves_file, judge_file},
     {"wes_save_fit", marks_file, save_fit},
+    {"wes_export_path", drawn_list, export_path},
+    {"wes_import_path", drawn_text, import_path},
     {"wes_max_points_to_fit", no_list, max_points_to_fit},
     {"wes_joined_blocks", no_list, joined_blocks},
     {"wes_sqrt", no_list, square_root},

@@ -3,7 +3,7 @@
    ANSWERS. A call answers 0, or the number of a refusal (WES_TOO_FEW and so on; README.md has them all). The checkers also answer a fault, which is
    its letter: 'A' to 'E'. Where a call refuses, every single value and every array of fixed length that it hands back is zeros (`made`, `point`, ..).
    Slices stay as they were, but 6 leaves every number of the slices lent to a fit zero. Where several refusals would do, the first of 9, 3, 1, 2, 4, 5 is
-   given, and 6 or 8 only where none of these is; wes_write_file has an order of its own.
+   given, and 6 or 8 only where none of these is; wes_write_file, wes_export_path and wes_import_path have orders of their own.
 
    RANGES, behind refusal 5. A coordinate is finite and at most 1,000,000 in magnitude, a tangent's component at most 2; a tolerance is finite and not below
    zero; a parameter or an estimate is finite; a dimension is 0 or 1; there are at most 64 rounds of Newton's.
@@ -53,7 +53,10 @@ enum {
     WES_OUT_OF_RANGE = 5,  /* an input number is out of range */
     WES_NOT_FINITE = 6,    /* an operation of the run gave NaN or infinity */
     WES_TOO_DEEP = 8,      /* the nearest search goes too deep */
-    WES_BADLY_FORMED = 9   /* a house file is badly formed */
+    WES_BADLY_FORMED = 9,  /* a house file is badly formed */
+    WES_TOO_LARGE = 10,    /* a number of path data, or on the way to it, is above 1,000,000,000 in magnitude */
+    WES_NO_PATH = 11,      /* a text is not path data that is read */
+    WES_NOT_JOINED = 12    /* no curves, or curves that do not meet bit for bit, on the way to path data */
 };
 
 /* ---- Fits: marks to curves.
@@ -172,6 +175,22 @@ uint32_t wes_judge_file(const uint8_t *file, size_t file_len, uint8_t *restrict 
 /* Fits a file's marks and writes them with their curves, as a file. 434,120 bytes are room for every file, and no longer one is taken; a refused one gives the
    text "REFUSED n\n" instead. */
 uint32_t wes_save_fit(const uint8_t *file, size_t file_len, uint8_t *restrict out, size_t out_len, size_t *restrict size);
+
+/* ---- Path data, as SVG 1.1 has it: one subpath of absolute M, L, C and Z. */
+
+/* Writes `count` curves as path data, in the first `size` bytes of `out`: "M x y", for each curve " C x1 y1 x2 y2 x y", and " Z" for a ring; one blank between
+   words, no newline and no zero behind it. Each number is the exact one rounded to thousandths, halves away from zero, with no needless zero, and never -0.
+   `nine` is as for wes_check; the ninth number of a curve is neither written nor looked at. 92 bytes for each curve and 33 more are room for every text.
+   Refusals: 5 (here only a number that is not finite), 10, 12, 4 (also a `count` that the slice does not hold), in this order, each of all curves first. */
+uint32_t wes_export_path(bool nine, const double *curves, size_t curves_len, size_t count, bool ring,
+                         uint8_t *restrict out, size_t out_len, size_t *restrict size);
+
+/* Reads path data into curves of eight numbers, `count` of them, and says whether a Z closed it. Numbers have three places at most and no exponent; each becomes the
+   nearest number to its decimal, a minus zero plus zero. White space and commas are as SVG's grammar has them, pairs behind that of M are lines, and there is one M alone.
+   A line becomes the curve that a fit makes of two marks; Z adds one back to the M, if the path is not there already. "M 1 2" is a path of no curves.
+   Eight numbers for each curve are room enough, and a text has at most a quarter as many curves as bytes. Refusals: 11, 10, 4, in this order. */
+uint32_t wes_import_path(const uint8_t *text, size_t text_len, double *restrict curves, size_t curves_len,
+                         size_t *restrict count, bool *restrict closed);
 
 /* ---- Numbers. These three refuse nothing. */
 

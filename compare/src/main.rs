@@ -3,6 +3,7 @@
 //! It refuses only where the crate can't be asked: an odd number of coordinates (3), fewer than two marks, or three of a ring (1), a dimension above 1 (5).
 //! A panic of the crate is PANIC, a nearest search that does not end is ENDLESS.
 //! After a tab may follow what the comparison wants to know: `lost` where an operation on the way was not finite, `depth D` of a search.
+mod path;
 use flo_curves::bezier::*;
 use flo_curves::line::*;
 use std::cell::{Cell, RefCell};
@@ -245,6 +246,7 @@ fn answer(line: &str) -> Option<String> {
     let show = |v: &[Mark]| -> String { let f: Vec<f64> = v.iter().flat_map(|m| [m.0.0, m.0.1]).collect(); format!("0{}", hex(&f)) };
     let wanted = match kind {
         "sqrt" => 1, "basis" | "de_casteljau4" | "subdivide4" | "coefficients" => 9, "de_casteljau3" => 7, "de_casteljau2" => 5, "refine" => 12, "nearest" => 10, "distance" => 11, "blocks" | "size" => 1,
+        "export" => return path::export(w),
         "direct" => w.len().max(5), "source" | "loop" | "joined" | "ring" | "check" | "check_ring" | "check_worst" | "check_worst_ring" => w.len().max(1), _ => return None,
     };
     if w.len() != wanted { return None; }
@@ -316,7 +318,11 @@ fn all() {
     for line in stdin().lock().split(b'\n') {
         let line = line.expect("standard input");
         LOST.with(|l| l.set(false));
-        let said = std::panic::catch_unwind(|| str::from_utf8(&line).ok().and_then(answer).unwrap_or("BAD".into())).unwrap_or("PANIC".into());
+        let said = std::panic::catch_unwind(|| match line.strip_prefix(b"import ") {
+            Some(text) => path::import(text), // a text may have any bytes
+            None => str::from_utf8(&line).ok().and_then(answer).unwrap_or("BAD".into()),
+        })
+        .unwrap_or("PANIC".into());
         let lost = LOST.with(|l| l.get()) && !said.contains('\t');
         writeln!(out, "{}{}", said, if lost { "\tlost" } else { "" }).expect("standard output");
     }

@@ -7,7 +7,7 @@ from bench import files, outline, programs, said
 from bench.several import Done, go_through
 from shared.command import Stop, run, say
 
-VERBS = ('fit', 'check', 'plot', 'explain')
+VERBS = ('fit', 'check', 'plot', 'path', 'explain')
 CURVE_HEAD = ('curve', 'first mark', 'last mark', 'worst mark', 'distance')
 HEAD = ('marks', 'curves', 'blocks', 'block size', 'largest distance', 'at mark', 'under curve')
 
@@ -195,6 +195,24 @@ def plot(words):
     return 1
 
 
+# ---- path
+
+def path(words):
+    """The path data goes out as it is, or in a file of its own; of a refused outline nothing does, for a cutter may be reading."""
+    programs.ready()
+    try:
+        listed, _ = fitted(words.file, words)
+        data = outline.path_data(listed)
+    except outline.Refused as refused:
+        raise Stop(f'{files.shown(words.file)}: {said.refusal(refused.refusal)}', 1)
+    if words.svg:
+        from bench.cutter import wrapped
+        listed.name = os.path.basename(listed.name)
+        data = wrapped(listed, data)
+    sys.stdout.buffer.write((data + '\n').encode('utf-8'))
+    return 0
+
+
 # ---- explain
 
 def explain(words):
@@ -226,7 +244,7 @@ def add_verb(verbs, call, words, example):
 
 
 def parser():
-    whole = Parser(prog='wesalondo', allow_abbrev=False, description='Fits the marks of house files by smooth curves, checks curves and draws them.',
+    whole = Parser(prog='wesalondo', allow_abbrev=False, description='Fits the marks of house files by smooth curves, checks curves, draws them and writes them for a cutter.',
                    epilog='example: wesalondo fit examples/cover.house. The programs behind it are proved and built on first use. '
                           'Exit status: 0 all good; 1 something is refused or faulty; 2 something could not be run.')
     verbs = whole.add_subparsers(metavar='VERB', required=True, parser_class=Parser)
@@ -252,8 +270,14 @@ def parser():
     verb.add_argument('--out', metavar='OUT.svg', help='the file to write; without it the drawing goes to standard output')
     verb.add_argument('--tiles', metavar='A4|A3|WxH', help='an HTML file with a page for every sheet of this paper, to print and glue; W and H in millimetres')
 
+    verb = add_verb(verbs, path, 'Fits a file and prints its curves as path data for a cutter: an absolute M, a C for each curve, Z for a closed outline; in millimetres to three places.',
+                    'wesalondo path cover.house --ring --svg > cover.svg')
+    verb.add_argument('file', metavar='FILE', help='a house file, or - for standard input; curves that it has are not looked at')
+    verb.add_argument('--ring', action='store_true', help='a closed outline, which comes back to its first mark')
+    verb.add_argument('--svg', action='store_true', help='print an SVG file with the path, which a browser or Inkscape opens at true scale')
+
     verb = add_verb(verbs, explain, 'Says what a refusal or a fault means and what to do; all of them without a number.', 'wesalondo explain 5')
-    verb.add_argument('number', metavar='N', nargs='?', help='a refusal, 1 to 6, 8 or 9, or a fault, A to E')
+    verb.add_argument('number', metavar='N', nargs='?', help='a refusal, 1 to 6 or 8 to 12, or a fault, A to E')
     return whole
 
 

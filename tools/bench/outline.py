@@ -11,6 +11,7 @@ from shared.words import number, numbers, pattern_of, word, words
 WORD = '[0-9A-F]{16}'
 LONG = 5  # marks under a curve that is called long
 PIECE = f'([0-9]{{1,4}}) ([0-9]{{1,4}})((?: {WORD}){{9}})'  # a curve's first mark, its worst mark, and nine numbers
+DECIMAL = r'-?[0-9]+(?:\.[0-9]{1,3})?'  # a number of path data
 VERDICT = '(PASSED) ([0-9]+) ([0-9]+)|(FAULT) ([A-E]) ([0-9]+) ([0-9]+)|(NO CURVES) ([0-9]+)|(REFUSED) ([1-9])'
 
 
@@ -231,3 +232,12 @@ def own(name, data):
 def listing(listed):
     """The lines that the program `listing` prints of a fit."""
     return [f'OUTLINE {len(listed.marks)} {len(listed.curves)}'] + [f'PIECE {first} {words(eight)}' for first, eight in zip(listed.firsts, listed.held.eights())]
+
+
+def path_data(listed):
+    """The path data of a fit."""
+    numbers_ = words(pattern for eight in listed.held.eights() for pattern in eight)
+    (answer,) = ask([f'export {"RING" if listed.ring else "OPEN"} {len(listed.curves)} {numbers_}'])
+    if re.fullmatch('[1-9][0-9]?', answer):
+        raise Refused(answer)
+    return value(answer, f'M(?: {DECIMAL}){{2}}(?: C(?: {DECIMAL}){{6}}){{{len(listed.curves)}}}{" Z" * listed.ring}', 'path data')

@@ -47,14 +47,14 @@ PAST = 'not given any more'
 def rows():
     """The tables of refusals and of faults: for each number or letter what it is in short, what it means and what to do."""
     with open(PAGE, encoding='utf-8') as file:
-        found = re.findall(r'^\| ([1-9A-E]) \| (.+?) \| (.+?) \| (.+?) \|$', file.read(), re.M)
+        found = re.findall(r'^\| ([1-9][0-9]?|[A-E]) \| (.+?) \| (.+?) \| (.+?) \|$', file.read(), re.M)
     return {name: rest for name, *rest in found}
 
 
 def row(name):
     known = rows()
     if name not in known:
-        raise Stop(f'there is no {name!r}: the refusals are 1 to 6, 8 and 9, and the faults A to E' if known else f'{PAGE} has no table of refusals')
+        raise Stop(f'there is no {name!r}: the refusals are 1 to 6 and 8 to 12, and the faults A to E' if known else f'{PAGE} has no table of refusals')
     return known[name]
 
 
@@ -66,7 +66,7 @@ def refusal(number):
 
 def given():
     """The numbers and letters that are given, in their order."""
-    return sorted(name for name, (short, *_) in rows().items() if short != PAST)
+    return sorted((name for name, (short, *_) in rows().items() if short != PAST), key=lambda name: (name.isalpha(), len(name), name))
 
 
 def explained(name):

@@ -1,9 +1,9 @@
-"""house_cases, listing, save and judge: house files that are listed, read and written again, damaged, fitted and judged.
+"""house_cases, listing, save, judge, path_out and path_in: house files that are listed, read and written again, damaged, fitted, judged, and written as path data.
 
 A record is eight words (what to do, how many bytes the file has, the room in each lent slice) and the file. Files are taken apart record by record
 (shared/house.py), and refusals are by the document's order; the curves of a listing are those of the Rust's joined fit. Two outlines
 are read from the kept input. `listing` is the document's worked example, in its own words. `save` is given an example, and has to write the file of the Rust's
-curves; `judge` is given that file."""
+curves; `judge` is given that file. `path_out` is given the same example, and `path_in` the path data of the Rust's ring fit of another."""
 import math
 import os
 import struct
@@ -11,6 +11,7 @@ import struct
 from shared import house, kept
 from shared.checker import PASSED, check
 from shared.command import Stop
+from shared.path_data import exported, imported
 from shared.table import LARGEST, MOST_DIRECT, MOST_MARKS
 from shared.words import INFINITY, MINUS, NAN, bits, number, numbers, patterns_of, words
 from vectors import outlines
@@ -278,13 +279,17 @@ def make_listing(rust):
 
 # ---- an example, with the Rust's curves in it
 
-SAVED = os.path.join(kept.ROOT, 'examples', 'hood.house')  # three blocks
+SAVED, CLOSED = 'hood', 'tender'  # three blocks; a cover that comes back to its first mark
+
+
+def example(name):
+    with open(os.path.join(kept.ROOT, 'examples', f'{name}.house'), 'rb') as file:
+        return file.read()
 
 
 def saved(rust):
     """The example, and the file of the Rust's joined fit of it."""
-    with open(SAVED, 'rb') as file:
-        data = file.read()
+    data = example(SAVED)
     held = house.parse(data)
     said = outlines.Lists(rust.answer_all([joined_line(data)])[0])
     return data, house.File(held.tolerance, held.marks, said.curves, said.params, said.worsts)
@@ -303,3 +308,20 @@ def make_judge(rust):
     if verdict[0] != PASSED:
         raise Stop("the Rust's list does not pass", 1)
     return kept.Made('judge', fitted.bytes(), f'PASSED {fitted.count} {len(fitted.curves)}\n', 1, 1)
+
+
+def make_path_out(rust):
+    data, fitted = saved(rust)
+    return kept.Made('path_out', data, exported([numbers(eight) for eight in fitted.eights()], False) + '\n', 1, 1)
+
+
+def make_path_in(rust):
+    """A closed outline, as path data with a line end."""
+    held = house.parse(example(CLOSED))
+    said = outlines.Lists(rust.answer_all([outlines.Outline('ring', held.tolerance, held.marks).line()])[0])
+    text = exported([numbers(nine[:8]) for _, nine in said.curves], True) + '\n'
+    curves, closed = imported(text)
+    if not closed or len(curves) != len(said.curves):
+        raise Stop('path data is not read as what was written', 1)
+    pieces = [f'PIECE {k} {words(patterns_of(*curve))}\n' for k, curve in enumerate(curves)]
+    return kept.Made('path_in', text.encode('ascii'), f'PATH {len(curves)} CLOSED\n' + ''.join(pieces), 1, 1)

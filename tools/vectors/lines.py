@@ -1,7 +1,8 @@
 """replay: lines of cases, and lines that are none.
 
 Square roots, nearest points and border cases are those of the other programs; single curves, outlines and lists that are read from the kept
-input are asked of the Rust again, and so are distances; how many blocks there are, and their size, is counted by the document (shared/blocks.py); lists with one thing changed are judged by the document's rules (shared/checker.py). A line that is no case is
+input are asked of the Rust again, and so are distances; how many blocks there are, and their size, is counted by the document (shared/blocks.py); lists with one thing changed are judged by the document's rules (shared/checker.py), and
+path data is by a module of its own (shared/path_data.py). A line that is no case is
 BAD; the Rust side, which reads lines too, has to say so as well, but for what is only too long for the program. The last line has no newline."""
 import math
 
@@ -11,7 +12,7 @@ from shared.checker import PASSED
 from shared.command import Stop
 from shared.table import FITS
 from shared.words import INFINITY, MINUS, NAN, bits, numbers, pattern_of, patterns_of, word, word_of, words
-from vectors import lists, near, outlines, roots, single
+from vectors import lists, near, outlines, paths, roots, single
 
 NAME = 'replay'
 ROOM = 1 << 20     # bytes of a line that the program has room for
@@ -255,8 +256,9 @@ def miscounted():
 def bad():
     yield from ['', ' ', '  ', 'BAD', 'x', '0', HALF]
     yield from ['sqrt', 'basis', 'coefficients', 'refine', 'nearest', 'distance', 'blocks', 'size', *FITS, *CHECKS]
-    for line in GOOD:
+    for line in [*GOOD, paths.GOOD]:
         yield from misspelt(line)
+    yield from paths.bad()
     yield from [f'direct {HALF} {values(1, 0, -1)}', f'direct {HALF}']
     yield from miscounted()
     yield from [f'sqrt {HALF}\0', '\0', 'sqrt\xa0' + HALF, '\x7f' * 200, f'sqrt {HALF} ', f'sqrt {HALF} ' + ' ' * 70000]
@@ -315,7 +317,8 @@ def made_rows():
     """The cases that are made here or by the other programs' modules, in their parts."""
     return {
         'roots': root_lines(), 'curve borders': to_ask(curve_borders()), 'nearest': nearest_lines() + [(line, '5') for line in nearest_borders()],
-        'outline borders': to_ask(outline_borders()), 'whole': to_ask(whole()), 'roundings': to_ask(roundings()), 'nans': list(nans()), 'distances': to_ask(distance_lines()), 'blocks': list(block_lines()), 'sizes': list(size_lines())}
+        'outline borders': to_ask(outline_borders()), 'whole': to_ask(whole()), 'roundings': to_ask(roundings()), 'nans': list(nans()), 'distances': to_ask(distance_lines()), 'blocks': list(block_lines()), 'sizes': list(size_lines()),
+        'paths': paths.rows()}
 
 
 def collected_lists(lines):
@@ -352,7 +355,7 @@ def cases(before):
     claims = kept.at_least(collected_lists(by_kind['lists']), KEPT_LISTS, NAME)
     rows = made['roots'] + to_ask(curves) + made['curve borders'] + made['nearest']
     rows += to_ask(fits) + made['outline borders'] + made['whole'] + made['roundings'] + made['nans'] + made['distances'] + made['blocks'] + made['sizes']
-    return rows + list(list_rows(claims))
+    return rows + list(list_rows(claims)) + made['paths']
 
 
 def answered(rows, rust):
@@ -367,12 +370,12 @@ def hold(lines, rust):
             raise Stop(f'the Rust side takes a line that is no case: {line[:200]!r}', 1)
 
 
-def hold_lists(rows, rust):
-    """The Rust side has a checker of its own, which says the same of every list."""
-    judged_rows = [row for row in rows if row[0].split(' ')[0] in CHECKS]
-    for (line, want), (said, _) in zip(judged_rows, rust.ask([line for line, _ in judged_rows])):
+def hold_alike(rows, kinds, name, rust):
+    """The Rust side has a checker of its own, and export and import of its own, which say the same of every line."""
+    wanted = [row for row in rows if row[0].split(' ')[0] in kinds]
+    for (line, want), (said, _) in zip(wanted, rust.ask([line for line, _ in wanted])):
         if said != want:
-            raise Stop(f'the two checkers differ, {said} and {want}, on: {line[:200]!r}', 1)
+            raise Stop(f'the two {name} differ, {said[:200]} and {want[:200]}, on: {line[:200]!r}', 1)
 
 
 def hold_roundings(rust):
@@ -388,7 +391,8 @@ def make(rust):
     end = long_lines() + LAST
     rows = cases(kept.without(before, wrong + [line for line, _ in end]))
     hold(wrong, rust)
-    hold_lists(rows, rust)
+    hold_alike(rows, CHECKS, 'checkers', rust)
+    hold_alike(rows, paths.KINDS, 'readers and writers of path data', rust)
     hold_roundings(rust)
     found = mixed(answered(rows, rust), [(line, 'BAD') for line in wrong]) + end
     stdin = '\n'.join(line for line, _ in found).encode('latin-1')

@@ -18,6 +18,7 @@
 //!   flo_curves ([coming from flo_curves](coming_from_flo_curves)).
 //! - Checkers, of any list of curves: [`Fit::check`], [`check_worst`], [`check_list`] and others.
 //! - One curve: [`basis`], [`subdivide4`], [`nearest_point_on_curve`] and others.
+//! - Path data for a cutter: [`Fit::export_path`], [`export_path`], [`import_path`].
 //! - House files: [`read_file`], [`write_file`], [`save_fit`], [`judge_file`], [`list_outline`].
 //! - [`sys`] has the library's own calls.
 //!
@@ -41,6 +42,7 @@ mod fit;
 mod fitted;
 mod house;
 mod numbers;
+mod path;
 mod point;
 mod refusal;
 pub mod sys;
@@ -59,6 +61,7 @@ pub use fit::{fit_curve, fit_curve_cubic, fit_curve_loop, fit_joined, fit_ring};
 pub use fitted::{Fit, Piece, Pieces};
 pub use house::{read_file, write_file, House};
 pub use numbers::{joined_blocks, max_points_to_fit, sqrt};
+pub use path::{export_path, import_path, Path};
 pub use point::{Curve, Point};
 pub use refusal::{Refusal, UnknownNumber};
 pub use text::{judge_file, list_outline, save_fit, Judgement};

@@ -23,10 +23,16 @@ pub enum Refusal {
     TooDeep,
     /// A house file is badly formed, or a house does not fit into a file.
     BadlyFormed,
+    /// A number of path data, or on the way to it, is above 1,000,000,000 in magnitude.
+    TooLarge,
+    /// A text is not path data that is read.
+    NoPath,
+    /// There are no curves, or they do not meet bit for bit, on the way to path data.
+    NotJoined,
 }
 
 impl Refusal {
-    const ALL: [Refusal; 8] = [
+    const ALL: [Refusal; 11] = [
         Refusal::TooFew,
         Refusal::TooMany,
         Refusal::Odd,
@@ -35,6 +41,9 @@ impl Refusal {
         Refusal::NotFinite,
         Refusal::TooDeep,
         Refusal::BadlyFormed,
+        Refusal::TooLarge,
+        Refusal::NoPath,
+        Refusal::NotJoined,
     ];
 
     /// The number by which the library gives it, and `./wesalondo explain` explains it. 7 is given to nothing.
@@ -48,6 +57,9 @@ impl Refusal {
             Refusal::NotFinite => 6,
             Refusal::TooDeep => 8,
             Refusal::BadlyFormed => 9,
+            Refusal::TooLarge => 10,
+            Refusal::NoPath => 11,
+            Refusal::NotJoined => 12,
         }
     }
 
@@ -61,6 +73,9 @@ impl Refusal {
             Refusal::NotFinite => "an operation gave NaN or infinity; of a fit, three or more marks may lie on one spot",
             Refusal::TooDeep => "the search for the nearest point went too deep",
             Refusal::BadlyFormed => "the house file is badly formed",
+            Refusal::TooLarge => "a number of the path is above 1,000,000,000 in magnitude",
+            Refusal::NoPath => "the text is not path data of one subpath of M, L, C and Z, with three places at most and no exponent",
+            Refusal::NotJoined => "there are no curves, or they do not meet bit for bit",
         }
     }
 }

@@ -3,7 +3,7 @@
 //! A call answers 0 or the number of a refusal ([`Refusal::number`](crate::Refusal::number)); the checkers also the letter of a fault, in ASCII.
 //! Where a call refuses, every single value and every array of fixed length that it hands back is zeros; slices stay as they were, but refusal 6
 //! leaves every number of the slices lent to a fit zero. Where several refusals would do, the first of 9, 3, 1, 2, 4, 5 is given, and 6 or 8 only where
-//! none of these is; `wes_write_file` has an order of its own.
+//! none of these is; `wes_write_file`, `wes_export_path` and `wes_import_path` have orders of their own.
 //!
 //! A slice is a pointer and how many elements it has (`marks`, `marks_len`); marks are x and y in turn. For n marks a fit wants 9(n-1) numbers in
 //! `curves`, n-1 in `firsts` and in `worsts`, and n in `params`; for a ring 9n, n, n and n+1.
@@ -160,6 +160,21 @@ extern "C" {
     /// Fits a file's marks and writes them with their curves, as a file. 434,120 bytes are room for every file, and no longer one is taken; a
     /// refused one gives the text "REFUSED n\n" instead.
     pub fn wes_save_fit(file: *const u8, file_len: usize, out: *mut u8, out_len: usize, size: *mut usize) -> u32;
+
+    // ---- path data, as SVG 1.1 has it: one subpath of absolute M, L, C and Z
+
+    /// Writes `count` curves as path data, in the first `size` bytes of `out`: "M x y", for each curve " C x1 y1 x2 y2 x y", and " Z" for a
+    /// ring, in thousandths, halves away from zero. `nine` is as for `wes_check`. 92 bytes for each curve and 33 more are room for every text.
+    /// Refusals: 5 (here only a number that is not finite), 10, 12, 4, in this order.
+    pub fn wes_export_path(
+        nine: bool, curves: *const f64, curves_len: usize, count: usize, ring: bool, out: *mut u8, out_len: usize, size: *mut usize,
+    ) -> u32;
+
+    /// Reads path data into curves of eight numbers, `count` of them, and says whether a Z closed it. A text has at most a quarter as many
+    /// curves as bytes. Refusals: 11, 10, 4, in this order.
+    pub fn wes_import_path(
+        text: *const u8, text_len: usize, curves: *mut f64, curves_len: usize, count: *mut usize, closed: *mut bool,
+    ) -> u32;
 
     // ---- numbers, which refuse nothing
 

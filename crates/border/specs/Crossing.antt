@@ -23,6 +23,7 @@ use Rattle.checker.specs.declared.Fault.{Fault}
 use Rattle.checker.specs.declared.Fault.the-variants.{A, B, C, D, E}
 use Rattle.nearest.specs.Choose.{Nearest}
 use Rattle.reader.specs.Reader.{Found}
+use Rattle.import.specs.Import.{Drawn}
 
 -- ---- what comes in
 
@@ -115,3 +116,10 @@ found nine bits n k = record { form = formFor nine; tolerance = bits; marks = n;
 
 unfoldable pub foundCrossed : Answer Found → Crossed Found
 foundCrossed = crossing (λ F. F) (found false 0 0 0)
+
+-- what path data draws beside the slice
+abbrev pub drawn : ℕ → Bool → Drawn
+drawn k z = record { count = k; closed = z }
+
+unfoldable pub drawnCrossed : Answer Drawn → Crossed Drawn
+drawnCrossed = crossing (λ d. d) (drawn 0 false)

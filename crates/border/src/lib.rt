@@ -7,7 +7,8 @@ ghost use Rattle.checker.specs.Check.{checkedAnswer, place};
 ghost use Rattle.reader.specs.Reader.{readAnswer};
 ghost use Rattle.writer.specs.Writer.{writeAnswer};
 ghost use Rattle.lines.specs.Handed.{listedAnswer};
-ghost use Rattle.border.specs.Crossing.{outlineFor, formFor, crossed, countCrossed, numberCrossed, pointCrossed, coefficientsCrossed, eight, parts, halvesCrossed, nearest, nearestCrossed, faultCrossed, verdictCrossed, found, foundCrossed};
+ghost use Rattle.border.specs.Crossing.{outlineFor, formFor, crossed, countCrossed, numberCrossed, pointCrossed, coefficientsCrossed, eight, parts, halvesCrossed, nearest, nearestCrossed, faultCrossed, verdictCrossed, found, foundCrossed, drawn, drawnCrossed};
+ghost use Rattle.import.specs.Import.{importedAnswer};
 use bezier::CoefficientsAnswer;
 use bezier::HalvesAnswer;
 use bezier::NumberAnswer;
@@ -17,6 +18,7 @@ use checker::Fault;
 use checker::Place;
 use cut::Fitted;
 use form::Form;
+use import::Imported;
 use lines::Listed;
 use nearest::NearestPoint;
 use plane::Curve;
@@ -273,6 +275,27 @@ pub fn put_read(
             *tolerance = 0;
             *mark_count = 0;
             *curve_count = 0;
+            q
+        }
+    }
+}
+
+// How many curves path data draws, and whether it closes.
+pub fn put_imported(answer: Imported, count: &mut usize, closed: &mut bool) -> u32
+    ensures { λ r. ⌜ crossed r (drawn (now («count» .exit)) (now (closed .exit))) ≡ drawnCrossed (importedAnswer answer) ⌝ }
+{
+    match answer {
+        Imported::Path {
+            count: k,
+            closed: z,
+        } => {
+            *count = k;
+            *closed = z;
+            0
+        }
+        Imported::Refused(q) => {
+            *count = 0;
+            *closed = false;
             q
         }
     }

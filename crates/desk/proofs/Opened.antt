@@ -21,7 +21,7 @@ use Rattle.reader.specs.declared.Read.{Read}
 use Rattle.reader.specs.declared.Read.the-variants as read
 use Rattle.reader.proofs.Read.{the-type}
 use Rattle.reader.specs.Reader.{Found, foundIn, Outcome, outcome, readAnswer, within, judged, settled, readOf}
-use Rattle.grammar.proofs.Answers.{not-refused, unless-ok}
+use Rattle.float.proofs.Answers.{not-refused, unless-ok}
 use Rattle.grammar.proofs.Formed.{Turn, plain, full, Sized, Formed, formed, params-some}
 use Rattle.grammar.proofs.Rooms.{Places, placing}
 use Rattle.grammar.proofs.Grammar.{file-holds}

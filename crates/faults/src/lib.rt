@@ -110,14 +110,14 @@ pub fn rises_at(firsts: &[u32], n: usize, j: usize) -> bool
 // ---- B: a curve's numbers and ends
 
 // Whether two points have the same bits.
-fn is_same(p: Point, q: Point) -> bool
+pub fn is_same(p: Point, q: Point) -> bool
     ensures { λ r. ⌜ r ≡ same p q ⌝ }
 {
     (float::to_bits(p.x) == float::to_bits(q.x)) & (float::to_bits(p.y) == float::to_bits(q.y))
 }
 
 // Whether a curve's eight numbers are finite.
-fn is_finite(c: Curve) -> bool
+pub fn is_finite(c: Curve) -> bool
     ensures { λ r. ⌜ r ≡ curveFinite c ⌝ }
 {
     plane::point_finite(c.start)

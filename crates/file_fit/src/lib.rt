@@ -16,7 +16,7 @@ use house::bytes::eight;
 use house::sizes;
 
 // The row of n numbers at `at`, from their bits, into the first n places.
-fn copy_numbers(b: &[u8], at: usize, n: usize, out: &mut [f64])
+pub fn copy_numbers(b: &[u8], at: usize, n: usize, out: &mut [f64])
     requires { ⌜ (at + numberField * n ≤ length (now b)) × (n ≤ length (now out)) ⌝ }
     ensures { λ _. ⌜ now (out .exit) ≡ written (floats (words n (drop at (now (b .entry))))) (now (out .entry)) ⌝ }
 {
@@ -28,7 +28,7 @@ fn copy_numbers(b: &[u8], at: usize, n: usize, out: &mut [f64])
 }
 
 // Room for 512 marks. A function hides from its callers' proofs how the array is made.
-fn mark_room() -> [f64; 1024]
+pub fn mark_room() -> [f64; 1024]
     ensures { λ r. ⌜ 1024 ≡ length r ⌝ }
 {
     [0.0; 1024]

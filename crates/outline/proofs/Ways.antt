@@ -15,7 +15,7 @@ use Rattle.lines.specs.Lines.{outlineLines, refusalLine}
 use Rattle.lines.specs.Handed.{shown}
 use Rattle.house.specs.Held.{fileAt, fileOf}
 use Rattle.house.proofs.Rows.{length-words}
-use Rattle.grammar.proofs.Laid.{Laid, plain, full, laid-candidate}
+use Rattle.grammar.proofs.Laid.{laid-candidate}
 use Rattle.form.specs.declared.Form.{Form}
 use Rattle.form.specs.declared.Form.the-variants.{Eight}
 use Rattle.heads.specs.Layout.{layoutOf}
@@ -85,10 +85,3 @@ module _ (b : List ℕ) (n : ℕ) (C : List Float) (P : List ℕ) where
 
     pub refused-lines : C ≡ zeros 4599 → P ≡ noMarks 511 → r ≡ Refused k → shown (fitLines n (roomyFit (fileAt b Eight n 0))) ≡ refusalLine k
     refused-lines eC eP e = rw (← same-fit eC eP) (fit-refused n (fileFit (fileAt b Eight n 0) C P (noMarks 511) (zeros 512)) k (refused-answer e))
-
--- ---- the entry
-
--- the marks are within the bytes
-pub marks-in : {b : List ℕ} {form : Form} {n k : ℕ} → Laid b form n k → 20 + 16 * n ≤ length b
-marks-in (plain s f z x) = omega arith
-marks-in (full s d) = omega (arith, d .size)

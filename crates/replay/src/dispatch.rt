@@ -3,6 +3,7 @@ use crate::kind::kind_of;
 use crate::listing;
 use crate::outline;
 use crate::outline::Fit;
+use crate::paths;
 use crate::single;
 use bytes::scan;
 use form::Form;
@@ -35,6 +36,8 @@ fn answered(line: &[u8]) -> bool {
         18 => single::size_case(line, end),
         19 => listing::check_case(Outline::Open, Form::Nine, line, end),
         20 => listing::check_case(Outline::Closed, Form::Nine, line, end),
+        21 => paths::export_case(line, end),
+        22 => paths::import_case(line, end),
         _ => false,
     }
 }

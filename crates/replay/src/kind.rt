@@ -21,6 +21,6 @@ fn place_of(word: &[u8], names: &[u8]) -> usize {
 pub fn kind_of(word: &[u8]) -> usize {
     place_of(
         word,
-        b"sqrt basis de_casteljau4 coefficients subdivide4 de_casteljau3 de_casteljau2 refine nearest direct source loop joined check ring check_ring distance blocks size check_worst check_worst_ring",
+        b"sqrt basis de_casteljau4 coefficients subdivide4 de_casteljau3 de_casteljau2 refine nearest direct source loop joined check ring check_ring distance blocks size check_worst check_worst_ring export import",
     )
 }

@@ -15,19 +15,23 @@
 //     distance C8 PX PY T                                                    how far the list checker finds a mark from its curve
 //     blocks N                                                               into how many blocks a joined fit cuts N marks
 //     size N                                                                 of how many marks a block is, where an outline has N
+//     export OPEN K C8 .., export RING K C8 ..                               K curves as path data
+//     import TEXT                                                            path data, all behind the first blank; at most 8,192 curves
 //
 // An accepted case answers 0 and its numbers: the root; x y; a b c d; both halves; t; t and squared distance; for a fit K, then for each curve its
-// first mark, its worst mark and nine numbers, then every parameter; the distance; the count; the size. A refused case answers its number alone. A checker's case answers 0,
-// `FAULT A 3 0` (kind, curve, mark), or the refusal. A line that is none of these answers BAD, and the next is taken.
+// first mark, its worst mark and nine numbers, then every parameter; the distance; the count; the size; the path data; K, OPEN or CLOSED and eight
+// numbers a curve. A refused case answers its number alone. A checker's case answers 0, `FAULT A 3 0` (kind, curve, mark), or the refusal. A line
+// that is none of these answers BAD, and the next is taken.
 mod cursor;
 mod dispatch;
+mod input;
 mod kind;
-mod lines;
 mod listing;
 mod outline;
+mod paths;
 mod print;
 mod single;
 
 fn main() {
-    lines::run();
+    input::run();
 }

@@ -29,7 +29,7 @@ use Rattle.accepted.proofs.Theorem.{Given, blocks-given, laid-sound}
 use Rattle.lines.specs.Lines.{twoLine}
 use Rattle.house.specs.File.{File, bytesOf, marksIn, curvesIn}
 use Rattle.house.proofs.Forms.{form-some}
-use Rattle.grammar.proofs.Answers.{not-refused}
+use Rattle.float.proofs.Answers.{not-refused}
 use Rattle.grammar.proofs.Formed.{Formed, full, forming, params-some}
 use Rattle.grammar.proofs.Rooms.{size-some}
 use Rattle.grammar.proofs.Whole.{length-bytes}

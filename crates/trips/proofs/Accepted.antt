@@ -16,7 +16,7 @@ use Rattle.house.specs.Slices.{room}
 use Rattle.reader.specs.Reader.{Found, foundIn, Outcome, outcome, within, judged, settled, readOf}
 use Rattle.writer.proofs.Accepted.{Sound}
 use Rattle.writer.specs.Writer.{fileFor, marksFit, checked, Writing, writing, put, writeOf}
-use Rattle.grammar.proofs.Answers.{not-refused, unless-ok}
+use Rattle.float.proofs.Answers.{not-refused, unless-ok}
 use Rattle.house.proofs.Numbers.{split}
 use Rattle.grammar.proofs.Rooms.{Places, places, placing}
 use Rattle.grammar.proofs.Grammar.{holds-file, file-holds, no-file}

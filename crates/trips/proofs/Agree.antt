@@ -6,7 +6,7 @@ use Rattle.writer.specs.declared.Wrote.{Wrote}
 use Rattle.writer.specs.declared.Wrote.the-variants as wrote
 use Rattle.reader.specs.Reader.{Found, readAnswer}
 use Rattle.writer.specs.Writer.{writeAnswer}
-use Rattle.grammar.proofs.Answers.{not-refused}
+use Rattle.float.proofs.Answers.{not-refused}
 
 pub agree : {A : Type 0} {x y d : A} → x ≡ d → y ≡ d → x ≡ y
 agree p q = p ∙ sym q

@@ -8,7 +8,8 @@ use Rattle.fit.specs.Fit.{Ending}
 use Rattle.reader.specs.Reader.{Found, Outcome}
 use Rattle.writer.specs.Writer.{Writing}
 use Rattle.lines.specs.Handed.{Handed}
-use Rattle.border.specs.Crossing.{Crossed, countCrossed, foundCrossed}
+use Rattle.import.specs.Import.{Drawn, Left}
+use Rattle.border.specs.Crossing.{Crossed, countCrossed, foundCrossed, drawnCrossed}
 
 -- ---- a fit
 
@@ -60,3 +61,15 @@ leftByWriter B = bytesLeft (countCrossed (B .answer)) (B .out)
 
 abbrev pub leftWithText : Handed → BytesLeft
 leftWithText T = bytesLeft (countCrossed (T .answer)) (T .out)
+
+-- ---- path data that is read
+
+pub record DrawnLeft : Type 0 where
+  pub answer : Crossed Drawn
+  pub curves : List Float
+
+abbrev pub drawnLeft : Crossed Drawn → List Float → DrawnLeft
+drawnLeft a C = record { answer = a; curves = C }
+
+abbrev pub leftByImport : Left → DrawnLeft
+leftByImport L = drawnLeft (drawnCrossed (L .answer)) (L .curves)

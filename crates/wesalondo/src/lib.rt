@@ -22,8 +22,10 @@ ghost use Rattle.writer.specs.Writer.{writeOf};
 ghost use Rattle.outline.specs.Outline.{listingOf};
 ghost use Rattle.verdict.specs.Verdict.{judgementOf};
 ghost use Rattle.saving.specs.Saving.{savedOf};
-ghost use Rattle.border.specs.Crossing.{outlineFor, formFor, crossed, numberCrossed, pointCrossed, coefficientsCrossed, parts, halvesCrossed, nearest, nearestCrossed, verdictCrossed, found};
-ghost use Rattle.wesalondo.specs.Left.{fitLeft, leftBy, onPoints, readLeft, leftByReader, bytesLeft, leftByWriter, leftWithText};
+ghost use Rattle.export.specs.Export.{exportOf};
+ghost use Rattle.import.specs.Import.{importOf};
+ghost use Rattle.border.specs.Crossing.{outlineFor, formFor, crossed, numberCrossed, pointCrossed, coefficientsCrossed, parts, halvesCrossed, nearest, nearestCrossed, verdictCrossed, found, drawn};
+ghost use Rattle.wesalondo.specs.Left.{fitLeft, leftBy, onPoints, readLeft, leftByReader, bytesLeft, leftByWriter, leftWithText, drawnLeft, leftByImport};
 use plane::Point;
 
 // ---- fits
@@ -422,6 +424,39 @@ pub extern "C" fn wes_save_fit(file: &[u8], out: &mut [u8], size: &mut usize) ->
 {
     let answer = saving::save_fit(file, out);
     border::put_listed(answer, size)
+}
+
+// ---- path data
+
+// Curves as path data.
+#[no_mangle]
+pub extern "C" fn wes_export_path(
+    nine: bool,
+    curves: &[f64],
+    count: usize,
+    ring: bool,
+    out: &mut [u8],
+    size: &mut usize,
+) -> u32
+    ensures { λ r. ⌜ bytesLeft (crossed r (now (size .exit))) (now (out .exit)) ≡ leftWithText (exportOf (formFor nine) (now (curves .entry)) «count» ring (now (out .entry))) ⌝ }
+{
+    let form = border::form_for(nine);
+    let answer = export::export_path(form, curves, count, ring, out);
+    border::put_listed(answer, size)
+}
+
+// Path data as curves.
+#[no_mangle]
+pub extern "C" fn wes_import_path(
+    text: &[u8],
+    curves: &mut [f64],
+    count: &mut usize,
+    closed: &mut bool,
+) -> u32
+    ensures { λ r. ⌜ drawnLeft (crossed r (drawn (now («count» .exit)) (now (closed .exit)))) (now (curves .exit)) ≡ leftByImport (importOf (now (text .entry)) (now (curves .entry))) ⌝ }
+{
+    let answer = import::import_path(text, curves);
+    border::put_imported(answer, count, closed)
 }
 
 // ---- numbers

@@ -88,6 +88,7 @@ pub fn answer_of(kind: &str, words: &mut Words) -> String {
         "check_ring" => checked(words, true, false, check_ring),
         "check_worst" => checked(words, false, true, check_worst),
         "check_worst_ring" => checked(words, true, true, check_worst_ring),
+        "export" => exported(words),
         other => panic!("the kind {other} is not known"),
     };
     assert_eq!(words.0.next(), None, "a word of {kind} is left");
@@ -106,6 +107,32 @@ fn accepted(numbers: &[f64]) -> String {
 fn numbers_or_refusal(answer: Result<Vec<f64>, Refusal>) -> String {
     match answer {
         Ok(numbers) => accepted(&numbers),
+        Err(refusal) => refusal.number().to_string(),
+    }
+}
+
+/// A list as path data; in the record of nine it gives the same text, whatever the ninth numbers are.
+fn exported(words: &mut Words) -> String {
+    let ring = words.word() == "RING";
+    let count: usize = words.whole();
+    let curves: Vec<Curve> = (0..count).map(|_| words.curve()).collect();
+    let answer = export_path(&curves, ring);
+    let nines: Vec<f64> = curves.iter().flat_map(|&curve| <[f64; 8]>::from(curve).into_iter().chain([f64::NAN])).collect();
+    let (mut out, mut size) = (vec![0; 92 * count + 33], 7);
+    // SAFETY: each pointer is to that many elements, all apart.
+    let number = unsafe { sys::wes_export_path(true, nines.as_ptr(), nines.len(), count, ring, out.as_mut_ptr(), out.len(), &mut size) };
+    let text = answer.as_deref().unwrap_or_default();
+    assert_eq!((number, &out[..size]), (answer.as_ref().map_or_else(|refusal| refusal.number(), |_| 0), text.as_bytes()));
+    answer.map_or_else(|refusal| refusal.number().to_string(), |text| format!("0 {text}"))
+}
+
+/// What path data draws, in a line of answer.
+pub fn imported(text: &[u8]) -> String {
+    match import_path(text) {
+        Ok(path) => {
+            let numbers: String = path.curves.iter().flat_map(|&curve| <[f64; 8]>::from(curve)).map(|x| format!(" {}", hex(x))).collect();
+            format!("0 {} {}{numbers}", path.curves.len(), if path.closed { "CLOSED" } else { "OPEN" })
+        }
         Err(refusal) => refusal.number().to_string(),
     }
 }

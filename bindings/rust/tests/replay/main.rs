@@ -3,11 +3,11 @@
 mod common;
 mod line;
 
-use line::{answer_of, Words};
+use line::{answer_of, imported, Words};
 use std::collections::BTreeMap;
 
 /// How many lines of each kind there were when this test was written. More may be added; fewer would mean that lines are not compared.
-const LEAST: [(&str, usize); 20] = [
+const LEAST: [(&str, usize); 22] = [
     ("basis", 238),
     ("blocks", 82),
     ("check", 574),
@@ -19,6 +19,8 @@ const LEAST: [(&str, usize); 20] = [
     ("de_casteljau3", 19),
     ("de_casteljau4", 30),
     ("direct", 110),
+    ("export", 135),
+    ("import", 282),
     ("joined", 101),
     ("loop", 83),
     ("nearest", 140),
@@ -36,10 +38,6 @@ fn kept(name: &str) -> Vec<Vec<u8>> {
     bytes.strip_suffix(b"\n").unwrap_or(&bytes).split(|&byte| byte == b'\n').map(<[u8]>::to_vec).collect()
 }
 
-fn shortened(text: &str) -> &str {
-    &text[..text.len().min(200)]
-}
-
 #[test]
 fn kept_cases_are_answered_as_they_were() {
     let (cases, answers) = (kept("stdin"), kept("stdout"));
@@ -51,12 +49,19 @@ fn kept_cases_are_answered_as_they_were() {
         if answer == b"BAD" || case.starts_with(b"distance ") {
             continue;
         }
-        let case = std::str::from_utf8(case).expect("a case that is answered is ASCII");
         let answer = std::str::from_utf8(answer).expect("an answer is ASCII");
-        let (kind, rest) = case.split_once(' ').expect("a case has words behind its kind");
-        let ours = answer_of(kind, &mut Words::new(rest));
+        let (kind, ours) = match case.strip_prefix(b"import ") {
+            // path data is all that is behind the blank, and may have any bytes
+            Some(text) => ("import", imported(text)),
+            None => {
+                let case = std::str::from_utf8(case).expect("any other case that is answered is ASCII");
+                let (kind, rest) = case.split_once(' ').expect("a case has words behind its kind");
+                (kind, answer_of(kind, &mut Words::new(rest)))
+            }
+        };
         if ours != answer {
-            different.push(format!("line {}: {}\n  kept {}\n  ours {}", number + 1, shortened(case), shortened(answer), shortened(&ours)));
+            let case = String::from_utf8_lossy(case);
+            different.push(format!("line {}: {:.200}\n  kept {:.200}\n  ours {:.200}", number + 1, case, answer, ours));
         }
         *compared.entry(kind.to_owned()).or_default() += 1;
     }

@@ -3,7 +3,8 @@ use mathlib.Core.Path.{sym, _∙_}
 use native.Mathlib.Omega.{arith}
 use borrow.Author.Needs.{needs}
 use Rattle.heads.proofs.Ways.{told}
-use Rattle.outline.proofs.Ways.{list-long, list-broken, list-few, list-many, list-fit, marks-in}
+use Rattle.grammar.proofs.Laid.{marks-in}
+use Rattle.outline.proofs.Ways.{list-long, list-broken, list-few, list-many, list-fit}
 use Rattle.outline.proofs.put_listing.Statement.{statement}
 use Rattle.outline.proofs.put_listing.Tie as tie
 

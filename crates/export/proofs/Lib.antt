@@ -1,0 +1,4 @@
+pub mod Records
+pub mod Tests
+pub mod Cases
+pub mod Exported

@@ -1,0 +1,2 @@
+pub mod Export
+pub mod Tests

@@ -1,0 +1,3 @@
+pub mod Import
+pub mod Drawn
+pub mod Walk

@@ -1,0 +1,3 @@
+pub mod Leading
+pub mod Powers
+pub mod Spelling

@@ -1,0 +1,2 @@
+pub mod PathFile
+pub mod Left

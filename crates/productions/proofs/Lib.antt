@@ -1,0 +1,7 @@
+mod Fits
+mod Spaces
+mod Numbers
+mod Places
+mod Steps
+mod Commands
+pub mod Exactly

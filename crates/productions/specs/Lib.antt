@@ -1,0 +1,2 @@
+pub mod Productions
+pub mod Exactly

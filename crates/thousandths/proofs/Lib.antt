@@ -1,0 +1,5 @@
+pub mod Back
+mod Halves
+mod Pattern
+mod Quotient
+mod Sign
