@@ -1,1 +1,2 @@
 pub mod Eights
+pub mod Halves

@@ -1,5 +1,5 @@
 -- Numbers with at most three decimal places: what a number is written as, its text, and the number that is nearest to it. Definitions only.
-use Prim.Native.Nat.{ℕ, _+_, _*_, _/_, _%_}
+use Prim.Native.Nat.{ℕ, suc, _+_, _*_, _/_, _%_, _≤_, _<_}
 use mathlib.Core.Bool.{Bool, false, _&&_, cond}
 use mathlib.Core.List.{List, [], _∷_, _++_}
 use lib.Dec.{ltb, leb, eqb}
@@ -14,6 +14,11 @@ signed s t = record { negative = s && ltb 0 t; thousandths = t }
 -- the fraction n / d, rounded to a whole number, halves up
 unfoldable pub rounded : ℕ → ℕ → ℕ
 rounded n d = (2 * n + d) / (2 * d)
+
+-- what it comes to: r is the fraction to within a half, and where two whole numbers are, the upper one
+pub record Rounds (n d r : ℕ) : Type 0 where
+  pub not-above : r * (2 * d) ≤ 2 * n + d
+  pub not-below : 2 * n + d < suc r * (2 * d)
 
 -- The exact value, which is the fraction m * up e / down e with the sign s, rounded to thousandths: halves go away from zero, for it is the magnitude that is
 -- rounded. (What is not finite is refused, and nothing asks for it.)
