@@ -46,10 +46,10 @@ exported form C k ring t e =
     }
 
 -- how long it is at most, by the numbers of the slice
-pub exported-short : (form : Form) (C : List Float) (k : ℕ) (ring : Bool) (t : List ℕ) → exportText form C k ring ≡ ok t → (k ≤ length C / width form) × (length t ≤ 35 + 98 * k)
+pub exported-short : (form : Form) (C : List Float) (k : ℕ) (ring : Bool) (t : List ℕ) → exportText form C k ring ≡ ok t → (k ≤ length C / width form) × (length t ≤ 33 + 92 * k)
 exported-short form C k ring t e =
     let x = exported form C k ring t e in
-    let s : length (pathText ring k (curveAt form C)) ≤ 35 + 98 * k = path-short (x .writable) ring (x .some) in
+    let s : length (pathText ring k (curveAt form C)) ≤ 33 + 92 * k = path-short (x .writable) ring (x .some) in
     (omega (arith, x .held), rw (same (x .text)) at s)
   where
     same : {a b : List ℕ} → ok a ≡ ok b → a ≡ b

@@ -74,16 +74,16 @@ fn put_places(out: &mut [u8], at: usize, r: u64) -> usize
         return at;
     }
     if r % 100 == 0 {
-        return put_bytes(out, at, &[46, figure(r / 100)]);
+        return put_bytes(out, at, &[b'.', figure(r / 100)]);
     }
     let last = r % 10;
     if last == 0 {
-        return put_bytes(out, at, &[46, figure(r / 100), figure(r / 10 % 10)]);
+        return put_bytes(out, at, &[b'.', figure(r / 100), figure(r / 10 % 10)]);
     }
     put_bytes(
         out,
         at,
-        &[46, figure(r / 100), figure(r / 10 % 10), figure(last)],
+        &[b'.', figure(r / 100), figure(r / 10 % 10), figure(last)],
     )
 }
 

@@ -245,13 +245,13 @@ fn step_at(text: &[u8], at: usize, letter: Letter, p: Point) -> Step
         return Step::Ended;
     }
     let b = byte_at(text, next);
-    if b == 90 {
+    if b == b'Z' {
         return closed_at(text, next + 1);
     }
-    if b == 76 {
+    if b == b'L' {
         return drawn_at(text, past_space(text, next + 1), Letter::Line, p);
     }
-    if b == 67 {
+    if b == b'C' {
         return drawn_at(text, past_space(text, next + 1), Letter::Curve, p);
     }
     drawn_at(text, apart_at(text, at), letter, p)
@@ -339,7 +339,7 @@ fn walk(text: &[u8], out: &mut [f64]) -> Walked
     ensures { λ r. ⌜ walkedAnswer r (now (out .exit)) ≡ whollyAnswer (now (out .entry)) (pathOf (now (text .entry))) ⌝ }
 {
     let first = past_space(text, 0);
-    if byte_at(text, first) == 77 {
+    if byte_at(text, first) == b'M' {
         let Pair::At { point, small, rest } = pair_at(text, past_space(text, first + 1)) else {
             return Walked::Nothing;
         };

@@ -36,14 +36,14 @@ pub fn byte_at(text: &[u8], i: usize) -> u8
 fn is_space(b: u8) -> bool
     ensures { λ r. ⌜ r ≡ isSpace b ⌝ }
 {
-    (b == 32) | ((b == 9) | ((b == 10) | (b == 13)))
+    (b == b' ') | ((b == b'\t') | ((b == b'\n') | (b == b'\r')))
 }
 
 // Whether a byte is a digit.
 fn is_digit(b: u8) -> bool
     ensures { λ r. ⌜ r ≡ isDigit b ⌝ }
 {
-    (48 <= b) & (b <= 57)
+    (b'0' <= b) & (b <= b'9')
 }
 
 // The place behind the white space.
@@ -62,7 +62,7 @@ pub fn apart_at(text: &[u8], at: usize) -> usize
     ensures { λ r. ⌜ drop r (now (text .entry)) ≡ apart (drop at (now (text .entry))) ⌝ }
 {
     let comma = past_space(text, at);
-    if byte_at(text, comma) == 44 {
+    if byte_at(text, comma) == b',' {
         return past_space(text, comma + 1);
     }
     comma
@@ -83,7 +83,7 @@ fn grown(v: u64, b: u8) -> u64
     requires { ⌜ (v ≤ suc most) × (48 ≤ b) ⌝ }
     ensures { λ r. ⌜ r ≡ cap (10 * v + (b - 48)) ⌝ }
 {
-    no_more(10 * v + ((b - 48) as u64))
+    no_more(10 * v + ((b - b'0') as u64))
 }
 
 // The digits from a place on, behind others that made value.
@@ -139,7 +139,7 @@ fn unsigned_at(text: &[u8], at: usize, negative: bool) -> Numeral
 {
     let whole = digits_from(text, at, 0);
     let point = whole.end;
-    if byte_at(text, point) == 46 {
+    if byte_at(text, point) == b'.' {
         let start = point + 1;
         let all = digits_from(text, start, whole.value);
         return numeral_of(negative, all.value, point - at, all.end - start, all.end);
@@ -152,10 +152,10 @@ pub fn number_at(text: &[u8], at: usize) -> Numeral
     ensures { λ r. ⌜ numeralAnswer (now (text .entry)) r ≡ read (number (drop at (now (text .entry)))) ⌝ }
 {
     let sign = byte_at(text, at);
-    if sign == 43 {
+    if sign == b'+' {
         return unsigned_at(text, at + 1, false);
     }
-    if sign == 45 {
+    if sign == b'-' {
         return unsigned_at(text, at + 1, true);
     }
     unsigned_at(text, at, false)

@@ -50,9 +50,9 @@ fit-left ring b n l M C P W Q w t X C′ P′ W′ Q′ eM ew et eC eP eW eQ h =
 
 -- ---- what export left
 
-module _ (ring : Bool) (C : List Float) (k : ℕ) (O : List ℕ) (c : 4608 ≡ length C) (o : 50212 ≤ length O) where
+module _ (ring : Bool) (C : List Float) (k : ℕ) (O : List ℕ) (c : 4608 ≡ length C) (o : 47138 ≤ length O) where
   -- a text has room
-  short : (t : List ℕ) → exportText Nine C k ring ≡ ok t → length t + 1 ≤ 50212
+  short : (t : List ℕ) → exportText Nine C k ring ≡ ok t → length t + 1 ≤ 47138
   short t e = let s = exported-short Nine C k ring t e in omega (arith, s .0, s .1)
 
   -- the text that export put, or its refusal
@@ -60,7 +60,7 @@ module _ (ring : Bool) (C : List Float) (k : ℕ) (O : List ℕ) (c : 4608 ≡ l
     pub text : List ℕ
     pub is : exportText Nine C k ring ≡ ok text
     pub put : Put O 0 text O′ s
-    pub room : s + 1 ≤ 50212
+    pub room : s + 1 ≤ 47138
 
   given : (a : Answer (List ℕ)) {s : ℕ} {O′ : List ℕ} → exportText Nine C k ring ≡ a → handed (ok s) O′ ≡ overTo O a → Text s O′
   given (refused q) e h = not-refused q (ap (λ (H : Handed). H .answer) h)

@@ -57,10 +57,10 @@ fn param_room() -> [f64; 513]
 }
 
 // Room for the longest line.
-fn text_room() -> [u8; 50212]
-    ensures { λ r. ⌜ 50212 ≡ length r ⌝ }
+fn text_room() -> [u8; 47138]
+    ensures { λ r. ⌜ 47138 ≡ length r ⌝ }
 {
-    [0; 50212]
+    [0; 47138]
 }
 
 // The ring fit or the joined one.
@@ -116,8 +116,8 @@ fn refusal_in(listed: Listed) -> u32
 
 // The path data of k curves and a newline, or the line of export's refusal.
 fn put_line(curves: &[f64], k: usize, ring: bool, text: &mut [u8]) -> usize
-    requires { ⌜ (4608 ≡ length (now curves)) × (50212 ≤ length (now text)) ⌝ }
-    ensures { λ r. ⌜ (r ≤ 50212) × Put (now (text .entry)) 0 (shown (lineOf ring (now (curves .entry)) k)) (now (text .exit)) r ⌝ }
+    requires { ⌜ (4608 ≡ length (now curves)) × (47138 ≤ length (now text)) ⌝ }
+    ensures { λ r. ⌜ (r ≤ 47138) × Put (now (text .entry)) 0 (shown (lineOf ring (now (curves .entry)) k)) (now (text .exit)) r ⌝ }
 {
     let listed = export_path(Form::Nine, curves, k, ring, text);
     let Listed::Bytes(size) = listed else {
@@ -128,8 +128,8 @@ fn put_line(curves: &[f64], k: usize, ring: bool, text: &mut [u8]) -> usize
 
 // The line for a file of n marks that is well formed.
 fn put_fit(file: &[u8], n: usize, ring: bool, text: &mut [u8]) -> usize
-    requires { ⌜ (marksAt + markBytes * n ≤ length (now file)) × ((n ≤ 512) × (50212 ≤ length (now text))) ⌝ }
-    ensures { λ r. ⌜ (r ≤ 50212) × Put (now (text .entry)) 0 (shown (fitPath ring (ringFit ring (fileAt (now (file .entry)) forms.Eight n 0)))) (now (text .exit)) r ⌝ }
+    requires { ⌜ (marksAt + markBytes * n ≤ length (now file)) × ((n ≤ 512) × (47138 ≤ length (now text))) ⌝ }
+    ensures { λ r. ⌜ (r ≤ 47138) × Put (now (text .entry)) 0 (shown (fitPath ring (ringFit ring (fileAt (now (file .entry)) forms.Eight n 0)))) (now (text .exit)) r ⌝ }
 {
     let mut curves = curve_room();
     let fitted = fit_file(file, n, ring, &mut curves);
@@ -141,8 +141,8 @@ fn put_fit(file: &[u8], n: usize, ring: bool, text: &mut [u8]) -> usize
 
 // The line for any bytes.
 fn put_path(file: &[u8], ring: bool, text: &mut [u8]) -> usize
-    requires { ⌜ 50212 ≤ length (now text) ⌝ }
-    ensures { λ r. ⌜ (r ≤ 50212) × Put (now (text .entry)) 0 (pathFileOf ring (now (file .entry))) (now (text .exit)) r ⌝ }
+    requires { ⌜ 47138 ≤ length (now text) ⌝ }
+    ensures { λ r. ⌜ (r ≤ 47138) × Put (now (text .entry)) 0 (pathFileOf ring (now (file .entry))) (now (text .exit)) r ⌝ }
 {
     if file.len() > MOST_BYTES {
         return put_refusal(text, BADLY_FORMED);

@@ -10,8 +10,8 @@ fn file_room() -> [u8; 65537] {
 }
 
 // Room for the longest line.
-fn text_room() -> [u8; 50212] {
-    [0; 50212]
+fn text_room() -> [u8; 47138] {
+    [0; 47138]
 }
 
 // The first n bytes, or all where there are fewer.

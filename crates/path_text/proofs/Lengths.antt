@@ -1,11 +1,13 @@
 -- How long the texts are, by their parts. Assumes nothing.
-use mathlib.Core.Path.{_≡_, refl, sym}
+use mathlib.Core.Path.{_≡_, refl, sym, ap}
 use mathlib.Core.Bool.{Bool, true, false}
 use mathlib.Core.List.{List, [], _∷_}
 use Prim.Native.Nat.{ℕ, zero, suc, _+_, _-_, _/_, _%_, _*_, _≤_, _<_}
 use native.Mathlib.Nat.{add-zero}
 use native.Mathlib.Numerals.{add-one}
 use native.Mathlib.Omega.{arith}
+use borrow.Author.Tests.{ltb-true, ltb-false}
+use lib.Dec.{ltb}
 use lib.ListN.{length, length-append}
 use lib.Ieee.{Float}
 use Rattle.float.specs.Number.{finite}
@@ -14,7 +16,7 @@ use Rattle.plane.specs.declared.Curve.{Curve}
 use Rattle.text.specs.Put.{Put}
 use Rattle.text.proofs.Stores.{next}
 use Rattle.text.proofs.Digits.{decimal-length}
-use Rattle.path.specs.Decimals.{writtenOf, decimalText}
+use Rattle.path.specs.Decimals.{writtenOf, decimalText, most}
 use Rattle.path.specs.Text.{numberText, pointText, curveText, curvesText, closingText, pathText}
 use Rattle.plane.specs.Range.{pointFinite}
 use Rattle.form.specs.declared.Form.{Form}
@@ -22,7 +24,7 @@ use Rattle.faults.specs.Tests.{curveAt, curveFinite}
 use Rattle.path.specs.Range.{within, pointWithin, curveWithin}
 use Rattle.path_text.specs.Writable.{Writable}
 use Rattle.path_text.proofs.Parts.{x-fine, y-fine, curve-fine, curve-at}
-use Rattle.figures.proofs.Places.{length-text, short-places, short-sign}
+use Rattle.figures.proofs.Places.{none, length-text, short-places, short-sign}
 use Rattle.thousandths.proofs.Back.{written-small}
 
 -- ---- lengths
@@ -31,13 +33,22 @@ pub number-text : (x : Float) → length (numberText x) ≡ suc (length (decimal
 unfolding numberText
 number-text x = refl
 
--- a sign, ten digits, a point and three more
-pub number-short : (x : Float) → finite x ≡ true → within x ≡ true → length (numberText x) ≤ 16
-number-short x f w =
-    let d = writtenOf x in
-    let s = written-small x f w in
-    let n = decimal-length 9 (d .thousandths / 1000) (omega arith) in
-    omega (arith, number-text x, length-text d, short-places (d .thousandths % 1000), short-sign (d .negative))
+-- a blank, a sign, nine digits, a point and three more; of 1,000,000,000 there is no more than ten digits
+pub number-short : (x : Float) → finite x ≡ true → within x ≡ true → length (numberText x) ≤ 15
+number-short x f w = go (ltb (writtenOf x .thousandths) most) refl (written-small x f w)
+  where
+    go : (b : Bool) → ltb (writtenOf x .thousandths) most ≡ b → writtenOf x .thousandths ≤ most → length (numberText x) ≤ 15
+    go true e s =
+        let d = writtenOf x in
+        let m : d .thousandths < most = ltb-true (d .thousandths) most e in
+        let n = decimal-length 8 (d .thousandths / 1000) (omega arith) in
+        omega (arith, number-text x, length-text d, short-places (d .thousandths % 1000), short-sign (d .negative))
+    go false e s =
+        let d = writtenOf x in
+        let m : most ≤ d .thousandths = ltb-false (d .thousandths) most e in
+        let n = decimal-length 9 (d .thousandths / 1000) (omega arith) in
+        let z : d .thousandths % 1000 ≡ 0 = omega arith in
+        omega (arith, number-text x, length-text d, ap length (none (d .thousandths % 1000) z), short-sign (d .negative))
 
 pub point-text : (p : Point) → length (pointText p) ≡ length (numberText (p .x)) + length (numberText (p .y))
 unfolding pointText
@@ -69,19 +80,19 @@ path-text ring n f = simp length-append
 
 -- ---- how long at most
 
-point-short : (p : Point) → pointFinite p ≡ true → pointWithin p ≡ true → length (pointText p) ≤ 32
+point-short : (p : Point) → pointFinite p ≡ true → pointWithin p ≡ true → length (pointText p) ≤ 30
 point-short p f w =
     let x = x-fine p f w in
     let y = y-fine p f w in
     omega (arith, point-text p, number-short (p .x) (x .0) (x .1), number-short (p .y) (y .0) (y .1))
 
-curve-short : (c : Curve) → curveFinite c ≡ true → curveWithin c ≡ true → length (curveText c) ≤ 98
+curve-short : (c : Curve) → curveFinite c ≡ true → curveWithin c ≡ true → length (curveText c) ≤ 92
 curve-short c f w =
     let p = curve-fine c f w in
     omega (arith, curve-text c, point-short (c .cp1) (p .cp1 .0) (p .cp1 .1), point-short (c .cp2) (p .cp2 .0) (p .cp2 .1), point-short (c .end) (p .end .0) (p .end .1))
 
 module _ {form : Form} {C : List Float} {n : ℕ} (w : Writable form C n) where
-  curves-short : (i : ℕ) → i ≤ n → length (curvesText i (curveAt form C)) ≤ 98 * i
+  curves-short : (i : ℕ) → i ≤ n → length (curvesText i (curveAt form C)) ≤ 92 * i
   unfolding curvesText
   curves-short zero h = omega arith
   curves-short (suc i) h =
@@ -90,7 +101,7 @@ module _ {form : Form} {C : List Float} {n : ℕ} (w : Writable form C n) where
       let s = curves-short i (omega arith) in
       omega (arith, length-append (curvesText i f) (curveText (f i)), curve-short (f i) (t .0) (t .1), s)
 
-  pub path-short : (ring : Bool) → 0 < n → length (pathText ring n (curveAt form C)) ≤ 35 + 98 * n
+  pub path-short : (ring : Bool) → 0 < n → length (pathText ring n (curveAt form C)) ≤ 33 + 92 * n
   path-short ring h =
       let f = curveAt form C in
       let t = curve-at 0 w h in

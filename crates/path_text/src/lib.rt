@@ -22,7 +22,7 @@ use thousandths::written;
 // How long a number is, with the blank before it.
 fn number_length(x: f64) -> usize
     requires { ⌜ (finite x ≡ true) × (within x ≡ true) ⌝ }
-    ensures { λ r. ⌜ (r ≡ length (numberText x)) × (r ≤ 16) ⌝ }
+    ensures { λ r. ⌜ (r ≡ length (numberText x)) × (r ≤ 15) ⌝ }
 {
     1 + figures::length_of(written(x))
 }
@@ -30,7 +30,7 @@ fn number_length(x: f64) -> usize
 // How long a point is.
 fn point_length(p: Point) -> usize
     requires { ⌜ (pointFinite p ≡ true) × (pointWithin p ≡ true) ⌝ }
-    ensures { λ r. ⌜ (r ≡ length (pointText p)) × (r ≤ 32) ⌝ }
+    ensures { λ r. ⌜ (r ≡ length (pointText p)) × (r ≤ 30) ⌝ }
 {
     number_length(p.x) + number_length(p.y)
 }
@@ -38,7 +38,7 @@ fn point_length(p: Point) -> usize
 // How long a curve is.
 fn curve_length(c: Curve) -> usize
     requires { ⌜ (curveFinite c ≡ true) × (curveWithin c ≡ true) ⌝ }
-    ensures { λ r. ⌜ (r ≡ length (curveText c)) × (r ≤ 98) ⌝ }
+    ensures { λ r. ⌜ (r ≡ length (curveText c)) × (r ≤ 92) ⌝ }
 {
     2 + (point_length(c.cp1) + (point_length(c.cp2) + point_length(c.end)))
 }
@@ -46,7 +46,7 @@ fn curve_length(c: Curve) -> usize
 // How long the first n curves are.
 fn curves_length(form: Form, curves: &[f64], n: usize) -> usize
     requires { ⌜ Writable form (now curves) n ⌝ }
-    ensures { λ r. ⌜ (r ≡ length (curvesText n (curveAt form (now (curves .entry))))) × (r ≤ 98 * n) ⌝ }
+    ensures { λ r. ⌜ (r ≡ length (curvesText n (curveAt form (now (curves .entry))))) × (r ≤ 92 * n) ⌝ }
 {
     let mut total = 0;
     let mut i = 0;

@@ -16,7 +16,7 @@
 //     blocks N                                                               into how many blocks a joined fit cuts N marks
 //     size N                                                                 of how many marks a block is, where an outline has N
 //     export OPEN K C8 .., export RING K C8 ..                               K curves as path data
-//     import TEXT                                                            path data, all behind the first blank; at most 8,192 curves
+//     import TEXT                                                            path data, all behind the first blank; at most 65,536 curves
 //
 // An accepted case answers 0 and its numbers: the root; x y; a b c d; both halves; t; t and squared distance; for a fit K, then for each curve its
 // first mark, its worst mark and nine numbers, then every parameter; the distance; the count; the size; the path data; K, OPEN or CLOSED and eight

@@ -1,4 +1,5 @@
-// Cases of path data: curves to a text, and a text to curves. There is room for all the curves that a line can hold; a text may draw more, and is refused for room then.
+// Cases of path data: curves to a text, and a text to curves. There is room for all the curves that a line can hold. A text may draw more than the stack has room for,
+// and is refused for room then.
 use crate::cursor::NOWHERE;
 use crate::cursor::front;
 use crate::cursor::take_count;
@@ -19,13 +20,18 @@ use lines::Listed;
 const MOST_CURVES: u64 = 8192;
 
 // Room for the text of so many curves. An array that is made where it is used is long in every goal.
-fn text_room() -> [u8; 802851] {
-    [0; 802851]
+fn text_room() -> [u8; 753697] {
+    [0; 753697]
 }
 
-// Room for their numbers.
+// Room for their numbers; and for a text of 32,768 bytes, of which a curve takes four at least.
 fn curve_room() -> [f64; 65536] {
     [0.0; 65536]
+}
+
+// Room for the numbers of 65,536 curves, for longer texts.
+fn large_room() -> [f64; 524288] {
+    [0.0; 524288]
 }
 
 // Whether a ring is meant, with the place behind the word.
@@ -99,10 +105,10 @@ pub fn export_case(line: &[u8], at: usize) -> bool {
     true
 }
 
-// How many numbers so many curves have; no room has more than 65,536.
+// How many numbers so many curves have; no room has more than 524,288.
 fn numbers_of(count: usize) -> usize {
-    if count > 8192 {
-        return 65536;
+    if count > 65536 {
+        return 524288;
     }
     CURVE_NUMBERS * count
 }
@@ -119,13 +125,22 @@ fn say_path(count: usize, closed: bool, curves: &[f64]) {
     print_floats(front(curves, numbers_of(count)));
 }
 
-// What import says of a text.
-fn say_imported(text: &[u8]) {
-    let mut curves = curve_room();
-    match import_path(text, &mut curves) {
-        Imported::Path { count, closed } => say_path(count, closed, &curves),
+// What import says of a text, with this room.
+fn say_imported(text: &[u8], curves: &mut [f64]) {
+    match import_path(text, curves) {
+        Imported::Path { count, closed } => say_path(count, closed, curves),
         Imported::Refused(q) => print_refused(q),
     }
+}
+
+fn import_short(text: &[u8]) {
+    let mut curves = curve_room();
+    say_imported(text, &mut curves);
+}
+
+fn import_long(text: &[u8]) {
+    let mut curves = large_room();
+    say_imported(text, &mut curves);
 }
 
 // import TEXT: all behind the first blank
@@ -134,6 +149,10 @@ pub fn import_case(line: &[u8], at: usize) -> bool {
         return false;
     }
     let from = at + 1;
-    say_imported(&line[from..]);
+    if line.len() - from > 32768 {
+        import_long(&line[from..]);
+    } else {
+        import_short(&line[from..]);
+    }
     true
 }

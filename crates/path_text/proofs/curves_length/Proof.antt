@@ -12,7 +12,7 @@ use Rattle.path_text.proofs.curves_length.Statement.{statement}
 use Rattle.path_text.proofs.curves_length.Tie as tie
 
 abbrev Inv-loop : tie.InvT-loop
-Inv-loop form curves n total₀ i₀ total i = (i ≤ n) × (total ≡ length (curvesText i (curveAt form curves))) × (total ≤ 98 * i)
+Inv-loop form curves n total₀ i₀ total i = (i ≤ n) × (total ≡ length (curvesText i (curveAt form curves))) × (total ≤ 92 * i)
 
 abbrev μ-loop : tie.MeasureT-loop
 μ-loop form curves n total₀ i₀ total i = n - i
