@@ -18,10 +18,11 @@ use Rattle.path.specs.Text.{pathText}
 abbrev pub wholeIn : Form → ℕ → ℕ → ℕ
 wholeIn form n k = min k (n / width form)
 
--- the h curves meet bit for bit; of a ring that is held whole also the last end and the first start
+-- each of h curves ends, bit for bit, where the next one starts
 unfoldable pub joined : ℕ → (ℕ → Curve) → Bool
 joined h f = every (h - 1) (λ i. same (f i .end) (f (suc i) .start))
 
+-- there are curves, and those that are held meet; of a ring that is held whole also the last end and the first start
 unfoldable pub meets : Bool → ℕ → ℕ → (ℕ → Curve) → Bool
 meets ring k h f = ltb 0 k && (joined h f && (not (ring && leb k h) || same (f (k - 1) .end) (f 0 .start)))
 
