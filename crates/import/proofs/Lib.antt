@@ -1,3 +1,4 @@
+pub mod Agree
 pub mod Lines
 pub mod Paths
 pub mod Pieces

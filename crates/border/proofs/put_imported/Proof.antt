@@ -1,5 +1,4 @@
 -- `border::put_imported` meets its contract. Assumes nothing.
-use native.Mathlib.Omega.{arith}
 use borrow.Author.Needs.{needs}
 use mathlib.Core.Path.{refl}
 use Rattle.border.specs.Crossing.{drawnCrossed}

@@ -1,7 +1,6 @@
 -- `wesalondo::wes_export_path` meets its contract. Assumes nothing.
-use native.Mathlib.Omega.{arith}
 use borrow.Author.Needs.{needs}
-use mathlib.Core.Path.{refl, ap, _∙_}
+use mathlib.Core.Path.{ap}
 use Rattle.wesalondo.specs.Left.{leftWithText}
 use Rattle.wesalondo.proofs.wes_export_path.Statement.{statement}
 use Rattle.wesalondo.proofs.wes_export_path.Tie as tie

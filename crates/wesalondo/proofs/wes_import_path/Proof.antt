@@ -1,5 +1,4 @@
 -- `wesalondo::wes_import_path` meets its contract. Assumes nothing.
-use native.Mathlib.Omega.{arith}
 use borrow.Author.Needs.{needs}
 use mathlib.Core.Path.{ap}
 use Rattle.wesalondo.specs.Left.{leftByImport}
