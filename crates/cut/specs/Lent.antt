@@ -5,7 +5,7 @@ use mathlib.Core.List.{List}
 use lib.ListN.{length}
 use lib.Ieee.{Float}
 use Rattle.float.specs.Slices.{written}
-use Rattle.limits.specs.Limits.{markNumbers}
+use Rattle.limits.specs.Limits.{mostNumbered}
 use Rattle.form.specs.Form.{recordNumbers}
 use Rattle.gate.specs.Gate.{Usable}
 use Rattle.cut.specs.Run.{Run, refused, done, firstsOf, worstsOf}
@@ -22,7 +22,7 @@ pub record Ready (ms : List Float) (first : ℕ) (tol : Float) (C : List Float) 
   pub usable : Usable ms tol
   pub even : length ms ≡ 2 * length P
   pub two : 2 ≤ length P
-  pub near : first + length P ≤ markNumbers
+  pub near : first + length P ≤ mostNumbered
   pub curves : recordNumbers * length P ≤ length C + recordNumbers
   pub firsts : length P ≤ length F + 1
   pub worsts : length P ≤ length W + 1

@@ -1,17 +1,18 @@
 -- What holds of either form, and of mark numbers of either length. Assumes nothing.
 use mathlib.Core.Path.{_≡_, refl}
-use mathlib.Core.Bool.{true}
+use mathlib.Core.Bool.{Bool, true, false, cond}
 use Prim.Native.Nat.{ℕ, zero, suc, _+_, _*_, _/_, _^_, _<_, _≤_}
 use native.Mathlib.Nat.{mul-le-mul-left}
 use native.Mathlib.Omega.{arith}
-use borrow.Author.Tests.{lt-ltb, ne-eqb}
+use borrow.Author.Tests.{leb-true, le-leb, lt-ltb, ne-eqb}
+use lib.Dec.{leb}
 use Rattle.form.specs.declared.Form.{Form}
 use Rattle.form.specs.declared.Form.the-variants.{Eight, Nine}
 use Rattle.form.specs.Form.{width, worstsFor}
 use Rattle.limits.specs.Limits.{mostMarks}
 use Rattle.house.specs.declared.sizes.Field.{Field}
 use Rattle.house.specs.declared.sizes.Field.the-variants.{Two, Four}
-use Rattle.house.specs.Limits.{fieldFor, markField, worstMarks, curveKind, besideBytes, bodyBytes, curveBytes}
+use Rattle.house.specs.Limits.{mostSmall, fieldFor, markField, worstMarks, curveKind, besideBytes, bodyBytes, curveBytes}
 use Rattle.house.specs.File.{suits, formFor}
 use Rattle.house.specs.Held.{formOf, paramsAt}
 use Rattle.house.specs.Layout.{sizeFor}
@@ -86,6 +87,20 @@ size-few form n k c h few g = omega (arith, curves-few form (fieldFor n) k c h)
 -- a record is within those of which it is one
 pub within : (step k i : ℕ) → i < k → step * i + step ≤ step * k
 within step k i h = let m : step * (i + 1) ≤ step * k = mul-le-mul-left step (omega arith) in omega arith
+
+-- ---- the number of a mark fits the field that goes with so many marks
+
+pub small-field : (n : ℕ) → n ≤ mostSmall → fieldFor n ≡ Two
+unfolding fieldFor
+small-field n h = rw (le-leb n mostSmall h)
+
+pub number-fits : (n x : ℕ) → x < n → n ≤ mostMarks → x < 256 ^ markField (fieldFor n)
+unfolding fieldFor
+number-fits n x h m = go (leb n mostSmall) refl
+  where
+    go : (b : Bool) → leb n mostSmall ≡ b → x < 256 ^ markField (cond (leb n mostSmall) Two Four)
+    go true e = let s : n ≤ mostSmall = leb-true _ _ e in rw e (omega arith)
+    go false e = rw e (omega arith)
 
 -- ---- worst marks: as many in each record
 

@@ -7,5 +7,5 @@ mostMarks = 100000
 
 -- How many marks can have a number, which is a u32. The routines inside a fit ask for no more marks than that, and not for `mostMarks`: all they need is that
 -- a mark's number fits, and no sum over marks then passes a usize.
-abbrev pub markNumbers : ℕ
-markNumbers = 2 ^ 32
+abbrev pub mostNumbered : ℕ
+mostNumbered = 2 ^ 32
