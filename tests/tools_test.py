@@ -124,6 +124,7 @@ class Compare(Case):
             self.compare(2, 'line 2 has more than the 21,000 marks', flo, write('long.txt', f'{LINES[0]}\n{long_fit}\n'))
         for kind in ('check', 'check_ring', 'check_worst', 'check_worst_ring'):
             self.compare(2, 'line 1 has more than the 21,000 marks', flo, write('long.txt', f'{kind} {word_of(0.5)} {LINE_MARKS + 1} {mark}\n'))
+            self.compare(2, 'line 1 has more than the 21,000 marks or curves', flo, write('long.txt', f'{kind} {word_of(0.5)} 2 {mark} {mark} {LINE_MARKS + 1} 0\n'))
 
     def test_last_line_without_newline(self):
         self.counts(0, '2 cases, 0 different', write('open.txt', '\n'.join(LINES)))
