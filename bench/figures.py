@@ -10,6 +10,7 @@ ALONE = ('fit_joined', 'fit_ring', 'check_worst')          # timed by the mark a
 SINGLE = ('nearest_point_on_curve', 'sqrt')                # timed by the call
 ALL = 'all fits'
 FAMILIES = ('smooth', 'noisy', 'long')
+EVEN = 'even'                                              # the family that is one outline, cut into stretches of so many marks
 OPEN, CLOSE = '<!-- figures: from here on bench/run --out writes anew -->\n', '<!-- figures: up to here -->\n'
 
 
@@ -43,6 +44,11 @@ def chosen(rows, **wanted):
     return [row for row in rows if all(getattr(row, name) == value for name, value in wanted.items())]
 
 
+def apart(rows):
+    """The rows of outlines that differ in more than in how many marks they have."""
+    return [row for row in rows if row.family != EVEN]
+
+
 def sizes(rows):
     return sorted({row.marks for row in rows})
 
@@ -58,11 +64,11 @@ def share(value):
     return '-' if value is None else f'{value:.2f}'
 
 
-HEAD = f'{"call":24}{"family":10}{"marks":>6}{"tolerance":>11}{"curves":>8}{"Rust, ns":>10}{"port, ns":>10}{"port/Rust":>11}'
+HEAD = f'{"call":24}{"family":10}{"marks":>8}{"tolerance":>11}{"curves":>8}{"Rust, ns":>10}{"port, ns":>10}{"port/Rust":>11}'
 
 
 def printed(row):
-    return (f'{row.call:24}{row.family:10}{row.marks:>6,}{row.tolerance:>11}{row.curves:>8,}'
+    return (f'{row.call:24}{row.family:10}{row.marks:>8,}{row.tolerance:>11}{row.curves:>8,}'
             f'{duration(row.rust):>10}{duration(row.port):>10}{share(row.ratio):>11}')
 
 
@@ -71,6 +77,7 @@ Mean = collections.namedtuple('Mean', 'name count mean least most')
 
 def means(rows):
     """The geometric mean of the ratios of each call, and over all fits, with how many they are and the least and the largest one."""
+    rows = apart(rows)
     of_call = [(call, chosen(rows, call=call)) for call in BOTH + SINGLE]
     groups = of_call[:len(BOTH)] + [(ALL, [row for row in rows if row.call in BOTH])] + of_call[len(BOTH):]
     ratios = [(name, [row.ratio for row in group]) for name, group in groups if group]
@@ -82,8 +89,8 @@ def printed_mean(mean):
 
 
 def outlines_of(rows):
-    """How many different outlines the fits were timed on."""
-    return len({row[1:4] for row in rows if row.call in BOTH})
+    """How many different outlines the fits were timed on, but for the even one."""
+    return len({row[1:4] for row in apart(rows) if row.call in BOTH})
 
 
 def table(head, rows):
@@ -102,7 +109,7 @@ def mean_of(rows):
 
 def fit_table(rows, call):
     """A row for each size; for each family the Rust, the port and the ratio."""
-    own = chosen(rows, call=call)
+    own = apart(chosen(rows, call=call))
     head = ['marks'] + [f'{family}: {side}' for family in FAMILIES for side in ('Rust', 'port', 'ratio')]
     cells = lambda marks: [cell for family in FAMILIES for cell in mean_of(chosen(own, marks=marks, family=family))]
     return table(head, [[f'{marks:,}', *cells(marks)] for marks in sizes(own)])
@@ -110,10 +117,26 @@ def fit_table(rows, call):
 
 def alone_table(rows):
     """A row for each size; for each call and family the port's nanoseconds."""
-    own = [row for row in rows if row.call in ALONE]
+    own = [row for row in apart(rows) if row.call in ALONE]
     head = ['marks'] + [f'`{call}`: {family}' for call in ALONE for family in FAMILIES]
     cells = lambda marks: [mean_of(chosen(own, call=call, marks=marks, family=family))[1] for call in ALONE for family in FAMILIES]
     return table(head, [[f'{marks:,}', *cells(marks)] for marks in sizes(own)])
+
+
+def even_costs(rows):
+    """For each call that was timed on the even outline, and for each side, the call, the side and the cost of a mark by the marks of a stretch."""
+    for call, side in [(call, side) for call in BOTH for side in ('Rust', 'port')] + [(call, 'port') for call in ALONE]:
+        costs = {row.marks: getattr(row, side.lower()) for row in chosen(rows, family=EVEN, call=call)}
+        if costs:
+            yield call, side, costs
+
+
+def even_table(rows):
+    """A row for each call and side, a column for each length of a stretch; and the last cost by the first."""
+    columns = sizes(chosen(rows, family=EVEN))
+    cells = lambda costs: [duration(costs.get(marks)) for marks in columns] + [share(costs[max(costs)] / costs[min(costs)])]
+    head = ['call', *(f'{marks:,}' for marks in columns), 'last / first']
+    return table(head, [[f'`{call}`, {side}', *cells(costs)] for call, side, costs in even_costs(rows)])
 
 
 def mean_table(rows):
@@ -138,11 +161,12 @@ def markdown(rows, machine):
         f'{outlines_of(rows)} outlines. A ratio is the port\'s time by the Rust\'s: below 1 the port is the quicker one.\n',
         mean_table(rows), single_table(rows),
         '![What a mark costs, against the number of marks: three fits by the Rust and by the port, and by the port alone '
-        'the joined fit, the ring fit and the list checker](speed.svg)\n',
-        'Nanoseconds a mark; a figure is the geometric mean over the tolerances.\n']
+        'the joined fit, the ring fit and the list checker; then the same on 100,000 marks in outlines of 1,000 to 100,000](speed.svg)\n',
+        '### The same 100,000 marks, in outlines of so many\n', 'Nanoseconds a mark.\n', even_table(rows),
+        '### All other outlines\n', 'Nanoseconds a mark; a figure is the geometric mean over the tolerances.\n']
     for call in BOTH:
-        parts += [f'### `{call}`\n', fit_table(rows, call)]
-    return '\n'.join(parts + ['### The port alone: what flo_curves has not\n', alone_table(rows)])
+        parts += [f'#### `{call}`\n', fit_table(rows, call)]
+    return '\n'.join(parts + ['#### The port alone: what flo_curves has not\n', alone_table(rows)])
 
 
 def renewed(page, new):

@@ -2,12 +2,12 @@
 import math
 
 from bench.svg import COLOURS, FONTS, GREEN, GREY, INK, WHITE, circle, group, line, look, num, path, text
-from figures import ALONE, BOTH, chosen, geometric_mean, sizes
+from figures import ALONE, BOTH, EVEN, apart, chosen, geometric_mean, sizes
 
-WIDE, HIGH = 960, 760           # of the drawing, in its own units
+WIDE, HIGH = 960, 1120          # of the drawing, in its own units
 PANEL_WIDE, PANEL_HIGH = 400, 250
-LEFTS, TOPS = (60, 540), (64, 424)
-FOOT = 726                      # where the words below the panels stand
+LEFTS, TOPS = (60, 540), (64, 424, 784)
+FOOT = 1086                     # where the words below the panels stand
 KEYS = 85                       # where the legend begins, from a panel's left
 APART = 36                      # that two marked sizes have between them at least
 PALE = '#e3e3e3'
@@ -63,15 +63,26 @@ class Series:
         return [path(f'M{num(x)} {num(y - 4)}h30', self.stroke()), text(x + 36, y, 12, self.name)]
 
 
+def by_both(rows, call):
+    """The two series of a call that both have."""
+    return [Series(name, side, [(row.marks, getattr(row, side)) for row in chosen(rows, call=call)], shift)
+            for name, side, shift in (('Rust (flo_curves)', 'rust', -3), ('port (Wesalondo)', 'port', 3))]
+
+
+def by_the_port(rows):
+    return [Series(name, call, [(row.marks, row.port) for row in chosen(rows, call=call)], shift)
+            for call, name, shift in zip(ALONE, ('joined fit', 'ring fit', 'list checker'), (-3, 3, 0))]
+
+
 def panels(rows):
-    """A title and its series, four times."""
+    """A title, its series and its sizes: four of outlines that differ, and two of one outline in stretches."""
+    others, even = apart(rows), chosen(rows, family=EVEN)
     for call in BOTH:
-        own = chosen(rows, call=call)
-        yield call, [Series(name, side, [(row.marks, getattr(row, side)) for row in own], shift)
-                     for name, side, shift in (('Rust (flo_curves)', 'rust', -3), ('port (Wesalondo)', 'port', 3))]
-    yield 'the port alone: flo_curves has no such calls', [
-        Series(name, call, [(row.marks, row.port) for row in chosen(rows, call=call)], shift)
-        for call, name, shift in zip(ALONE, ('joined fit', 'ring fit', 'list checker'), (-3, 3, 0))]
+        yield call, by_both(others, call), sizes(others)
+    yield 'the port alone: flo_curves has no such calls', by_the_port(others), sizes(others)
+    if even:
+        yield f'{BOTH[0]}: the same 100,000 marks, in shorter outlines', by_both(even, BOTH[0]), sizes(even)
+        yield 'the port alone: the same 100,000 marks, in shorter outlines', by_the_port(even), sizes(even)
 
 
 def grid(x, y, marks, costs, left, top):
@@ -94,12 +105,12 @@ def panel(title, series, all_sizes, costs, left, top):
 
 
 def plot(rows):
-    """The SVG of these rows; all panels have the same axes."""
+    """The SVG of these rows; all panels have the same axis of costs."""
     fits = [row for row in rows if row.call in BOTH + ALONE]
     all_costs = [cost for row in fits for cost in (row.rust, row.port) if cost is not None]
     costs, places = steps(min(all_costs) / 1.1, max(all_costs) * 1.1), [(left, top) for top in TOPS for left in LEFTS]
-    drawn = [piece for (title, series), (left, top) in zip(panels(rows), places) for piece in panel(title, series, sizes(fits), costs, left, top)]
-    words = 'A dot is one outline at one tolerance, a line the geometric mean at that number of marks. Both axes are logarithmic; lower is quicker.'
+    drawn = [piece for (title, series, own), (left, top) in zip(panels(fits), places) for piece in panel(title, series, own, costs, left, top)]
+    words = 'A dot is one outline at one tolerance, a line the geometric mean at that number of marks. All axes are logarithmic; lower is quicker.'
     return '\n'.join([
         f'<svg xmlns="http://www.w3.org/2000/svg" viewBox="0 0 {WIDE} {HIGH}" width="{WIDE}" height="{HIGH}" font-family="{FONTS}">',
         f'<rect width="{WIDE}" height="{HIGH}" fill="{WHITE}"/>', *drawn, text(10, FOOT + 14, 12, words), '</svg>', ''])

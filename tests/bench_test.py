@@ -38,6 +38,10 @@ LINES = [
     'fit_curve noisy 4096 0.5 803 1000.00 250.00',
     'fit_curve_loop long 200 0.5 9 400.00 400.00',
     'fit_curve_cubic smooth 512 0.5 9 100.00 1600.00',
+    'fit_curve even 1000 0.5 2100 400.00 200.00',
+    'fit_curve even 100000 0.5 2000 440.00 250.00',
+    'fit_joined even 1000 0.5 2100 - 300.00',
+    'fit_joined even 100000 0.5 2000 - 330.00',
     'fit_joined smooth 12 0.5 3 - 96.00',
     'fit_ring smooth 12 0.5 3 - 2500.00',
     'check_worst smooth 12 0.5 3 - 61.20',
@@ -70,7 +74,7 @@ class Figures(unittest.TestCase):
     def test_lines(self):
         self.assertEqual(rows[0], ('fit_curve', 'smooth', 12, '0.05', 7, 200.0, 100.0))
         self.assertEqual([row.ratio for row in rows[:3]], [0.5, 2.0, 0.25])
-        self.assertEqual((rows[5].rust, rows[5].ratio), (None, None))
+        self.assertEqual((rows[7].rust, rows[7].ratio), (None, None))
         for line in (
                 '', 'fit_curve smooth 12 0.5 7 1.0', 'fit_circle smooth 12 0.5 7 1.0 1.0', LINES[0] + ' 1',
                 LINES[0].replace('200.00', 'inf'), LINES[0].replace('200.00', '0.00')):
@@ -90,7 +94,8 @@ class Figures(unittest.TestCase):
 
     def test_printed(self):
         self.assertEqual(figures.printed(rows[2]).split(), 'fit_curve noisy 4,096 0.5 803 1,000 250 0.25'.split())
-        self.assertEqual(figures.printed(rows[7]).split(), 'check_worst smooth 12 0.5 3 - 61.2 -'.split())
+        self.assertEqual(figures.printed(rows[6]).split(), 'fit_curve even 100,000 0.5 2,000 440 250 0.57'.split())
+        self.assertEqual(figures.printed(rows[-3]).split(), 'check_worst smooth 12 0.5 3 - 61.2 -'.split())
         self.assertEqual({len(figures.printed(row)) for row in rows}, {len(figures.HEAD)})
         self.assertEqual(figures.printed_mean(figures.means(rows)[-1]).split(), 'sqrt 1 port/Rust 14.000 from 14.00 to 14.00'.split())
 
@@ -101,6 +106,13 @@ class Figures(unittest.TestCase):
         self.assertIn('| `sqrt`, apart | 2.0 | 28.0 | 14.00 |\n', figures.single_table(rows))
         for found in re.findall(r'(?:^\|.*\n)+', figures.markdown(rows, 'a machine.'), re.M):
             self.assertEqual(len({line.count('|') for line in found.splitlines()}), 1, found)
+
+    def test_stretches(self):
+        self.assertEqual(figures.even_table(rows).splitlines(), [
+            '| call | 1,000 | 100,000 | last / first |', '| --- | --: | --: | --: |',
+            '| `fit_curve`, Rust | 400 | 440 | 1.10 |', '| `fit_curve`, port | 200 | 250 | 1.25 |', '| `fit_joined`, port | 300 | 330 | 1.10 |'])
+        self.assertNotIn('even', figures.fit_table(rows, 'fit_curve') + figures.alone_table(rows))
+        self.assertNotIn('100,000', figures.fit_table(rows, 'fit_curve') + figures.alone_table(rows))
 
     def test_page(self):
         page = f'before\n{figures.OPEN}old\n{figures.CLOSE}after\n'
@@ -116,11 +128,11 @@ class Plot(unittest.TestCase):
         drawn = tree.fromstring(plot.plot(rows))
         said = [''.join(piece.itertext()) for piece in drawn.iter(SVG + 'text')]
         for words, times in (
-                ('Rust (flo_curves)', 3), ('port (Wesalondo)', 3), ('joined fit', 1), ('list checker', 1), ('nanoseconds a mark', 4),
-                ('marks in the outline', 4), ('4,096', 4)):
+                ('Rust (flo_curves)', 4), ('port (Wesalondo)', 4), ('joined fit', 2), ('list checker', 2), ('nanoseconds a mark', 6),
+                ('marks in the outline', 6), ('4,096', 4), ('100,000', 2)):
             self.assertEqual(said.count(words), times, words)
         dots = [(float(dot.get('cx')), float(dot.get('cy'))) for dot in drawn.iter(SVG + 'circle')]
-        self.assertEqual(len(dots), 2 * 5 + 3)
+        self.assertEqual(len(dots), 2 * 5 + 3 + 2 * 2 + 2)
         self.assertTrue(all(0 < x < plot.WIDE and 0 < y < plot.HIGH for x, y in dots), dots)
 
     def test_quicker_is_lower(self):
@@ -184,14 +196,14 @@ class Run(support.Case):
     def test_program(self):
         flo = in_copy('flo curves')
         self.stops(2, 'was not built', flo, BUILT='no')
-        self.stops(2, 'ended with status 3 after 10 lines', flo, ENDS='3')
+        self.stops(2, f'ended with status 3 after {len(LINES)} lines', flo, ENDS='3')
         self.stops(1, 'do not give the same', flo, ENDS='1')
 
     def test_figures(self):
         status, printed = self.run_main(in_copy('flo curves'))
         self.assertEqual(status, 0)
         self.assertIn('Geometric means, over 5 outlines:\n', printed)
-        self.assertEqual(len([line for line in printed.splitlines() if line.startswith('fit_curve ')]), 4)  # three outlines and their mean
+        self.assertEqual(len([line for line in printed.splitlines() if line.startswith('fit_curve ')]), 6)  # three outlines, two lengths of stretches, and their mean
         self.assertIn('package = "flo_curves"', read('target/bench/Cargo.toml').decode('utf-8'))
 
     def test_out(self):

@@ -2,7 +2,8 @@
 //! Before anything is timed, every outline is fitted by both, and the curves must be the same bits: an outline where they are not is named on
 //! standard error, and the status is 1.
 //! A line for each call and outline: call, family, marks, tolerance, curves, nanoseconds a mark of the Rust (`-` where flo_curves has no such call)
-//! and of the port. Of the nearest point and the square root it is questions in the place of marks, `-` for the tolerance, and nanoseconds a question.
+//! and of the port. A line of the family `even` is of all stretches of so many marks, into which one outline is cut. Of the nearest point and the square
+//! root it is questions in the place of marks, `-` for the tolerance, and nanoseconds a question.
 use flo_curves::bezier::*;
 use std::f64::consts::TAU;
 use std::hint::black_box;
@@ -11,9 +12,10 @@ use wesalondo::sys;
 
 type Plain = Curve<Coord2>;
 
-const SIZES: [usize; 10] = [12, 24, 50, 100, 200, 300, 512, 1000, 2000, 4096];
-const MOST: usize = 4096;
+const SIZES: [usize; 14] = [12, 24, 50, 100, 200, 300, 512, 1000, 2000, 4096, 10_000, 20_000, 50_000, 100_000];
+const MOST: usize = 100_000;
 const MOST_DIRECT: usize = 512; // that fit_curve_cubic of the port takes
+const STRETCHES: [usize; 7] = [1000, 2000, 5000, 10_000, 20_000, 50_000, MOST]; // into which the even outline is cut
 const QUESTIONS: usize = 512; // that are asked in turn where one call is too short for the clock
 const SEED: u64 = 0x9E37_79B9_7F4A_7C15;
 
@@ -49,6 +51,12 @@ fn long(n: usize) -> Vec<Coord2> {
     (0..n).map(|i| (20.0 + 0.25 * i as f64, TAU * i as f64 / 75.0)).map(|(r, a)| Coord2(r * a.cos(), r * a.sin())).collect()
 }
 
+/// The most marks on a wavy line, 2 mm a mark and 75 marks a wave, each mark off by up to 0.2 mm each way: every stretch is like every other.
+fn even() -> Vec<Coord2> {
+    let mut dice = Dice(SEED);
+    (0..MOST).map(|i| dice.near(Coord2(2.0 * i as f64, 40.0 * (TAU * i as f64 / 75.0).sin()), 0.2)).collect()
+}
+
 struct Outline { family: &'static str, tolerance: f64, marks: Vec<Coord2>, numbers: Vec<f64> }
 
 /// A family, how its marks are made, and the tolerances that suit it.
@@ -59,9 +67,12 @@ fn outline(family: &'static str, tolerance: f64, marks: Vec<Coord2>) -> Outline 
     let numbers = marks.iter().flat_map(|p| [p.0, p.1]).collect();
     Outline { family, tolerance, marks, numbers }
 }
-fn outlines() -> Vec<Outline> {
-    let of_size = |n: usize| FAMILIES.iter().flat_map(move |(name, made, tolerances)| tolerances.iter().map(move |t| outline(name, *t, made(n))));
-    SIZES.iter().flat_map(|n| of_size(*n)).collect()
+/// The even outline in stretches of n marks: the same marks for every n, so that what a mark costs can differ only by how many an outline has.
+fn stretches(n: usize) -> Vec<Outline> { even().chunks(n).map(|marks| outline("even", 0.5, marks.to_vec())).collect() }
+/// What is fitted in a row and timed as one: an outline, or stretches of one.
+fn groups() -> Vec<Vec<Outline>> {
+    let of_size = |n: usize| FAMILIES.iter().flat_map(move |(name, made, tolerances)| tolerances.iter().map(move |t| vec![outline(name, *t, made(n))]));
+    SIZES.iter().flat_map(|n| of_size(*n)).chain(STRETCHES.iter().map(|n| stretches(*n))).collect()
 }
 /// The unit vectors from the first mark to the second and from the last to the one before, which fit_curve_cubic is given.
 fn tangents(p: &[Coord2]) -> (Coord2, Coord2) {
@@ -77,8 +88,8 @@ type Check = unsafe extern "C" fn(
 ) -> u32;
 
 impl Room {
-    /// As much as a ring of the most marks asks for.
-    fn new() -> Room { Room { curves: vec![0.0; 9 * MOST], firsts: vec![0; MOST], worsts: vec![0; MOST], params: vec![0.0; MOST + 1], made: 0 } }
+    /// As much as a ring of n marks asks for.
+    fn new(n: usize) -> Room { Room { curves: vec![0.0; 9 * n], firsts: vec![0; n], worsts: vec![0; n], params: vec![0.0; n + 1], made: 0 } }
     fn fit(&mut self, fit: sys::FitCall, o: &Outline) -> u32 {
         let (curves, firsts, worsts, params) = (&mut self.curves, &mut self.firsts, &mut self.worsts, &mut self.params);
         // every pointer is a vector's own, with its own length
@@ -188,48 +199,54 @@ fn least(sides: &mut [&mut dyn FnMut()]) -> Vec<f64> {
     found
 }
 
-/// What is timed: a call on an outline, or so many questions in a row.
-enum Item<'a> { Fit(&'a Call, &'a Outline), Nearest(&'a str, &'a [Question]), Roots(&'a str, Timed, &'a [f64]) }
+/// What is timed: a call on outlines of the same length in a row, or so many questions in a row.
+enum Item<'a> { Fit(&'a Call, &'a [Outline]), Nearest(&'a str, &'a [Question]), Roots(&'a str, Timed, &'a [f64]) }
 
 impl Item<'_> {
-    /// The least nanoseconds of each side: the Rust, where it has such a call, and the port.
-    fn time(&self, room: &mut Room) -> Vec<f64> {
+    /// The least nanoseconds of each side: the Rust, where it has such a call, and the port; and how many curves there are.
+    fn time(&self) -> (Vec<f64>, usize) {
         match self {
-            Item::Fit(call, o) => time_call(call, o, room),
-            Item::Nearest(_, asked) => time_nearest(asked),
-            Item::Roots(_, timed, numbers) => timed(numbers),
+            Item::Fit(call, outlines) => time_call(call, outlines),
+            Item::Nearest(_, asked) => (time_nearest(asked), 0),
+            Item::Roots(_, timed, numbers) => (timed(numbers), 0),
         }
     }
-    /// Call, family, marks or questions, tolerance and curves; and by how many the nanoseconds are divided.
-    fn told(&self, room: &Room) -> (String, usize) {
+    /// Call, family, marks of an outline or questions, and tolerance; and by how many the nanoseconds are divided.
+    fn told(&self) -> (String, usize) {
         match self {
-            Item::Fit(call, o) => (format!("{} {} {} {} {}", call.name, o.family, o.marks.len(), o.tolerance, room.made), o.marks.len()),
-            Item::Nearest(family, asked) => (format!("nearest_point_on_curve {} {} - 0", family, asked.len()), asked.len()),
-            Item::Roots(family, _, numbers) => (format!("sqrt {} {} - 0", family, numbers.len()), numbers.len()),
+            Item::Fit(call, outlines) => {
+                let (first, all) = (&outlines[0], outlines.iter().map(|o| o.marks.len()).sum());
+                (format!("{} {} {} {}", call.name, first.family, first.marks.len(), first.tolerance), all)
+            }
+            Item::Nearest(family, asked) => (format!("nearest_point_on_curve {} {} -", family, asked.len()), asked.len()),
+            Item::Roots(family, _, numbers) => (format!("sqrt {} {} -", family, numbers.len()), numbers.len()),
         }
     }
 }
 
-fn time_call(call: &Call, o: &Outline, room: &mut Room) -> Vec<f64> {
-    assert!(prepare(call, o, room), "it was taken before");
-    let mut port = || { black_box((call.port)(black_box(o), black_box(&mut *room))); };
-    match &call.held {
-        Held::Same(rust) => least(&mut [&mut || { black_box(rust(black_box(o))); }, &mut port]),
+/// Each outline has room of its own, in which the checker finds its list.
+fn time_call(call: &Call, outlines: &[Outline]) -> (Vec<f64>, usize) {
+    let mut asked: Vec<(&Outline, Room)> = outlines.iter().map(|o| (o, Room::new(o.marks.len()))).collect();
+    for (o, room) in &mut asked { assert!(prepare(call, o, room), "it was taken before"); }
+    let mut port = || for (o, room) in black_box(&mut asked) { black_box((call.port)(o, room)); };
+    let found = match &call.held {
+        Held::Same(rust) => least(&mut [&mut || for o in black_box(outlines) { black_box(rust(o)); }, &mut port]),
         Held::Sound(_) => least(&mut [&mut port]),
-    }
+    };
+    (found, asked.iter().map(|(_, room)| room.made).sum())
 }
 
 /// Times every item PASSES times, and prints it with the least of them in the last pass.
-fn time_all(items: &[Item], room: &mut Room) {
+fn time_all(items: &[Item]) {
     let mut least = vec![vec![f64::INFINITY; 2]; items.len()];
     for pass in 1..=PASSES {
         for (item, best) in items.iter().zip(&mut least) {
-            let found = item.time(room);
+            let (found, curves) = item.time();
             *best = found.iter().zip(&*best).map(|(now, before)| now.min(*before)).collect();
             if pass == PASSES {
-                let (told, count) = item.told(room);
+                let (told, count) = item.told();
                 let each: Vec<String> = best.iter().map(|ns| format!("{:.3}", ns / count as f64)).collect();
-                println!("{} {}{}", told, if each.len() == 1 { "- " } else { "" }, each.join(" "));
+                println!("{} {} {}{}", told, curves, if each.len() == 1 { "- " } else { "" }, each.join(" "));
             }
         }
     }
@@ -295,11 +312,11 @@ fn time_chained(numbers: &[f64]) -> Vec<f64> {
 }
 
 /// Ends with status 1 where anything that is to be timed is not held to be right, and names it.
-fn hold_all(calls: &[Call], outlines: &[Outline], nearest: &[(&str, Vec<Question>)], roots: &[f64], room: &mut Room) {
-    let mut unlike = vec![];
+fn hold_all(calls: &[Call], groups: &[Vec<Outline>], nearest: &[(&str, Vec<Question>)], roots: &[f64]) {
+    let (mut unlike, mut room) = (vec![], Room::new(MOST));
     for call in calls {
-        for o in outlines.iter().filter(|o| o.marks.len() <= call.most) {
-            if !holds(call, o, room) { unlike.push(format!("{} {} {} {}", call.name, o.family, o.marks.len(), o.tolerance)); }
+        for o in groups.iter().flatten().filter(|o| o.marks.len() <= call.most) {
+            if !holds(call, o, &mut room) { unlike.push(format!("{} {} {} {}", call.name, o.family, o.marks.len(), o.tolerance)); }
         }
     }
     for (family, asked) in nearest {
@@ -312,12 +329,12 @@ fn hold_all(calls: &[Call], outlines: &[Outline], nearest: &[(&str, Vec<Question
 }
 
 fn main() {
-    let (calls, outlines, roots, mut room) = (calls(), outlines(), squares(), Room::new());
+    let (calls, groups, roots) = (calls(), groups(), squares());
     let nearest = [("beside", questions(beside)), ("anywhere", questions(anywhere))];
-    hold_all(&calls, &outlines, &nearest, &roots, &mut room);
-    let taken = |call: &'_ Call, o: &Outline| o.marks.len() <= call.most;
-    let fits = calls.iter().flat_map(|call| outlines.iter().filter(|o| taken(call, o)).map(move |o| Item::Fit(call, o)));
+    hold_all(&calls, &groups, &nearest, &roots);
+    let taken = |call: &'_ Call, group: &[Outline]| group[0].marks.len() <= call.most;
+    let fits = calls.iter().flat_map(|call| groups.iter().filter(|group| taken(call, group)).map(move |group| Item::Fit(call, group)));
     let nearest_items = nearest.iter().map(|(family, asked)| Item::Nearest(family, asked));
     let root_items = ROOTS.iter().map(|(family, timed)| Item::Roots(family, *timed, &roots));
-    time_all(&fits.chain(nearest_items).chain(root_items).collect::<Vec<_>>(), &mut room);
+    time_all(&fits.chain(nearest_items).chain(root_items).collect::<Vec<_>>());
 }

@@ -155,11 +155,14 @@ static void single_numbers(void) {
         CHECK(root != root ? roots[i].root == 0x7FF8000000000000 : bits_of(root) == roots[i].root, "the root of %g is %g", roots[i].x,
               root);
     }
-    /* Block sizes that docs/PROMISES.md names, and the blocks of an outline that they follow from. */
-    const struct { size_t n, size; } sizes[] = {{200, 150}, {202, 152}, {401, 175}, {4250, 200}, {30049, 198}};
+    /* Block sizes that docs/PROMISES.md names, those about 20,000 marks and of the most; and the blocks of an outline that they follow
+     * from. */
+    const struct {
+        size_t n, size;
+    } sizes[] = {{200, 150}, {202, 152}, {401, 175}, {4250, 200}, {20000, 199}, {20001, 199}, {30049, 198}, {100000, 199}};
     for (size_t i = 0; i < COUNT(sizes); i++)
         CHECK(wes_max_points_to_fit(sizes[i].n) == sizes[i].size, "the size of a block of %zu marks", sizes[i].n);
-    const struct { size_t n, blocks; } blocks[] = {{2, 1}, {142, 1}, {250, 2}, {400, 3}, {500, 3}, {630, 4}};
+    const struct { size_t n, blocks; } blocks[] = {{2, 1}, {142, 1}, {250, 2}, {400, 3}, {500, 3}, {630, 4}, {100000, 503}, {100001, 503}};
     for (size_t i = 0; i < COUNT(blocks); i++)
         CHECK(wes_joined_blocks(blocks[i].n) == blocks[i].blocks, "the blocks of %zu marks", blocks[i].n);
 }
@@ -439,7 +442,7 @@ static void check_refusals(const List *sound) {
     expect_told("a tolerance below zero", &l, 5, 0, 0);
 }
 
-/* More than 4,096 marks do not fit into a List, and come before everything but their odd length and their being too few. */
+/* More than 100,000 marks do not fit into a List, and come before everything but their odd length and their being too few. */
 static void check_too_many(bool ring, bool nine) {
     size_t curve = 77, mark = 77, len = 2 * (MOST_MARKS + 1);
     straight(many, MOST_MARKS + 1);

@@ -133,8 +133,116 @@ static void house_files(void) {
     lend_held(0, 0, 8, 0);
     expect_unread("no bytes", NULL, 0, 9);
     straight(many, MOST_MARKS + 1);
-    expect_unread("4,097 marks before no room", composed, compose(composed, 1, many, MOST_MARKS + 1, 8, 0, NULL, NULL, NULL, NULL), 2);
+    expect_unread("100,001 marks before no room", composed, compose(composed, 1, many, MOST_MARKS + 1, 8, 0, NULL, NULL, NULL, NULL), 2);
     expect_unread("badly formed before too many", composed, 20 + 16 * (MOST_MARKS + 1) - 1, 9);
+}
+
+/* ---- The kinds of records: 3 and 6 with mark numbers of two bytes up to 4,096 marks, 5 and 7 with four bytes above. */
+
+static const unsigned all_kinds[] = {3, 5, 6, 7};
+
+static bool is_wide(unsigned kind) { return kind == 5 || kind == 7; }
+
+static bool is_nine(unsigned kind) { return kind >= 6; }
+
+static size_t width_of(unsigned kind) { return is_nine(kind) ? 9 : 8; }
+
+/* The bytes of a curve's record, head and all. */
+static size_t record_size(unsigned kind) { return 6 + (is_nine(kind) ? 2 : 1) * (is_wide(kind) ? 4 : 2) + 8 * width_of(kind); }
+
+/* What stands in the files: the largest mark numbers that a field holds, and numbers of no account. */
+static double some_curves[9 * MOST_MARKS], some_params[MOST_MARKS + 1];
+static uint32_t some_firsts[MOST_MARKS], some_worsts[MOST_MARKS];
+
+static size_t compose_some(uint8_t *to, unsigned kind, size_t n, size_t count) {
+    uint32_t largest = is_wide(kind) ? 0xFFFFFFFF : 65535;
+    for (size_t i = 0; i < 9 * count; i++) some_curves[i] = of_bits(random_bits());
+    for (size_t i = 0; i < n; i++) some_params[i] = of_bits(random_bits());
+    for (size_t j = 0; j < count; j++) some_firsts[j] = largest - (uint32_t)j, some_worsts[j] = (uint32_t)j;
+    some_worsts[count - 1] = largest;
+    return compose_kind(to, kind, 0.5, many, n, count, some_firsts, some_worsts, some_curves, some_params);
+}
+
+/* Looks at the head of a file's first curve: its length, and its kind. */
+static void expect_head(const uint8_t *file, size_t n, unsigned kind) {
+    const uint8_t *head = file + 20 + 16 * n;
+    CHECK(head[0] == record_size(kind) - 4 && head[1] == 0 && head[2] == 0 && head[3] == 0 && head[4] == kind && head[5] == 0,
+          "a curve of kind %u over %zu marks: length %u, kind %u", kind, n, head[0], head[4]);
+}
+
+/* A file whose kind suits, read into just enough room and written into just enough again. */
+static void expect_taken(unsigned kind, size_t n, size_t count, size_t size) {
+    size_t width = width_of(kind), again;
+    lend_held(n, count, width, n);
+    CHECK(read_held(composed, size) == 0 && held.mark_count == n && held.curve_count == count && held.nine == is_nine(kind),
+          "kind %u over %zu marks: not read", kind, n);
+    CHECK(holds(&held.marks, many, 16 * n) && holds(&held.firsts, some_firsts, 4 * count) &&
+              holds(&held.worsts, some_worsts, is_nine(kind) ? 4 * count : 0) && holds(&held.curves, some_curves, 8 * width * count) &&
+              holds(&held.params, some_params, 8 * n),
+          "kind %u over %zu marks: other numbers", kind, n);
+    CHECK(write_held(size, &again) == 0 && again == size && memcmp(written.place, composed, size) == 0 && kept_from(&written, size),
+          "kind %u over %zu marks: other bytes", kind, n);
+    expect_head(written.place, n, kind);
+    expect_unwritten("a byte too few", size - 1, 4);
+}
+
+/* A mark number that two bytes do not hold: 9 up to 4,096 marks, and above them it is written as it is. */
+static void expect_wide_number(unsigned kind, size_t n, size_t size, uint32_t *index, size_t at) {
+    const uint8_t four[4] = {0x00, 0x00, 0x01, 0x00};
+    size_t again;
+    *index = 65536;
+    if (is_wide(kind))
+        CHECK(write_held(size, &again) == 0 && again == size && memcmp(written.place + 20 + 16 * n + at, four, 4) == 0,
+              "mark number 65,536 over %zu marks, kind %u", n, kind);
+    else
+        expect_unwritten("mark number 65,536", size, 9);
+    *index = 7;
+}
+
+/* Each kind on either side of 4,096 marks and of the most: 9 where it does not suit, and that comes before 2. */
+static void kinds_by_marks(void) {
+    const size_t counts[] = {3, NARROW_MARKS, NARROW_MARKS + 1, MOST_MARKS, MOST_MARKS + 1};
+    for (size_t i = 0; i < COUNT(counts); i++)
+        for (size_t k = 0; k < COUNT(all_kinds); k++) {
+            size_t n = counts[i], size;
+            unsigned kind = all_kinds[k];
+            size = compose_some(composed, kind, n, 2);
+            CHECK(size == 20 + 16 * n + 2 * record_size(kind) + 6 + 8 * n, "kind %u over %zu marks: %zu bytes", kind, n, size);
+            if (is_wide(kind) == (n > 4096) && n <= MOST_MARKS) {
+                expect_taken(kind, n, 2, size);
+                expect_wide_number(kind, n, size, indices(&held.firsts), 6);
+                if (is_nine(kind)) expect_wide_number(kind, n, size, indices(&held.worsts), is_wide(kind) ? 10 : 8);
+                continue;
+            }
+            lend_held(n, 2, width_of(kind), n);
+            expect_unread("a kind by its marks", composed, size, is_wide(kind) == (n > 4096) ? 2 : 9);
+            lend_held(0, 0, 8, 0);
+            expect_unread("and that before no room", composed, size, is_wide(kind) == (n > 4096) ? 2 : 9);
+        }
+}
+
+/* One curve of one kind and one of another. */
+static void mixed_kinds(size_t n) {
+    static uint8_t other[BENCH_FILE];
+    lend_held(n, 2, 9, n);
+    for (size_t i = 0; i < COUNT(all_kinds); i++)
+        for (size_t k = 0; k < COUNT(all_kinds); k++) {
+            if (i == k) continue;
+            size_t marks_end = 20 + 16 * n, size = compose_some(other, all_kinds[k], n, 1), first = record_size(all_kinds[i]);
+            compose_some(composed, all_kinds[i], n, 1);
+            memcpy(composed + marks_end + first, other + marks_end, size - marks_end);
+            expect_unread("two kinds", composed, size + first, 9);
+        }
+}
+
+/* As many curves as the most marks can have. */
+static void largest_files(void) {
+    CHECK(compose_some(composed, 7, MOST_MARKS, MOST_MARKS - 1) == LONGEST_FILE, "the longest file");
+    expect_taken(7, MOST_MARKS, MOST_MARKS - 1, LONGEST_FILE);
+    size_t size = compose_some(composed, 5, MOST_MARKS, MOST_MARKS - 1);
+    CHECK(size == 20 + 16 * MOST_MARKS + 74 * (MOST_MARKS - 1) + 6 + 8 * MOST_MARKS, "the longest file of eight numbers a curve: %zu",
+          size);
+    expect_taken(5, MOST_MARKS, MOST_MARKS - 1, size);
 }
 
 /* The writer's own order: 3, 2, 4, 9. */
@@ -180,7 +288,7 @@ static void writer_refusals(void) {
 typedef uint32_t TextCall(const uint8_t *file, size_t file_len, uint8_t *out, size_t out_len, size_t *size);
 
 static const char *folder;
-static uint8_t example[LONGEST_FILE + 1];
+static uint8_t example[BENCH_FILE + 1];
 
 static size_t load_example(const char *name) {
     char path[4096];
@@ -226,10 +334,27 @@ static void bad_texts(void) {
     expect_lines("equal marks", example, load_example("rested"), r6, "NO CURVES 3\n", r6);
     expect_lines("one mark", composed, compose(composed, 1, many, 1, 8, 0, NULL, NULL, NULL, NULL), r1, "NO CURVES 1\n", r1);
     /* The listing takes no file of more than 65,536 bytes, so that 4,097 marks are badly formed to it. */
-    expect_lines("too many", composed, compose(composed, 1, many, MOST_MARKS + 1, 8, 0, NULL, NULL, NULL, NULL), r9, r2, r2);
-    expect_lines("too long", composed, LONGEST_FILE + 1, r9, r9, r9);
-    straight(many, MOST_DIRECT + 1);
+    straight(many, MOST_MARKS);
+    expect_lines("too many", composed, compose(composed, 1, many, BENCH_MARKS + 1, 8, 0, NULL, NULL, NULL, NULL), r9, r2, r2);
+    /* 27,131 marks are the most in 434,120 bytes. */
+    expect_lines("not too long", composed, compose(composed, 1, many, 27131, 8, 0, NULL, NULL, NULL, NULL), r9, r2, r2);
+    expect_lines("too long", composed, compose(composed, 1, many, 27132, 8, 0, NULL, NULL, NULL, NULL), r9, r9, r9);
+    expect_lines("the most marks", composed, compose(composed, 1, many, MOST_MARKS, 8, 0, NULL, NULL, NULL, NULL), r9, r9, r9);
     expect_line("513 marks", wes_list_outline, composed, compose(composed, 1, many, MOST_DIRECT + 1, 8, 0, NULL, NULL, NULL, NULL), r2);
+}
+
+/* The kinds by their marks, for the calls with room for 4,096: of more marks a kind that suits is 2, and any that does not is 9. */
+static void bad_kinds(void) {
+    for (size_t k = 0; k < COUNT(all_kinds); k++) {
+        bool wide = is_wide(all_kinds[k]);
+        size_t size = compose_some(composed, all_kinds[k], BENCH_MARKS, 2);
+        /* A kind that suits is judged, and its second first mark is beyond the last mark. */
+        expect_line("4,096 marks", wes_judge_file, composed, size, wide ? "REFUSED 9\n" : "FAULT A 0 0\n");
+        if (wide) expect_line("4,096 marks", wes_save_fit, composed, size, "REFUSED 9\n");
+        size = compose_some(composed, all_kinds[k], BENCH_MARKS + 1, 2);
+        expect_line("4,097 marks", wes_judge_file, composed, size, wide ? "REFUSED 2\n" : "REFUSED 9\n");
+        expect_line("4,097 marks", wes_save_fit, composed, size, wide ? "REFUSED 2\n" : "REFUSED 9\n");
+    }
 }
 
 static void expect_judged(const char *why, const List *l, const char *text) {
@@ -274,7 +399,7 @@ static size_t listing_of(char *to) {
    the joined fit have the same curves. */
 static void cover(void) {
     static char listing[LONGEST_LISTING];
-    static uint8_t saved[LONGEST_FILE];
+    static uint8_t saved[BENCH_FILE];
     size_t size = load_example("cover"), n = 142, k = 24, bytes = 20 + 16 * n + 82 * k + 6 + 8 * n, got = 77;
     expect_line("a file without curves", wes_judge_file, example, size, "NO CURVES 142\n");
     CHECK(wes_save_fit(example, size, saved, sizeof saved, &got) == 0 && got == bytes, "a saved file of %zu bytes", got);
@@ -299,15 +424,20 @@ static void cover(void) {
 int main(int argc, char **argv) {
     if (argc != 2) return 2;
     folder = argv[1];
-    held.marks = new_lent(2 * MOST_MARKS * sizeof(double));
+    held.marks = new_lent(2 * (MOST_MARKS + 1) * sizeof(double));
     held.firsts = new_lent(MOST_MARKS * sizeof(uint32_t));
     held.worsts = new_lent(MOST_MARKS * sizeof(uint32_t));
     held.curves = new_lent(9 * MOST_MARKS * sizeof(double));
-    held.params = new_lent(MOST_MARKS * sizeof(double));
+    held.params = new_lent((MOST_MARKS + 1) * sizeof(double));
     written = new_lent(LONGEST_FILE + 64);
     house_files();
+    kinds_by_marks();
+    mixed_kinds(NARROW_MARKS);
+    mixed_kinds(NARROW_MARKS + 1);
+    largest_files();
     writer_refusals();
     bad_texts();
+    bad_kinds();
     judged_texts();
     cover();
     return finish();

@@ -3,7 +3,7 @@
 #include "test.h"
 #include <stdlib.h>
 
-enum { LONG = 4096, SPARE = 2 };
+enum { LONG = 20000, SPARE = 2 };
 
 static double marks[2 * LONG], eight[8 * (LONG + 1)];
 static Slices one, other;

@@ -2,10 +2,10 @@
    Left out are lines whose kept answer is BAD, for C is handed numbers and not words, and the kind `distance`, which has no public call. */
 #include "test.h"
 
-/* As many places as crates/replay lends. */
-enum { LINE = 1 << 22, MARKS = 4200, CURVES = 8192, LENT_CURVES = 36864, LENT_FIRSTS = 4096, LENT_PARAMS = 4097 };
+/* Room for the kept lines, and for the most marks: more than crates/replay lends, whose longer lines are BAD. */
+enum { TEXT = 1 << 24, CURVES = MOST_MARKS };
 
-static double marks[2 * MARKS], curves[9 * CURVES], params[MARKS + 1];
+static double marks[2 * MOST_MARKS], curves[9 * CURVES], params[MOST_MARKS + 1];
 static uint32_t firsts[CURVES], worsts[CURVES];
 
 /* ---- The words of a line */
@@ -28,7 +28,7 @@ static void take_numbers(double *to, size_t count) {
 
 /* ---- The answer */
 
-static char answer[LINE], *answer_end;
+static char answer[TEXT], *answer_end;
 
 static void say_word(uint64_t x, unsigned base, size_t digits) {
     char word[24], *w = word + sizeof word;
@@ -114,8 +114,7 @@ static void size_case(void) {
 static void fit_marks(const Fit *fit, double tolerance) {
     size_t made, count = (size_t)(line_end - at) / 17;
     take_numbers(marks, count);
-    uint32_t number =
-        fit->call(marks, count, tolerance, curves, LENT_CURVES, firsts, LENT_FIRSTS, worsts, LENT_FIRSTS, params, LENT_PARAMS, &made);
+    uint32_t number = fit->call(marks, count, tolerance, curves, 9 * CURVES, firsts, CURVES, worsts, CURVES, params, MOST_MARKS + 1, &made);
     say_count(number);
     if (number != 0) return;
     say_count(made);
@@ -249,7 +248,7 @@ static Kind *kind_of(const char *word, size_t size) {
 
 /* ---- Lines */
 
-static char cases[LINE], answers[LINE];
+static char cases[TEXT], answers[TEXT];
 
 static const char *end_of_line(const char *from, const char *end) {
     const char *newline = memchr(from, '\n', (size_t)(end - from));
@@ -278,8 +277,8 @@ static void compare(size_t number, const char *line, const char *end, const char
 
 int main(int argc, char **argv) {
     if (argc != 3) return 2;
-    const char *line = cases, *end = cases + load(argv[1], (uint8_t *)cases, LINE);
-    const char *kept = answers, *kept_end = answers + load(argv[2], (uint8_t *)answers, LINE);
+    const char *line = cases, *end = cases + load(argv[1], (uint8_t *)cases, TEXT);
+    const char *kept = answers, *kept_end = answers + load(argv[2], (uint8_t *)answers, TEXT);
     for (size_t number = 1; line < end; number++) {
         const char *stop = end_of_line(line, end), *kept_stop = end_of_line(kept, kept_end);
         compare(number, line, stop, kept, (size_t)(kept_stop - kept));

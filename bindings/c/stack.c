@@ -3,13 +3,19 @@
 #include "test.h"
 #include <stdlib.h>
 
-enum { STACK = 8 << 20, LONG = MOST_MARKS };
+/* LONG is the largest number of marks of which blocks are as long as they can be, 200 marks, in an outline and in a ring. All but the last
+   of them, from DEEP on, where a block begins, lie on a line: every block is a fit of its own, and what the last ones take shows whether
+   the many before have left anything on the stack. */
+enum { STACK = 8 << 20, LONG = MOST_MARKS - 2, DEEP = 95800 };
 
 /* ---- The outlines. A fit cuts a part at its worst mark, and each side is a fit within the first one's frame; so deepest are outlines that
    lose one mark at a time, as a zigzag does that slowly shrinks. */
 
-static double marks[2 * LONG], tolerance;
+static double marks[2 * LONG], *const deep = marks + 2 * DEEP;
 static size_t n;
+
+/* One that takes the line in one curve a block, and no zigzag. */
+static const double tolerance = 1e-10;
 
 typedef double Place(size_t i);
 
@@ -29,7 +35,7 @@ static double zigzag(size_t i, size_t marks_in_all, double ratio) {
 static double shrinking(size_t i) { return zigzag(i, LONG, 0.998); }
 
 /* As long as a block: the loop fit takes a block's tangents from beyond its ends, and goes deepest on this one. */
-static double restarted(size_t i) { return zigzag(i, 200, 0.7); }
+static double restarted(size_t i) { return zigzag(i, 200, 0.85); }
 
 static const struct {
     Place *x, *y;
@@ -39,13 +45,15 @@ static const struct {
 enum { OUTLINES = COUNT(outlines) };
 
 static void draw(size_t number) {
-    for (size_t i = 0; i < LONG; i++) {
-        marks[2 * i] = outlines[number].x(i);
-        marks[2 * i + 1] = outlines[number].y(i);
+    straight(marks, DEEP);
+    for (size_t i = 0; DEEP + i < LONG; i++) {
+        deep[2 * i] = outlines[number].x(i);
+        deep[2 * i + 1] = outlines[number].y(i);
     }
 }
 
-/* ---- What the calls are handed and write, prepared before on the program's own stack. */
+/* ---- What the calls are handed and write, prepared before on the program's own stack. The checkers, the reader and the writer are handed
+   the list that the fit before them has made. */
 
 static double curves[9 * LONG], eight[8 * LONG], params[LONG + 1], out8[8], more8[8], x, y;
 static uint32_t firsts[LONG], worsts[LONG], answer;
@@ -53,26 +61,21 @@ static uint8_t file[LONGEST_FILE], text[LONGEST_FILE];
 static size_t made, file_size, size, curve, mark;
 static bool nine;
 
-static void fit_by(size_t fit) {
-    answer = fits[fit].call(marks, 2 * n, tolerance, curves, 9 * LONG, firsts, LONG, worsts, LONG, params, LONG + 1, &made);
+static void fit_by(size_t fit, const double *from) {
+    answer = fits[fit].call(from, 2 * n, tolerance, curves, 9 * LONG, firsts, LONG, worsts, LONG, params, LONG + 1, &made);
 }
 
-static void list_of(size_t fit) {
-    n = LONG;
-    fit_by(fit);
-    eight_of(curves, made, eight);
-}
-
-static void no_list(void) { n = LONG; }
+static void all_marks(void) { n = LONG; }
 static void short_outline(void) { n = MOST_DIRECT; }
-static void fitted_list(void) { list_of(JOINED); }
-static void fitted_ring(void) { list_of(RING); }
-static void marks_file(void) { file_size = compose(file, tolerance, marks, LONG, 8, 0, NULL, NULL, NULL, NULL); }
-static void short_file(void) { file_size = compose(file, tolerance, marks, MOST_DIRECT, 8, 0, NULL, NULL, NULL, NULL); }
+static void eights(void) { eight_of(curves, made, eight); }
+static void curves_file(void) { file_size = compose(file, tolerance, marks, n, 9, made, firsts, worsts, curves, params); }
+static void bench_file(void) { file_size = compose(file, tolerance, deep, BENCH_MARKS, 8, 0, NULL, NULL, NULL, NULL); }
+static void short_file(void) { file_size = compose(file, tolerance, deep, MOST_DIRECT, 8, 0, NULL, NULL, NULL, NULL); }
 
-static void curves_file(void) {
-    fitted_list();
-    file_size = compose(file, tolerance, marks, n, 9, made, firsts, worsts, curves, params);
+static void bench_curves(void) {
+    n = BENCH_MARKS;
+    fit_by(JOINED, deep);
+    file_size = compose(file, tolerance, deep, n, 9, made, firsts, worsts, curves, params);
 }
 
 /* Curves from mark to mark, which meet, and the text of them. */
@@ -92,11 +95,11 @@ static void drawn_text(void) {
 /* ---- The calls */
 
 static void import_path(void) { answer = wes_import_path(text, size, curves, 9 * LONG, &made, &nine); }
-static void fit_joined(void) { fit_by(JOINED); }
-static void fit_ring(void) { fit_by(RING); }
-static void fit_curve(void) { fit_by(SOURCE); }
-static void fit_curve_loop(void) { fit_by(LOOP); }
-static void fit_curve_cubic(void) { fit_by(DIRECT); }
+static void fit_joined(void) { fit_by(JOINED, marks); }
+static void fit_ring(void) { fit_by(RING, marks); }
+static void fit_curve(void) { fit_by(SOURCE, marks); }
+static void fit_curve_loop(void) { fit_by(LOOP, marks); }
+static void fit_curve_cubic(void) { fit_by(DIRECT, deep); }
 
 static void check_worst(void) {
     answer = wes_check_worst(marks, 2 * n, tolerance, made, curves, 9 * LONG, firsts, LONG, worsts, LONG, params, LONG, &curve, &mark);
@@ -120,16 +123,14 @@ static void check_any(void) {
         wes_check(true, true, marks, 2 * n, tolerance, made, curves, 9 * LONG, firsts, LONG, worsts, LONG, params, LONG + 1, &curve, &mark);
 }
 
-static void basis(void) { answer = wes_basis(marks, 0.3, out8); }
-static void de_casteljau4(void) { answer = wes_de_casteljau4(marks, 0.3, out8); }
-static void de_casteljau3(void) { answer = wes_de_casteljau3(marks, 0.3, out8); }
-static void de_casteljau2(void) { answer = wes_de_casteljau2(marks, 0.3, out8); }
-static void bezier_coefficients(void) { answer = wes_bezier_coefficients(marks, 1, out8); }
-static void subdivide4(void) { answer = wes_subdivide4(marks, 0.3, out8, more8); }
-static void nearest_point(void) { answer = wes_nearest_point_on_curve(marks, marks[8], marks[9], &x, &y); }
-static void refined_point(void) {
-    answer = wes_nearest_point_on_curve_newton_raphson_with_estimate(marks, marks[8], marks[9], 0.3, 64, &x);
-}
+static void basis(void) { answer = wes_basis(deep, 0.3, out8); }
+static void de_casteljau4(void) { answer = wes_de_casteljau4(deep, 0.3, out8); }
+static void de_casteljau3(void) { answer = wes_de_casteljau3(deep, 0.3, out8); }
+static void de_casteljau2(void) { answer = wes_de_casteljau2(deep, 0.3, out8); }
+static void bezier_coefficients(void) { answer = wes_bezier_coefficients(deep, 1, out8); }
+static void subdivide4(void) { answer = wes_subdivide4(deep, 0.3, out8, more8); }
+static void nearest_point(void) { answer = wes_nearest_point_on_curve(deep, deep[8], deep[9], &x, &y); }
+static void refined_point(void) { answer = wes_nearest_point_on_curve_newton_raphson_with_estimate(deep, deep[8], deep[9], 0.3, 64, &x); }
 
 static void read_file(void) {
     answer =
@@ -153,34 +154,34 @@ static const struct {
     const char *name;
     void (*prepare)(void), (*call)(void);
 } calls[] = {
-    {"wes_fit_joined", no_list, fit_joined},
-    {"wes_fit_ring", no_list, fit_ring},
-    {"wes_fit_curve", no_list, fit_curve},
-    {"wes_fit_curve_loop", no_list, fit_curve_loop},
-    {"wes_fit_curve_cubic", short_outline, fit_curve_cubic},
-    {"wes_check_worst", fitted_list, check_worst},
-    {"wes_check_worst_ring", fitted_ring, check_worst_ring},
-    {"wes_check_list", fitted_list, check_list},
-    {"wes_check_ring", fitted_ring, check_ring},
-    {"wes_check", fitted_ring, check_any},
-    {"wes_basis", no_list, basis},
-    {"wes_de_casteljau4", no_list, de_casteljau4},
-    {"wes_de_casteljau3", no_list, de_casteljau3},
-    {"wes_de_casteljau2", no_list, de_casteljau2},
-    {"wes_bezier_coefficients", no_list, bezier_coefficients},
-    {"wes_subdivide4", no_list, subdivide4},
-    {"wes_nearest_point_on_curve", no_list, nearest_point},
-    {"wes_nearest_point_on_curve_newton_raphson_with_estimate", no_list, refined_point},
+    {"wes_fit_joined", all_marks, fit_joined},
+    {"wes_check_worst", all_marks, check_worst},
+    {"wes_check_list", eights, check_list},
+    {"wes_write_file", all_marks, write_file},
     {"wes_read_file", curves_file, read_file},
-    {"wes_write_file", fitted_list, write_file},
+    {"wes_fit_ring", all_marks, fit_ring},
+    {"wes_check_worst_ring", all_marks, check_worst_ring},
+    {"wes_check_ring", eights, check_ring},
+    {"wes_check", all_marks, check_any},
+    {"wes_fit_curve", all_marks, fit_curve},
+    {"wes_fit_curve_loop", all_marks, fit_curve_loop},
+    {"wes_fit_curve_cubic", short_outline, fit_curve_cubic},
+    {"wes_basis", all_marks, basis},
+    {"wes_de_casteljau4", all_marks, de_casteljau4},
+    {"wes_de_casteljau3", all_marks, de_casteljau3},
+    {"wes_de_casteljau2", all_marks, de_casteljau2},
+    {"wes_bezier_coefficients", all_marks, bezier_coefficients},
+    {"wes_subdivide4", all_marks, subdivide4},
+    {"wes_nearest_point_on_curve", all_marks, nearest_point},
+    {"wes_nearest_point_on_curve_newton_raphson_with_estimate", all_marks, refined_point},
     {"wes_list_outline", short_file, list_outline},
-    {"wes_judge_file", curves_file, judge_file},
-    {"wes_save_fit", marks_file, save_fit},
+    {"wes_judge_file", bench_curves, judge_file},
+    {"wes_save_fit", bench_file, save_fit},
     {"wes_export_path", drawn_list, export_path},
     {"wes_import_path", drawn_text, import_path},
-    {"wes_max_points_to_fit", no_list, max_points_to_fit},
-    {"wes_joined_blocks", no_list, joined_blocks},
-    {"wes_sqrt", no_list, square_root},
+    {"wes_max_points_to_fit", all_marks, max_points_to_fit},
+    {"wes_joined_blocks", all_marks, joined_blocks},
+    {"wes_sqrt", all_marks, square_root},
 };
 
 enum { CALLS = COUNT(calls), WORDS = STACK / 8 };
@@ -208,22 +209,26 @@ static size_t repaint(void) {
     return 8 * (WORDS - free_words);
 }
 
-/* Every measured call must do its work: a refused one would not go deep. */
-static void measure(size_t number) {
-    for (size_t i = 0; i < OUTLINES; i++) {
-        draw(i);
-        calls[number].prepare();
-        answer = 0;
-        run_below(stack + WORDS, calls[number].call);
-        if (answer == 0 || answer == WES_TOO_DEEP) continue;
-        printf("%s refused outline %zu by %u\n", calls[number].name, i, answer);
-        exit(1);
-    }
-    printf("%s %zu\n", calls[number].name, repaint());
+/* What a call takes on the outline that is drawn. Every call must do its work: a refused one would not go deep. */
+static size_t measure(size_t number, size_t outline) {
+    calls[number].prepare();
+    answer = 0;
+    run_below(stack + WORDS, calls[number].call);
+    if (answer == 0 || answer == WES_TOO_DEEP) return repaint();
+    printf("%s refused outline %zu by %u\n", calls[number].name, outline, answer);
+    exit(1);
 }
 
 int main(void) {
+    size_t most[CALLS] = {0};
     repaint();
-    for (size_t i = 0; i < CALLS; i++) measure(i);
+    for (size_t outline = 0; outline < OUTLINES; outline++) {
+        draw(outline);
+        for (size_t i = 0; i < CALLS; i++) {
+            size_t used = measure(i, outline);
+            if (used > most[i]) most[i] = used;
+        }
+    }
+    for (size_t i = 0; i < CALLS; i++) printf("%s %zu\n", calls[i].name, most[i]);
     return 0;
 }

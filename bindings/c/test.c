@@ -240,16 +240,24 @@ static uint8_t *put_numbers(uint8_t *to, const double *xs, size_t count) {
     return to;
 }
 
-size_t compose(uint8_t *to, double tolerance, const double *marks, size_t n, size_t width, size_t count, const uint32_t *firsts,
-               const uint32_t *worsts, const double *curves, const double *params) {
-    bool nine = width == 9;
+unsigned kind_for(size_t n, size_t width) { return n <= NARROW_MARKS ? (width == 9 ? 6 : 3) : (width == 9 ? 7 : 5); }
+
+size_t compose_kind(uint8_t *to, unsigned kind, double tolerance, const double *marks, size_t n, size_t count, const uint32_t *firsts,
+                    const uint32_t *worsts, const double *curves, const double *params) {
+    bool nine = kind >= 6;
+    size_t width = nine ? 9 : 8, number = kind == 3 || kind == 6 ? 2 : 4;
     uint8_t *at = put_numbers(put_head(to, 8, 1), &tolerance, 1);
     at = put_numbers(put_head(at, 16 * n, 2), marks, 2 * n);
     for (size_t j = 0; j < count; j++) {
-        at = put(put_head(at, (nine ? 4 : 2) + 8 * width, nine ? 6 : 3), firsts[j], 2);
-        if (nine) at = put(at, worsts[j], 2);
+        at = put(put_head(at, (nine ? 2 : 1) * number + 8 * width, kind), firsts[j], number);
+        if (nine) at = put(at, worsts[j], number);
         at = put_numbers(at, curves + width * j, width);
     }
     if (count > 0) at = put_numbers(put_head(at, 8 * n, 4), params, n);
     return (size_t)(at - to);
+}
+
+size_t compose(uint8_t *to, double tolerance, const double *marks, size_t n, size_t width, size_t count, const uint32_t *firsts,
+               const uint32_t *worsts, const double *curves, const double *params) {
+    return compose_kind(to, kind_for(n, width), tolerance, marks, n, count, firsts, worsts, curves, params);
 }

@@ -9,7 +9,17 @@
 
 #define COUNT(list) (sizeof(list) / sizeof *(list))
 
-enum { MOST_MARKS = 4096, MOST_DIRECT = 512, LONGEST_FILE = 434120, LONGEST_LISTING = 78233 };
+/* The most marks of a fit by blocks, a list and a file, and of a direct fit; and the longest file. A file of more than NARROW_MARKS has mark
+   numbers of four bytes in place of two. wes_judge_file and wes_save_fit take BENCH_MARKS in BENCH_FILE bytes. */
+enum {
+    MOST_MARKS = 100000,
+    MOST_DIRECT = 512,
+    LONGEST_FILE = 10999940,
+    NARROW_MARKS = 4096,
+    BENCH_MARKS = 4096,
+    BENCH_FILE = 434120,
+    LONGEST_LISTING = 78233
+};
 
 /* ---- Checks: counted, and told where they fail. */
 #define CHECK(holds, ...) (counted(holds) ? (void)0 : (void)(printf("%s: ", __func__), printf(__VA_ARGS__), printf("\n")))
@@ -111,7 +121,15 @@ double random_within(double low, double high);
 /* ---- House files. Reads a whole file; the program ends where it can't. */
 size_t load(const char *path, uint8_t *to, size_t room);
 
-/* Puts a house file together by the format's own rules, not by the library, and hands back its size. `width` is 8 or 9. */
+/* The kind of the records of curves with 8 or 9 numbers, where there are n marks. */
+unsigned kind_for(size_t n, size_t width);
+
+/* Puts a house file together by the format's own rules, not by the library, and hands back its size. Curves have records of this kind: 3, 5,
+   6 or 7, whether it suits the number of marks or not. */
+size_t compose_kind(uint8_t *to, unsigned kind, double tolerance, const double *marks, size_t n, size_t count, const uint32_t *firsts,
+                    const uint32_t *worsts, const double *curves, const double *params);
+
+/* The same with the kind that suits; `width` is 8 or 9. */
 size_t compose(uint8_t *to, double tolerance, const double *marks, size_t n, size_t width, size_t count, const uint32_t *firsts,
                const uint32_t *worsts, const double *curves, const double *params);
 

@@ -8,6 +8,9 @@
    RANGES, behind refusal 5. A coordinate is finite and at most 1,000,000 in magnitude, a tangent's component at most 2; a tolerance is finite and not below
    zero; a parameter or an estimate is finite; a dimension is 0 or 1; there are at most 64 rounds of Newton's.
 
+   LIMITS, behind refusal 2. The fits by blocks, the checkers, wes_read_file and wes_write_file take up to 100,000 marks; wes_fit_curve_cubic and
+   wes_list_outline 512; wes_judge_file and wes_save_fit 4,096, and files of up to 434,120 bytes, with 9 above.
+
    SLICES. A slice is a pointer and how many elements it has (`marks`, `marks_len`). Marks are x and y in turn, so n marks are a slice of 2n numbers.
    An empty slice may be NULL with length 0. A call never reads or writes beyond a slice, whatever the numbers in it, and ends on every input.
 
@@ -19,11 +22,13 @@
    - a stack with room for the call (STACK below).
    The library keeps nothing between calls and has no data of its own: calls from several threads at once are fine, on different slices.
 
-   STACK, in KB of 1,024 bytes, rounded up. These figures are measured, not proved: the most that bindings/c/stack.c saw on 2026-11-16.
-     wes_fit_joined 164 KB, wes_fit_ring 164 KB, wes_fit_curve 163 KB, wes_fit_curve_loop 162 KB, wes_fit_curve_cubic 408 KB,
+   STACK, in KB of 1,024 bytes, rounded up. These figures are measured, not proved: the most that bindings/c/stack.c saw on 2026-11-17.
+     wes_fit_joined 164 KB, wes_fit_ring 164 KB, wes_fit_curve 163 KB, wes_fit_curve_loop 163 KB, wes_fit_curve_cubic 408 KB,
      wes_nearest_point_on_curve 24 KB, wes_list_outline 292 KB, wes_judge_file 801 KB, wes_save_fit 1316 KB; every other call at most 1 KB.
-   Seen over outlines of 4,096 marks at tolerance 0 (512 for the direct fit and the listing), among them zigzags that a fit cuts one mark at a time, as
-   deep as it can go, and over files of 4,096 marks with 4,095 curves. Of fewer marks a direct fit takes less: some 0.8 KB a mark.
+   Seen over outlines of 99,998 marks, whose blocks are the longest, and files of them (512 for the direct fit and the listing, 4,096 for the other two on
+   files), among them zigzags that a fit cuts one mark at a time, as deep as it can go. A fit by blocks takes so much for its longest block, of 200 marks,
+   however many there are: some 0.8 KB for a mark of it, as a direct fit does for each of its marks. Slices are the caller's: for 100,000 marks those of
+   a fit are 8.8 MB beside 1.6 MB of marks, which no usual stack has room for.
 */
 #ifndef WESALONDO_H
 #define WESALONDO_H
@@ -47,13 +52,13 @@ extern "C" {
 enum {
     WES_OK = 0,
     WES_TOO_FEW = 1,       /* fewer than 2 marks; fewer than 3 of a ring */
-    WES_TOO_MANY = 2,      /* more than 4,096 marks; more than 512 for the direct fit and the listing */
+    WES_TOO_MANY = 2,      /* more marks than the call takes: LIMITS above */
     WES_ODD = 3,           /* a mark slice of odd length */
     WES_NO_ROOM = 4,       /* too little room in a lent slice */
     WES_OUT_OF_RANGE = 5,  /* an input number is out of range */
     WES_NOT_FINITE = 6,    /* an operation of the run gave NaN or infinity */
     WES_TOO_DEEP = 8,      /* the nearest search goes too deep */
-    WES_BADLY_FORMED = 9,  /* a house file is badly formed */
+    WES_BADLY_FORMED = 9,  /* a house file is badly formed, or its curves are not of the kind that suits its number of marks; or is too long for the call */
     WES_TOO_LARGE = 10,    /* a number of path data, or on the way to it, is above 1,000,000,000 in magnitude */
     WES_NO_PATH = 11,      /* a text is not path data that is read */
     WES_NOT_JOINED = 12    /* no curves, or curves that do not meet bit for bit, on the way to path data */
@@ -149,16 +154,22 @@ uint32_t wes_nearest_point_on_curve(const double curve[8], double x, double y, d
 uint32_t wes_nearest_point_on_curve_newton_raphson_with_estimate(const double curve[8], double x, double y, double estimated_t,
                                                                  size_t num_iterations, double *t);
 
-/* ---- House files. Numbers are moved as their bits and not judged: a NaN comes as it was written. */
+/* ---- House files. Numbers are moved as their bits and not judged: a NaN comes as it was written.
+   A file of n marks has 20 + 16n bytes, and with k curves 6 + 8n more and for each curve
+       82, or 72 of eight numbers, up to 4,096 marks: its record is of kind 6, or 3, and a mark's number has two bytes;
+       86, or 74 of eight numbers, above: kind 7, or 5, and four bytes.
+   There are fewer curves than marks, so the longest file has 10,999,940 bytes, and 434,120 where it has 4,096 marks. */
 
 /* Takes a file apart. For n marks and k curves lend 2n numbers in `marks`, k in `firsts`, 9k in `curves` and k in `worsts` (8k and none where `nine` is false),
-   and n in `params`; a file without curves wants no room but that of its marks, and `nine` is false then. Files of no mark or one are taken. Refusals: 9, 2, 4. */
+   and n in `params`; a file without curves wants no room but that of its marks, and `nine` is false then. Files of no mark or one are taken. Refusals: 9, 2, 4;
+   a kind that does not suit the number of marks is 9. */
 uint32_t wes_read_file(const uint8_t *file, size_t file_len, double *restrict tolerance, double *restrict marks, size_t marks_len,
                        uint32_t *restrict firsts, size_t firsts_len, uint32_t *restrict worsts, size_t worsts_len,
                        double *restrict curves, size_t curves_len, double *restrict params, size_t params_len,
                        size_t *restrict mark_count, size_t *restrict curve_count, bool *restrict nine);
 
-/* Puts a file together, with `count` curves, in the first `size` bytes of `out`. `nine` is as for wes_check. Refusals: 3, 2, 4, 9, in this order. */
+/* Puts a file together, with `count` curves, in the first `size` bytes of `out`. `nine` is as for wes_check. Refusals: 3, 2, 4, 9, in this order; 9 is
+   as many curves as marks, or more, and up to 4,096 marks also a mark number above 65,535. */
 uint32_t wes_write_file(bool nine, const double *tolerance, const double *marks, size_t marks_len, size_t count,
                         const uint32_t *firsts, size_t firsts_len, const uint32_t *worsts, size_t worsts_len,
                         const double *curves, size_t curves_len, const double *params, size_t params_len,
@@ -169,11 +180,11 @@ uint32_t wes_write_file(bool nine, const double *tolerance, const double *marks,
 uint32_t wes_list_outline(const uint8_t *file, size_t file_len, uint8_t *restrict out, size_t out_len, size_t *restrict size);
 
 /* Says in one line whether a file's curves are sound: "PASSED marks curves\n", "FAULT A curve mark\n", "NO CURVES marks\n" (whatever its marks are) or
-   "REFUSED n\n" (9 for more than 434,120 bytes, too). 64 bytes are room for it. */
+   "REFUSED n\n" (2 for more than 4,096 marks, 9 for more than 434,120 bytes, too). 64 bytes are room for it. Longer files: wes_read_file, wes_check. */
 uint32_t wes_judge_file(const uint8_t *file, size_t file_len, uint8_t *restrict out, size_t out_len, size_t *restrict size);
 
-/* Fits a file's marks and writes them with their curves, as a file. 434,120 bytes are room for every file, and no longer one is taken; a refused one gives the
-   text "REFUSED n\n" instead. */
+/* Fits a file's marks, up to 4,096, and writes them with their curves, as a file. 434,120 bytes are room for every file, and no longer one is taken; a refused
+   one gives the text "REFUSED n\n" instead. Longer files: wes_read_file, wes_fit_joined, wes_write_file. */
 uint32_t wes_save_fit(const uint8_t *file, size_t file_len, uint8_t *restrict out, size_t out_len, size_t *restrict size);
 
 /* ---- Path data, as SVG 1.1 has it: one subpath of absolute M, L, C and Z. */

@@ -5,7 +5,7 @@ use crate::refusal::{answered, Refusal};
 use crate::sys;
 
 /// The most marks that any call takes.
-pub(crate) const MOST_MARKS: usize = 4096;
+pub(crate) const MOST_MARKS: usize = 100_000;
 
 /// A fit into room of its own: `call` has the marks' numbers, the room, and where to put how many curves it made.
 fn fit_with(ring: bool, marks: &[Point], call: impl FnOnce(&[f64], &mut Fit, &mut usize) -> u32) -> Result<Fit, Refusal> {
@@ -28,12 +28,12 @@ fn fit_by(raw: sys::FitCall, ring: bool, marks: &[Point], tolerance: f64) -> Res
     })
 }
 
-/// Fits an open outline without gaps, and without a kink where its blocks meet.
+/// Fits an open outline, of up to 100,000 marks, without gaps, and without a kink where its blocks meet.
 pub fn fit_joined(marks: &[Point], tolerance: f64) -> Result<Fit, Refusal> {
     fit_by(sys::wes_fit_joined, false, marks, tolerance)
 }
 
-/// Fits a closed outline: mark 0 counts again behind the last one, and the last curve comes back to it. Do not give it twice.
+/// Fits a closed outline, of up to 100,000 marks: mark 0 counts again behind the last one, and the last curve comes back to it. Do not give it twice.
 pub fn fit_ring(marks: &[Point], tolerance: f64) -> Result<Fit, Refusal> {
     fit_by(sys::wes_fit_ring, true, marks, tolerance)
 }

@@ -1,4 +1,4 @@
-//! The house file: a tolerance and marks, and with them the curves of an open outline or none.
+//! The house file: a tolerance and up to 100,000 marks, and with them the curves of an open outline or none.
 use crate::check::{check, List};
 use crate::fit::MOST_MARKS;
 use crate::fitted::Fit;
@@ -17,11 +17,20 @@ const PARAM: usize = 8;
 /// The bytes of a record's head.
 const HEAD: usize = 6;
 
-/// The bytes of a curve's record: of eight numbers, and of nine.
-const EIGHT: usize = HEAD + 66;
-const NINE: usize = HEAD + 76;
+/// The most marks of a file whose mark numbers have two bytes; above it they have four.
+const NARROW_MARKS: usize = 4096;
 
-/// What a house file holds. No number in it is judged, so any may be NaN.
+/// The bytes of a curve's record, at least: of eight numbers, and of nine.
+const EIGHT: usize = record(false, 2);
+const NINE: usize = record(true, 2);
+
+/// The bytes of a curve's record, with mark numbers of so many.
+const fn record(nine: bool, number: usize) -> usize {
+    HEAD + if nine { 2 * number + 72 } else { number + 64 }
+}
+
+/// What a house file holds. No number in it is judged, so any may be NaN. A file of up to 4,096 marks has two bytes for a mark's number and a longer one four, which
+/// [`write_file`] sees to.
 #[derive(Clone, Debug, Default, PartialEq)]
 pub struct House {
     /// How far a mark may be off its curve.
@@ -80,12 +89,12 @@ impl House {
         if self.is_empty() {
             return marks;
         }
-        let record = if self.nine { NINE } else { EIGHT };
-        marks + record * self.len() + HEAD + PARAM * self.marks.len()
+        let number = if self.marks.len() > NARROW_MARKS { 4 } else { 2 };
+        marks + record(self.nine, number) * self.len() + HEAD + PARAM * self.marks.len()
     }
 }
 
-/// Takes a house file apart.
+/// Takes a house file apart, of up to 100,000 marks.
 pub fn read_file(file: &[u8]) -> Result<House, Refusal> {
     // The bytes of a file say how many marks and curves it has at most; more than the library takes are refused before room is asked for.
     let most = MOST_MARKS.min(file.len() / MARK);

@@ -22,14 +22,15 @@
 //! - House files: [`read_file`], [`write_file`], [`save_fit`], [`judge_file`], [`list_outline`].
 //! - [`sys`] has the library's own calls.
 //!
-//! A call ends on every input, and says no by a [`Refusal`].
+//! A call ends on every input, and says no by a [`Refusal`]. Outlines, lists and house files have up to 100,000 marks; 512 are taken by [`fit_curve_cubic`] and
+//! [`list_outline`], and 4,096 by [`judge_file`] and [`save_fit`]. A fit of n marks asks for some 88n bytes of memory and keeps what its curves take.
 //!
 //! # What the caller still owes
 //!
 //! - The default float environment: rounding to nearest, subnormals kept. Rust itself asks for it too; a C library that was linked with `-ffast-math`
 //!   breaks it for the whole program, and then what is proved no longer holds.
-//! - A stack with room for the call: a fit wants up to 0.4 MB, [`judge_file`] and [`save_fit`] up to 1.5 MB; bindings/c/wesalondo.h has the figures.
-//!   The main thread's 8 MB and the 2 MB of Rust's other threads will do; a thread that was given less may not.
+//! - A stack with room for the call: a fit wants up to 0.4 MB, however many marks there are, [`judge_file`] and [`save_fit`] up to 1.5 MB; bindings/c/wesalondo.h
+//!   has the figures. The main thread's 8 MB and the 2 MB of Rust's other threads will do; a thread that was given less may not.
 #![deny(missing_docs)]
 #![warn(unsafe_op_in_unsafe_fn)]
 

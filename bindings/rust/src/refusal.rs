@@ -8,7 +8,7 @@ use std::fmt;
 pub enum Refusal {
     /// Fewer than 2 marks; fewer than 3 of a ring.
     TooFew,
-    /// More than 4,096 marks; more than 512 for `fit_curve_cubic` and the listing.
+    /// More than 100,000 marks; more than 512 for `fit_curve_cubic` and the listing, more than 4,096 for `judge_file` and `save_fit`.
     TooMany,
     /// A mark with an x and no y, which slices of [`Point`](crate::Point) can't have.
     Odd,
@@ -21,7 +21,7 @@ pub enum Refusal {
     NotFinite,
     /// The search for the nearest point went too deep.
     TooDeep,
-    /// A house file is badly formed, or a house does not fit into a file.
+    /// A house file is badly formed, as one is whose curves' kind does not suit its number of marks, or too long for the call; or a house does not fit into a file.
     BadlyFormed,
     /// A number of path data, or on the way to it, is above 1,000,000,000 in magnitude.
     TooLarge,
@@ -66,13 +66,15 @@ impl Refusal {
     fn words(self) -> &'static str {
         match self {
             Refusal::TooFew => "there are fewer than 2 marks, or fewer than 3 of a ring",
-            Refusal::TooMany => "there are more than 4,096 marks, or more than 512 for the direct fit and the listing",
+            Refusal::TooMany => {
+                "there are more than 100,000 marks, or than the 512 of the direct fit and the listing, or the 4,096 of the judge and of save_fit"
+            }
             Refusal::Odd => "a mark has an x and no y",
             Refusal::NoRoom => "a slice is too short",
             Refusal::OutOfRange => "an input number is out of range",
             Refusal::NotFinite => "an operation gave NaN or infinity; of a fit, three or more marks may lie on one spot",
             Refusal::TooDeep => "the search for the nearest point went too deep",
-            Refusal::BadlyFormed => "the house file is badly formed",
+            Refusal::BadlyFormed => "the house file is badly formed, or too long for the call",
             Refusal::TooLarge => "a number of the path is above 1,000,000,000 in magnitude",
             Refusal::NoPath => "the text is not path data of one subpath of M, L, C and Z, with three places at most and no exponent",
             Refusal::NotJoined => "there are no curves, or they do not meet bit for bit",

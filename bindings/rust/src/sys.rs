@@ -8,6 +8,9 @@
 //! A slice is a pointer and how many elements it has (`marks`, `marks_len`); marks are x and y in turn. For n marks a fit wants 9(n-1) numbers in
 //! `curves`, n-1 in `firsts` and in `worsts`, and n in `params`; for a ring 9n, n, n and n+1.
 //!
+//! More marks than a call takes are refusal 2: the fits by blocks, the checkers, `wes_read_file` and `wes_write_file` take 100,000, `wes_fit_curve_cubic` and
+//! `wes_list_outline` 512, `wes_judge_file` and `wes_save_fit` 4,096.
+//!
 //! # Safety
 //!
 //! Of every call here the caller owes that
@@ -133,15 +136,16 @@ extern "C" {
 
     /// Takes a file apart. For n marks and k curves lend 2n numbers in `marks`, k in `firsts`, 9k in `curves` and k in `worsts` (8k and none
     /// where `nine` is false), and n in `params`; a file without curves wants no room but that of its marks, and `nine` is false then. Files of no
-    /// mark or one are taken. Refusals: 9, 2, 4.
+    /// mark or one are taken. Refusals: 9, 2, 4; a kind that does not suit the number of marks is 9.
     pub fn wes_read_file(
         file: *const u8, file_len: usize, tolerance: *mut f64, marks: *mut f64, marks_len: usize, firsts: *mut u32, firsts_len: usize,
         worsts: *mut u32, worsts_len: usize, curves: *mut f64, curves_len: usize, params: *mut f64, params_len: usize, mark_count: *mut usize,
         curve_count: *mut usize, nine: *mut bool,
     ) -> u32;
 
-    /// Puts a file together, with `count` curves, in the first `size` bytes of `out`. `nine` is as for wes_check. Refusals: 3, 2, 4, 9, in this
-    /// order.
+    /// Puts a file together, with `count` curves, in the first `size` bytes of `out`: 20 + 16n of n marks, and with k curves 6 + 8n more and for
+    /// each curve 82, or 72 of eight numbers, up to 4,096 marks, and above them 86, or 74. `nine` is as for wes_check. Refusals: 3, 2, 4, 9, in this
+    /// order; 9 is as many curves as marks, or more, and up to 4,096 marks also a mark number above 65,535.
     pub fn wes_write_file(
         nine: bool, tolerance: *const f64, marks: *const f64, marks_len: usize, count: usize, firsts: *const u32, firsts_len: usize,
         worsts: *const u32, worsts_len: usize, curves: *const f64, curves_len: usize, params: *const f64, params_len: usize,
@@ -154,11 +158,11 @@ extern "C" {
     pub fn wes_list_outline(file: *const u8, file_len: usize, out: *mut u8, out_len: usize, size: *mut usize) -> u32;
 
     /// Says in one line whether a file's curves are sound: "PASSED marks curves\n", "FAULT A curve mark\n", "NO CURVES marks\n" (whatever its
-    /// marks are) or "REFUSED n\n" (9 for more than 434,120 bytes, too). 64 bytes are room for it.
+    /// marks are) or "REFUSED n\n" (2 for more than 4,096 marks, 9 for more than 434,120 bytes, too). 64 bytes are room for it.
     pub fn wes_judge_file(file: *const u8, file_len: usize, out: *mut u8, out_len: usize, size: *mut usize) -> u32;
 
-    /// Fits a file's marks and writes them with their curves, as a file. 434,120 bytes are room for every file, and no longer one is taken; a
-    /// refused one gives the text "REFUSED n\n" instead.
+    /// Fits a file's marks, up to 4,096, and writes them with their curves, as a file. 434,120 bytes are room for every file, and no longer one is
+    /// taken; a refused one gives the text "REFUSED n\n" instead.
     pub fn wes_save_fit(file: *const u8, file_len: usize, out: *mut u8, out_len: usize, size: *mut usize) -> u32;
 
     // ---- path data, as SVG 1.1 has it: one subpath of absolute M, L, C and Z

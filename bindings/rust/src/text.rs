@@ -63,7 +63,8 @@ pub fn list_outline(file: &[u8]) -> Result<String, Refusal> {
     Ok(String::from_utf8_lossy(&text).into_owned())
 }
 
-/// Says whether a house file's curves are sound for its marks and its tolerance.
+/// Says whether a house file's curves are sound for its marks and its tolerance, up to 4,096 marks and 434,120 bytes. Of a longer file [`read_file`](crate::read_file)
+/// and [`House::check`](crate::House::check) say it.
 pub fn judge_file(file: &[u8]) -> Result<Judgement, Refusal> {
     let line = words(&told(sys::wes_judge_file, file, LINE_ROOM)?);
     match *line.split(' ').collect::<Vec<_>>() {
@@ -82,7 +83,8 @@ fn unknown(line: &str) -> ! {
     panic!("the judge's line {line:?} is not known: libwesalondo.a is newer than this crate")
 }
 
-/// Fits the marks of a house file by the joined fit, and gives the file with its curves; [`judge_file`] passes every one.
+/// Fits the marks of a house file, up to 4,096, by the joined fit, and gives the file with its curves; [`judge_file`] passes every one. For more marks there are
+/// [`read_file`](crate::read_file), [`fit_joined`](crate::fit_joined) and [`write_file`](crate::write_file).
 pub fn save_fit(file: &[u8]) -> Result<Vec<u8>, Refusal> {
     told(sys::wes_save_fit, file, FILE_ROOM)
 }

@@ -124,7 +124,7 @@ fn try_outline(random: &mut Random, n: usize) -> (usize, usize) {
     let (mut accepted, mut refused) = (0, 0);
     for kind in kinds(random) {
         let least = if kind.is_ring() { 3 } else { 2 };
-        let most = if let Kind::Cubic(..) = kind { 512 } else { 4096 };
+        let most = if let Kind::Cubic(..) = kind { 512 } else { 100_000 };
         match kind.fit(&marks, tolerance) {
             Ok(fit) => {
                 accepted += 1;
@@ -132,9 +132,7 @@ fn try_outline(random: &mut Random, n: usize) -> (usize, usize) {
                 assert_eq!(fit.check(&marks, tolerance), Ok(Verdict::Sound), "{kind:?} of {n} marks");
                 // The marks of a ring stand in a house with mark 0 again, and its list is sound there too.
                 let mut house = House::with_fit(tolerance, &marks, &fit);
-                if house.marks.len() <= 4096 {
-                    assert_eq!(house.check(), Ok(Verdict::Sound), "{kind:?} of {n} marks, in a house");
-                }
+                assert_eq!(house.check(), Ok(Verdict::Sound), "{kind:?} of {n} marks, in a house");
                 let (fault, curve) = damage(random, &mut house);
                 let found = check(kind.is_ring(), true, &marks, tolerance, &house.list()).map(|verdict| verdict.fault());
                 assert_eq!(found.map(|found| found.map(|f| (f.kind, f.curve))), Ok(Some((fault, curve))), "{kind:?} of {n} marks, damaged");
@@ -155,7 +153,7 @@ fn fits_pass_and_damaged_lists_do_not() {
     let mut random = Random(0x5EED_0001);
     let (mut accepted, mut refused) = (0, 0);
     for i in 0..3000 {
-        let n = if i % 300 == 299 { 4096 } else { length(&mut random) };
+        let n = if i % 300 == 299 { 10_000 } else { length(&mut random) };
         let (more, fewer) = try_outline(&mut random, n);
         accepted += more;
         refused += fewer;

@@ -128,7 +128,7 @@ fn lists_are_refused() {
         let few = if own.ring { 4 } else { 2 };
         own.changed(|own| own.marks.clear()).is_refused(Refusal::TooFew);
         own.changed(|own| own.marks.truncate(few)).is_refused(Refusal::TooFew);
-        own.changed(|own| own.marks = flat(&wave(4097))).is_refused(Refusal::TooMany);
+        own.changed(|own| own.marks = flat(&wave(100_001))).is_refused(Refusal::TooMany);
         own.changed(|own| own.curves.truncate(own.width() * own.count - 1)).is_refused(Refusal::NoRoom);
         own.changed(|own| own.firsts.truncate(own.count - 1)).is_refused(Refusal::NoRoom);
         own.changed(|own| own.params.truncate(own.params.len() - 1)).is_refused(Refusal::NoRoom);

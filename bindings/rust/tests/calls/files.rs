@@ -82,6 +82,7 @@ fn written_and_read_again() {
     assert_eq!((house(true).is_empty(), House::new(0.25, wave(7)).is_empty()), (false, true));
 }
 
+/// The largest that the judge and `save_fit` take; tests/long.rs has larger ones.
 #[test]
 fn the_largest_file() {
     let marks: Vec<Point> = (0..4096).map(|i| Point::new(f64::from(i), f64::from(i * 7919 % 101))).collect();
@@ -102,9 +103,13 @@ fn a_ring_in_a_house() {
     let fit = fit_ring(&marks, 0.5).unwrap();
     let file = write_file(&House::with_fit(0.5, &marks, &fit)).unwrap();
     assert_eq!(judge_file(&file), Ok(Judgement::Passed { marks: 301, curves: fit.len() }));
+    // mark 0 again is the first one beyond two-byte mark numbers, and beyond the judge
     let most = wave(4096);
-    let too_long = House::with_fit(0.5, &most, &fit_ring(&most, 0.5).unwrap());
-    assert_eq!(write_file(&too_long), Err(Refusal::TooMany));
+    let house = House::with_fit(0.5, &most, &fit_ring(&most, 0.5).unwrap());
+    let file = write_file(&house).unwrap();
+    assert_eq!((file[20 + 16 * 4097 + 4], judge_file(&file)), (7, Err(Refusal::TooMany)));
+    assert!(read_file(&file).as_ref() == Ok(&house));
+    assert_eq!(house.check(), Ok(Verdict::Sound));
 }
 
 #[test]
@@ -125,11 +130,11 @@ fn reading_is_refused() {
         assert_eq!(read_file(bad), Err(Refusal::BadlyFormed));
         assert_eq!(Room::of(&whole).read(bad), 9);
     }
-    let most = write_file(&House::new(0.5, wave(4096))).unwrap();
+    let most = write_file(&House::new(0.5, wave(100_000))).unwrap();
     let mut long = [most.as_slice(), &[0; 16]].concat();
-    long[14..18].copy_from_slice(&(2 + 16 * 4097u32).to_le_bytes());
+    long[14..18].copy_from_slice(&(2 + 16 * 100_001u32).to_le_bytes());
     assert!(read_file(&most).is_ok());
-    assert_eq!(read_file(&long), Err(Refusal::TooMany));
+    assert_eq!(read_file(&long).err(), Some(Refusal::TooMany));
     assert_eq!(Room::of(&whole).read(&long), 2);
 }
 
@@ -160,7 +165,7 @@ fn writing_is_refused() {
         write_file(&house)
     };
     assert!(changed(|_| {}).is_ok());
-    assert_eq!(changed(|house| house.marks = wave(4097)), Err(Refusal::TooMany));
+    assert_eq!(changed(|house| house.marks = wave(100_001)).err(), Some(Refusal::TooMany));
     assert_eq!(changed(|house| house.worsts.truncate(house.firsts.len() - 1)), Err(Refusal::NoRoom));
     assert_eq!(changed(|house| house.curves.truncate(house.curves.len() - 1)), Err(Refusal::NoRoom));
     assert_eq!(changed(|house| house.params.truncate(59)), Err(Refusal::NoRoom));

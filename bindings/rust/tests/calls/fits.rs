@@ -14,14 +14,14 @@ fn refused(kind: Kind, numbers: &[f64], tolerance: f64, cut: impl Fn(&mut Room))
     assert_eq!(room.made, 0, "{kind:?} refuses by {answer} and has made nothing");
     match answer {
         6 => assert!(room.bits().iter().all(|&bits| bits == 0), "{kind:?} refuses by 6 and leaves zeros"),
-        _ => assert_eq!(room.bits(), before, "{kind:?} refuses by {answer} and leaves its room"),
+        _ => assert!(room.bits() == before, "{kind:?} refuses by {answer} and leaves its room"),
     }
     answer
 }
 
 /// A refusal of marks that both the safe call and the raw one give.
 fn both_refuse(kind: Kind, marks: &[Point], tolerance: f64, refusal: Refusal) {
-    assert_eq!(kind.fit(marks, tolerance), Err(refusal), "{kind:?}");
+    assert_eq!(kind.fit(marks, tolerance).err(), Some(refusal), "{kind:?}");
     assert_eq!(refused(kind, &flat(marks), tolerance, |_| {}), refusal.number(), "{kind:?}");
 }
 
@@ -67,22 +67,22 @@ fn too_few_and_too_many_marks() {
     for kind in KINDS {
         both_refuse(kind, &[], 0.5, Refusal::TooFew);
         both_refuse(kind, &wave(1), 0.5, Refusal::TooFew);
-        both_refuse(kind, &wave(4097), 0.5, Refusal::TooMany);
-        assert_eq!(kind.fit(&wave(100_000), 0.5), Err(Refusal::TooMany));
+        both_refuse(kind, &wave(100_001), 0.5, Refusal::TooMany);
+        assert_eq!(kind.fit(&wave(1_000_000), 0.5).err(), Some(Refusal::TooMany));
     }
     both_refuse(Kind::Ring, &wave(2), 0.5, Refusal::TooFew);
     both_refuse(KINDS[4], &wave(513), 0.5, Refusal::TooMany);
     assert!(KINDS[4].fit(&wave(512), 0.5).is_ok());
     for kind in &KINDS[..4] {
-        assert!(kind.fit(&wave(4096), 0.5).is_ok(), "{kind:?}");
+        assert!(kind.fit(&wave(100_000), 0.5).is_ok(), "{kind:?}");
     }
 }
 
 #[test]
 fn odd_slices() {
     for kind in KINDS {
-        for n in [1, 3, 39, 8193] {
-            let numbers = flat(&wave(5000))[..n].to_vec();
+        for n in [1, 3, 39, 200_001] {
+            let numbers = flat(&wave(100_001))[..n].to_vec();
             assert_eq!(refused(kind, &numbers, 0.5, |_| {}), 3, "{kind:?} of {n} numbers");
         }
     }

@@ -4,6 +4,7 @@ mod checks;
 mod common;
 mod files;
 mod fits;
+mod kinds;
 mod paths;
 mod single;
 mod texts;

@@ -7,7 +7,7 @@ fn file(marks: Vec<Point>) -> Vec<u8> {
 }
 
 /// Files and why each of the three calls refuses them.
-fn refused_files() -> [(Vec<u8>, [Option<Refusal>; 3]); 6] {
+fn refused_files() -> [(Vec<u8>, [Option<Refusal>; 3]); 8] {
     use Refusal::*;
     let mut lost = wave(5);
     lost[2].x = f64::NAN;
@@ -16,6 +16,9 @@ fn refused_files() -> [(Vec<u8>, [Option<Refusal>; 3]); 6] {
         (vec![0; 434_121], [Some(BadlyFormed); 3]),
         (file(wave(1)), [Some(TooFew), Some(TooFew), None]),
         (file(wave(513)), [Some(TooMany), None, None]),
+        // the most marks in 434,120 bytes, and one more; both are longer than the listing reads
+        (file(wave(27_131)), [Some(BadlyFormed), Some(TooMany), Some(TooMany)]),
+        (file(wave(27_132)), [Some(BadlyFormed); 3]),
         (file(lost), [Some(OutOfRange), Some(OutOfRange), None]),
         (file(vec![Point::new(1.0, 1.0); 3]), [Some(NotFinite), Some(NotFinite), None]),
     ]
