@@ -27,7 +27,7 @@ fn range(first: u64, last: u64) {
     cases::end_line();
 }
 
-// The document's cases; all that a fit asks for; and beyond, where 30,049 is the first number at which a division would not do.
+// The document's cases; where the division serves; and beyond, where 30,049 is the first number at which it would not do, on to what a fit asks for, a ring's first mark counted again.
 fn main() {
     range(199, 199);
     range(200, 200);
@@ -35,9 +35,9 @@ fn main() {
     range(249, 249);
     range(250, 250);
     range(400, 400);
-    range(2, 4097);
-    range(4098, 30048);
+    range(2, 20000);
+    range(20001, 30048);
     range(30049, 30049);
-    range(30049, 100000);
+    range(30049, 100001);
     range(0xffff_ffff_ffff_ffff, 0xffff_ffff_ffff_ffff);
 }
