@@ -19,6 +19,7 @@ from shared.meetings import ABOUTS
 from shared.path_cases import TEXTS, meeting, random_list, random_number, random_soup, random_text
 from shared.path_cases import lists as path_lists
 from shared.path_data import Refused, exported
+from shared.table import LINE_MARKS
 from shared.ties import CURVE, PARAMS, TIES
 from shared.words import word_of
 
@@ -118,6 +119,10 @@ def outlines():
         for kind in BLOCKS:
             yield line(kind, 1.0, luff(n, 5000.0))
             yield line(kind, 3.0, noisy(n, 800.0))
+    for n in (8191, 16385, 19999, 20000, 20001, LINE_MARKS):
+        yield line('joined', 1.0, luff(n, 5000.0))
+        for kind in BLOCKS:
+            yield line(kind, 3.0, noisy(n, 800.0))
     # sizes at the ends of the range
     for r in (1e-300, 1e-160, 1e-9, BIG / 10):
         for shape in (circle, cloud, corner):
@@ -169,7 +174,7 @@ def pond(n, r):
 def rings():
     """Closed outlines of one block and of several; with the first mark once more, or twice, at the end; and folded about mark 0, where the last block meets the first,
     and where inner blocks meet, as they are cut over one mark more than is given."""
-    for n in (3, 4, 5, 8, 30, 198, 199, 200, 201, 249, 250, 399, 400, 512, 4095, 4096):
+    for n in (3, 4, 5, 8, 30, 198, 199, 200, 201, 249, 250, 399, 400, 512, 4095, 4096, 4097, 19999, 20000, LINE_MARKS):
         for tolerance in (0.0, 0.01, 2.0):
             yield line('ring', tolerance, pond(n, 700.0))
     for n in (2, 3, 4, 9, 198, 199, 200):
@@ -365,13 +370,14 @@ def measures():
     for _ in range(200):
         r = hand.choice([1e-200, 1.0, 500.0, BIG, 1e170])
         yield line('distance', [hand.uniform(-r, r) for _ in range(10)], hand.choice([0.0, 1.0, hand.random(), hand.uniform(-3, 3), NAN]))
-    for n in [*range(5), *range(190, 410), *range(4090, 4100), *(hand.randrange(1 << 40) for _ in range(50))]:
+    for n in [*range(5), *range(190, 410), *range(4090, 4100), *range(19990, 20010), *range(30040, 30060), *range(99990, 100010), *(hand.randrange(1 << 40) for _ in range(50))]:
         yield line('blocks', n)
 
 
 def sizes():
-    """Of how many marks a block is: for all outlines that a fit takes, and beyond. 30,049 is the first number for which a division by 200 would not give it."""
-    for n in [*range(4201), *range(30030, 30060), *range(99990, 100001), *(power + k for power in (1 << 32, 1 << 63) for k in (-1, 0, 1)), (1 << 64) - 1]:
+    """Of how many marks a block is: for outlines that a fit takes, and beyond. Up to 20,000 marks the port divides; 30,049 is the first number for which that would not do."""
+    near = [*range(19900, 20300), *range(30030, 30060), *range(99990, 100010)]
+    for n in [*range(4201), *range(4201, 100000, 83), *near, *(power + k for power in (1 << 32, 1 << 63) for k in (-1, 0, 1)), (1 << 64) - 1]:
         yield line('size', n)
 
 
@@ -383,7 +389,7 @@ def lists():
                 yield from damaged_records(ring, count)
         yield checked(ring, 0.5, [], [], [], [0.0] if ring else [])
         yield checked_record(ring, 0.5, [], [], [], [0.0] if ring else [], [], [])
-        for n in (1, 2, 3, 4095, 4096, 4097):
+        for n in (1, 2, 3, 4095, 4096, 4097, 20000, LINE_MARKS):
             yield checked(ring, 0.5, [0.0] * (2 * n), [0], [[0.0] * 8], [0.0] * (n - 1 + ring) + [1.0])
             yield checked_record(ring, 0.5, [0.0] * (2 * n), [0], [[0.0] * 8], [0.0] * (n - 1 + ring) + [1.0], [n % 2], [0.0])
     yield from tied_records()

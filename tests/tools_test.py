@@ -26,7 +26,7 @@ from shared import house, path_cases
 from shared.blocks import size_of
 from shared.checker import FAULT_A, FAULT_B, FAULT_C, FAULT_D, FAULT_E, PASSED, REFUSED, check, kept_for
 from shared.path_data import Refused, exported, imported, written
-from shared.table import fit_refusal
+from shared.table import LINE_MARKS, MOST_MARKS, fit_refusal
 from shared.ties import CURVE, PARAMS, TIES
 from shared.words import NAN, numbers, pattern_of, patterns_of, word_of, words
 
@@ -120,10 +120,11 @@ class Compare(Case):
         self.compare(2, 'line 1 is not plain text', flo, write('bytes.txt', bytes(range(128, 256))))
         mark = words(patterns_of(1.0, 2.0))
         for kind in ('joined', 'ring'):
-            long_fit = ' '.join([kind, word_of(0.5)] + [mark] * 4201)
-            self.compare(2, 'line 2 has more than the 4,200 marks', flo, write('long.txt', f'{LINES[0]}\n{long_fit}\n'))
+            long_fit = ' '.join([kind, word_of(0.5)] + [mark] * (LINE_MARKS + 1))
+            self.compare(2, 'line 2 has more than the 21,000 marks', flo, write('long.txt', f'{LINES[0]}\n{long_fit}\n'))
         for kind in ('check', 'check_ring', 'check_worst', 'check_worst_ring'):
-            self.compare(2, 'line 1 has more than the 4,200 marks', flo, write('long.txt', f'{kind} {word_of(0.5)} 4201 {mark}\n'))
+            self.compare(2, 'line 1 has more than the 21,000 marks', flo, write('long.txt', f'{kind} {word_of(0.5)} {LINE_MARKS + 1} {mark}\n'))
+            self.compare(2, 'line 1 has more than the 21,000 marks or curves', flo, write('long.txt', f'{kind} {word_of(0.5)} 2 {mark} {mark} {LINE_MARKS + 1} 0\n'))
 
     def test_last_line_without_newline(self):
         self.counts(0, '2 cases, 0 different', write('open.txt', '\n'.join(LINES)))
@@ -159,7 +160,8 @@ class Compare(Case):
         lines = [line.split(' ') for line in made[0].stdout.decode('ascii').split('\n')[:-1]]
         self.assertGreater(len(lines), 5000)
         sizes = {len(line[2:]) / 2 for line in lines if line[0] == 'ring'}
-        self.assertLessEqual({0, 0.5, 1, 2, 3, 4, 199, 200, 201, 4095, 4096, 4097}, sizes)
+        self.assertLessEqual({0, 0.5, 1, 2, 3, 4, 199, 200, 201, 4095, 4096, 4097, 20000, 20001, LINE_MARKS}, sizes)
+        self.assertEqual(max(sizes), LINE_MARKS)
         self.assertGreater(sum(line[0] == 'check_ring' for line in lines), 1000)
         self.assertGreater(min(sum(line[0] == kind for line in lines) for kind in ('export', 'import')), 500)
         for kind in ('check_worst', 'check_worst_ring'):
@@ -313,20 +315,21 @@ class Rings(Case):
 
     def test_table(self):
         """The refusals of the fit itself, by the document's table."""
-        for count, short, want in ((5, False, 3), (0, False, 1), (4, True, 1), (6, False, 0), (6, True, 4), (8192, False, 0), (8194, True, 2)):
+        for count, short, want in ((5, False, 3), (0, False, 1), (4, True, 1), (6, False, 0), (6, True, 4), (2 * MOST_MARKS, False, 0), (2 * MOST_MARKS + 2, True, 2)):
             self.assertEqual(fit_refusal(['ring', word_of(0.5)] + [word_of(1.0)] * count, short), want)
         self.assertEqual(fit_refusal(['joined', word_of(0.5)] + [word_of(1.0)] * 4), 0)
+        self.assertEqual(MOST_MARKS, 100000)
 
     def test_refusals(self):
         self.judged((REFUSED, 3, 0), marks=TRIANGLE[:5])
         self.judged((REFUSED, 1, 0), marks=TRIANGLE[:4])
-        self.judged((REFUSED, 2, 0), marks=[0.0] * 8194, params=[])
+        self.judged((REFUSED, 2, 0), marks=[0.0] * (2 * MOST_MARKS + 2), params=[])
         self.judged((REFUSED, 4, 0), params=(0.0, 0.0, 1.0), tolerance=-1.0)
         self.judged((REFUSED, 4, 0), curves=SIDES[:2])
         self.judged((REFUSED, 5, 0), tolerance=-1.0, claimed=0)
-        spot = [0.0] * 8192
-        self.judged((PASSED, 0, 0), marks=spot, claimed=1, curves=[[0.0] * 8], firsts=[0], params=[0.0] * 4096 + [1.0])
-        self.judged((REFUSED, 4, 0), marks=spot, claimed=1, curves=[[0.0] * 8], firsts=[0], params=[0.0] * 4095 + [1.0])
+        spot = [0.0] * 2 * MOST_MARKS
+        self.judged((PASSED, 0, 0), marks=spot, claimed=1, curves=[[0.0] * 8], firsts=[0], params=[0.0] * MOST_MARKS + [1.0])
+        self.judged((REFUSED, 4, 0), marks=spot, claimed=1, curves=[[0.0] * 8], firsts=[0], params=[0.0] * (MOST_MARKS - 1) + [1.0])
 
     def test_faults(self):
         self.judged((FAULT_A, 0, 0), claimed=0)
@@ -388,6 +391,90 @@ class Rings(Case):
         met = [kink(before, after) for first, before, after in zip(firsts, curves[-1:] + curves, curves) if first in (0, 200)]
         self.assertEqual(len(met), 2)
         self.assertLess(max(met), 1e-9)
+
+
+class Houses(Case):
+    """House files by the document's text (tools/shared/house.py): the four kinds of a curve."""
+
+    def built(self, count, kind, beside=(0x0102, 0x0304)):
+        """A file of so many marks with one curve of a kind, and how long its records are."""
+        kept = kind in (6, 7)
+        numbers_ = patterns_of(*range(9 if kept else 8))
+        return house.build(1, [2] * 2 * count, [(beside[0], numbers_)], [3] * count, [beside[1]] if kept else None, kind)
+
+    def test_records(self):
+        """Byte by byte: the lowest first, two for a mark's number or four."""
+        numbers_ = {kept: b''.join(pattern.to_bytes(8, 'little') for pattern in patterns_of(*range(9 if kept else 8))) for kept in (False, True)}
+        for kind, head in ((3, b'\x44\0\0\0\3\0\2\1'), (6, b'\x4e\0\0\0\6\0\2\1\4\3'), (5, b'\x46\0\0\0\5\0\2\1\0\0'), (7, b'\x52\0\0\0\7\0\2\1\0\0\4\3\0\0')):
+            record = head + numbers_[kind in (6, 7)]
+            self.assertEqual(self.built(2, kind)[52:52 + len(record)], record)
+        large = self.built(4097, 7, (0x12345678, 0xFFFFFFFE))
+        self.assertEqual(large[65572 + 6:65572 + 14], b'\x78\x56\x34\x12\xfe\xff\xff\xff')
+
+    def test_which_kinds_suit(self):
+        for count in (2, 512, 4095, 4096, 4097, 5000):
+            for kind in (3, 5, 6, 7):
+                data = self.built(count, kind)
+                held = house.parse(data)
+                self.assertEqual(held is not None, (kind in (3, 6)) == (count <= 4096))
+                if held:
+                    self.assertEqual((held.bytes(), held.firsts(), held.worsts), (data, [0x0102], [0x0304] if kind in (6, 7) else None))
+                    self.assertEqual(house.kind_of(count, held.worsts is not None), kind)
+
+    def test_each_list_has_one_encoding(self):
+        """What is held does not depend on the kind that it came in, and is written in one way."""
+        for count, kinds in ((4096, (3, 6)), (4097, (5, 7))):
+            for kind in kinds:
+                records = house.records_of(self.built(count, kind))
+                for other in (3, 5, 6, 7, 8):
+                    again = b''.join(house.record(other if is_curve else given, body) for is_curve, (given, body) in zip((False, False, True, False), records))
+                    self.assertEqual(house.parse(again) is not None, other == kind)
+
+    def test_lengths(self):
+        for count in (2, 3, 4096, 4097):
+            curves = [(i, [0] * 9) for i in range(count - 1)]
+            self.assertEqual(house.longest(count), len(house.build(0, [0] * 2 * count, curves, [0] * count, [0] * (count - 1))))
+        self.assertEqual((house.longest(4096), house.longest(MOST_MARKS)), (434120, 10999940))
+
+    def test_kept_runs(self):
+        """What house_cases keeps of a large file is its heads; put together again it is the file."""
+        from vectors import files
+        rows = list(files.large_cases())
+        self.assertGreater(max(len(data) for _, data, _ in rows), 2400000)
+        for todo, data, room in rows:
+            parts = files.runs(data)
+            self.assertEqual((len(parts), b''.join(given + bytes(zeros) for given, zeros in parts)), (3, data))
+            self.assertLess(len(files.record(todo, data, room)), 500)
+
+
+class Long(Case):
+    """As many marks as a line of replay holds, and one more."""
+
+    def test_fits(self):
+        mark, other = words(patterns_of(1, 2)), word_of(1.0)
+        for kind in ('source', 'loop', 'joined', 'ring'):
+            line = ' '.join([kind, word_of(0.5)] + [mark] * LINE_MARKS)
+            self.assertEqual(self.answers([line, f'{line} {other}', f'{line} {mark}', f'{kind} {word_of(0.5)} {mark} {mark} {mark}']), ['6', 'BAD', 'BAD', '6'])
+        line = ' '.join([f'direct {words(patterns_of(0.5, 1, 0, 0, 1))}'] + [mark] * LINE_MARKS)
+        self.assertEqual(self.answers([line, f'{line} {mark}', f'{line} {other}']), ['2', 'BAD', 'BAD'])
+
+    def test_lists(self):
+        """A curve between each two marks, in both forms: as it is, with the last curve off, and for a mark more."""
+        from vectors import lists
+        for ring, nine in itertools.product((False, True), repeat=2):
+            marks = [float(value) for i in range(LINE_MARKS) for value in (i, i * i % 11)]
+            ends = marks + marks[:2] * ring
+            count = len(ends) // 2 - 1
+            sound = lists.Claim(0.0, marks, count, [value for i in range(count) for value in straight(ends[2 * i:2 * i + 2], ends[2 * i + 2:2 * i + 4])], list(range(count)), [0.0] * count + [1.0], ring)
+            if nine:
+                sound = sound.kept()
+            off = sound.but(curves=lists.put(sound.curves, sound.wide() * count - 1 - nine, 0.5))  # where the last one ends
+            late = sound.but(firsts=lists.put(sound.firsts, count - 1, count))
+            self.assertEqual([claim.answer() for claim in (sound, off, late)], [(PASSED, 0, 0), (FAULT_B, count - 1, count - 1), (FAULT_A, count - 1, 0)])
+            more = lists.Claim(0.0, [0.0] * 2 * (LINE_MARKS + 1), 1, [0.0] * sound.wide(), [0], [0.0] * (LINE_MARKS + ring) + [1.0], ring, nine=nine, worsts=[0] * nine)
+            self.assertEqual(more.answer()[0], PASSED)
+            cases = [sound, off, late]
+            self.assertEqual(self.answers([claim.line() for claim in [*cases, more]]), [lists.line_answer(claim.answer()) for claim in cases] + ['BAD'])
 
 
 def kink(before, after):

@@ -2,15 +2,20 @@
    crates/house_cases/src/main.rt says what a record is. */
 #include "test.h"
 
-/* As much room as crates/house_cases has. */
-enum { ALL = 1 << 22, FILE_ROOM = 163840, NUMBERS = 8192, FIRSTS = 1024, PARAMS = 4096, HEAD = 64 };
+/* At least as much room as crates/house_cases has; of it each record lends what its head says. */
+enum { ALL = 1 << 23, FILE_ROOM = 1 << 22, NUMBERS = 1 << 15, FIRSTS = 1 << 12, PARAMS = 1 << 14, RUNS = 3 };
 
-/* A record's head: what to do, how long the file is, and how much room to lend. */
+/* A record's head: what to do, the file's runs, and how much room to lend. */
 typedef struct {
-    uint64_t what, file, marks, firsts, worsts, curves, params, out;
+    uint64_t what;
+    struct {
+        uint64_t given, zeros;
+    } runs[RUNS];
+    uint64_t marks, firsts, worsts, curves, params, out;
 } Head;
 
-static uint8_t cases[ALL], answers[ALL], out[FILE_ROOM];
+static uint8_t cases[ALL], answers[ALL], file[FILE_ROOM], out[FILE_ROOM];
+static size_t file_size;
 static double tolerance, marks[NUMBERS], curves[NUMBERS], params[PARAMS];
 static uint32_t firsts[FIRSTS], worsts[FIRSTS];
 static size_t mark_count, curve_count;
@@ -30,38 +35,39 @@ static void say_count(size_t n, const char *behind) { said_size += (size_t)snpri
 
 /* ---- What a record asks for */
 
-static uint32_t read_into_room(const uint8_t *file, size_t size, const Head *head) {
+static uint32_t read_into_room(size_t size, const Head *head) {
     return wes_read_file(file, size, &tolerance, marks, head->marks, firsts, head->firsts, worsts, head->worsts, curves, head->curves,
                          params, head->params, &mark_count, &curve_count, &nine);
 }
 
-static void list(const uint8_t *file, const Head *head) {
+static void list(const Head *head) {
     size_t size;
-    uint32_t number = wes_list_outline(file, head->file, out, head->out, &size);
+    uint32_t number = wes_list_outline(file, file_size, out, head->out, &size);
     if (number != 0)
         say_count(number, "\n");
     else
         say_text(out, size);
 }
 
-static void write_again(const uint8_t *file, const Head *head) {
+static void write_again(const Head *head) {
     size_t size;
     uint32_t number = wes_write_file(nine, &tolerance, marks, 2 * mark_count, curve_count, firsts, head->firsts, worsts, head->worsts,
                                      curves, head->curves, params, head->params, out, head->out, &size);
     say_count(number, number == 0 ? " " : "\n");
     if (number != 0) return;
     say_count(size, "\n");
-    if (size != head->file || memcmp(file, out, size) != 0) say_text("DIFFERS\n", 8);
+    if (size != file_size || memcmp(file, out, size) != 0) say_text("DIFFERS\n", 8);
 }
 
-static void read_and_write(const uint8_t *file, const Head *head) {
-    uint32_t number = read_into_room(file, head->file, head);
+static void read_and_write(const Head *head) {
+    uint32_t number = read_into_room(file_size, head);
     say_count(number, number == 0 ? " " : "\n");
     if (number != 0) return;
     say_count(mark_count, " ");
     say_count(curve_count, " ");
     if (head->what == 4 && head->worsts > 0) worsts[0] = 65536;
-    write_again(file, head);
+    if (head->what == 5 && head->firsts > 0) firsts[0] = 65536;
+    write_again(head);
 }
 
 /* How often 0, 2, 4 and 9 were answered. */
@@ -77,45 +83,64 @@ static void say_tally(void) {
 
 static void count_answer(uint32_t number) { tally[number < 10 ? number : 7]++; }
 
-static void prefixes(const uint8_t *file, const Head *head) {
-    for (size_t i = 0; i < head->file; i++) count_answer(read_into_room(file, i, head));
+static void prefixes(const Head *head) {
+    for (size_t i = 0; i < file_size; i++) count_answer(read_into_room(i, head));
     say_tally();
 }
 
-static void changes(uint8_t *file, const Head *head) {
-    for (size_t i = 0; i < head->file; i++) {
-        for (unsigned d = 1; d < 256; d++) {
-            file[i]++;
-            count_answer(read_into_room(file, head->file, head));
+/* The other values of the bytes that are given. */
+static void changes(const Head *head) {
+    size_t at = 0;
+    for (size_t run = 0; run < RUNS; at += head->runs[run++].zeros) {
+        for (size_t end = at + head->runs[run].given; at < end; at++) {
+            for (unsigned d = 1; d < 256; d++) {
+                file[at]++;
+                count_answer(read_into_room(file_size, head));
+            }
+            file[at]++;
         }
-        file[i]++;
     }
     say_tally();
 }
 
-static void answer(uint8_t *file, const Head *head) {
+static void answer(const Head *head) {
     said_size = 0;
     switch (head->what) {
-    case 0: list(file, head); break;
-    case 2: prefixes(file, head); break;
-    case 3: changes(file, head); break;
-    default: read_and_write(file, head);
+    case 0: list(head); break;
+    case 2: prefixes(head); break;
+    case 3: changes(head); break;
+    default: read_and_write(head);
     }
+}
+
+/* Puts a record's file together; how many bytes of it are given. */
+static size_t take_file(const uint8_t *given, const Head *head) {
+    size_t taken = 0;
+    file_size = 0;
+    for (size_t run = 0; run < RUNS; run++) {
+        memcpy(file + file_size, given + taken, head->runs[run].given);
+        taken += head->runs[run].given;
+        file_size += head->runs[run].given;
+        memset(file + file_size, 0, head->runs[run].zeros);
+        file_size += head->runs[run].zeros;
+    }
+    return taken;
 }
 
 int main(int argc, char **argv) {
     if (argc != 3) return 2;
     size_t size = load(argv[1], cases, ALL), kept = 0, kept_size = load(argv[2], answers, ALL), count = 0;
-    for (size_t at = 0; at + HEAD <= size; count++) {
+    for (size_t at = 0; at + sizeof(Head) <= size; count++) {
         Head head;
-        memcpy(&head, cases + at, HEAD);
-        answer(cases + at + HEAD, &head);
+        memcpy(&head, cases + at, sizeof head);
+        at += sizeof head;
+        at += take_file(cases + at, &head);
+        answer(&head);
         CHECK(said_size <= kept_size - kept && memcmp(said, answers + kept, said_size) == 0, "record %zu: %.*s", count,
               said_size < 60 ? (int)said_size : 60, said);
         kept += said_size <= kept_size - kept ? said_size : 0;
-        at += HEAD + head.file;
     }
-    CHECK(count > 100, "only %zu records", count);
+    CHECK(count > 200, "only %zu records", count);
     CHECK(kept == kept_size, "kept are %zu bytes, and %zu were compared", kept_size, kept);
     return finish();
 }

@@ -76,8 +76,8 @@ fn numbers(w: &[&str]) -> Option<Vec<f64>> { w.iter().map(|w| number(w)).collect
 fn block_size(n: usize) -> usize {
     if n < 200 { 200 } else { (51..=200).rev().find(|size| n % size >= 50).unwrap_or(50) }
 }
-/// The most marks for which the crate is asked how it cuts them.
-const MOST_SHOWN: usize = 100_000;
+/// The most marks of an outline by blocks and of a list; for up to so many the crate is asked how it cuts them.
+const MOST_MARKS: usize = 100_000;
 /// The same as the crate's own cutting shows it: `fit_curve` fits each block by itself, so that of a straight line, with a tolerance that takes every curve, the first curve
 /// ends on the first block's last mark. Fewer than 200 marks are one block, and nothing shows.
 fn first_block(n: usize) -> usize {
@@ -194,7 +194,7 @@ fn check(ring: bool, tolerance: f64, given: &[Coord2], firsts: &[usize], worsts:
     let (n, count) = (marks.len(), curves.len());
     let wild = |v: f64| !(v.abs() <= 1_000_000.0);
     if given.len() < fewest(ring) { return "1".into(); }
-    if given.len() > 4096 { return "2".into(); }
+    if given.len() > MOST_MARKS { return "2".into(); }
     if marks.iter().any(|m| wild(m.0) || wild(m.1)) || !(tolerance >= 0.0 && tolerance.is_finite()) { return "5".into(); }
     if count < 1 || count > n - 1 { return "FAULT A 0 0".into(); }
     for k in 0..count {
@@ -299,7 +299,7 @@ fn answer(line: &str) -> Option<String> {
         "size" => {
             let n = whole(w[0])?;
             let size = block_size(n);
-            if (200..=MOST_SHOWN).contains(&n) && first_block(n) != size { return Some("UNLIKE".into()); }
+            if (200..=MOST_MARKS).contains(&n) && first_block(n) != size { return Some("UNLIKE".into()); }
             format!("0 {}", size)
         }
         "check" | "check_ring" | "check_worst" | "check_worst_ring" => check_line(kind.ends_with("_ring"), kind.starts_with("check_worst"), w)?,

@@ -4,9 +4,12 @@ import stat
 import sys
 
 from shared.command import Stop
+from shared.house import longest
 from shared.kept import replace
+from shared.table import BENCH_MARKS, MOST_MARKS
 
-LONGEST = 434120  # bytes of a house file, of 4,096 marks and 4,095 curves that keep their worst marks
+TAKEN = longest(BENCH_MARKS)   # bytes of a house file that the programs read
+LONGEST = longest(MOST_MARKS)  # bytes of any house file
 
 
 def shown(path):
@@ -19,7 +22,7 @@ def stop(path, error):
 
 
 def read(path):
-    """The bytes of a file, or of standard input for `-`; of a longer file than any house file one byte more than the longest has, which the programs refuse."""
+    """The bytes of a file, or of standard input for `-`; of a longer file than any house file one byte more than the longest has, which is refused."""
     if path == '-' and sys.stdin is None:
         raise Stop('standard input is closed')
     try:

@@ -45,7 +45,7 @@ def fit_lines(path, words, wide):
     try:
         listed, made = fitted(path, words)
     except outline.Refused as refused:
-        return Done(1, [f'{name.ljust(wide)}  {said.refusal(refused.refusal)}'])
+        return Done(1, [f'{name.ljust(wide)}  {said.refusal(refused.refusal, refused.marks)}'])
     lines = [table_row(name, wide, listed)]
     if words.curves:
         lines += curve_table(listed)
@@ -63,7 +63,7 @@ def fit_listing(path, words):
     try:
         return Done(0, outline.listing(fitted(path, words)[0]))
     except outline.Refused as refused:
-        return Done(1, [f'REFUSED {refused.refusal}'], f'{files.shown(path)}: {said.refusal(refused.refusal)}')
+        return Done(1, [f'REFUSED {refused.refusal}'], f'{files.shown(path)}: {said.refusal(refused.refusal, refused.marks)}')
 
 
 def fit(words):
@@ -113,7 +113,7 @@ def check_line(path, words):
     try:
         kind, *rest = outline.judged(data)
     except outline.Refused as refused:
-        return Done(1, [f'{name}: {said.refusal(refused.refusal)}'])
+        return Done(1, [f'{name}: {said.refusal(refused.refusal, refused.marks)}'])
     if kind == 'NO CURVES':
         return Done(1, [f'{name}: no curves, {said.counted(rest[0], "mark")}: nothing to check; ./wesalondo fit --save makes a file with curves'])
     listed = outline.own(name, data)
@@ -182,7 +182,7 @@ def plot(words):
     try:
         listed = to_draw(words.file, words)
     except outline.Refused as refused:
-        raise Stop(f'{files.shown(words.file)}: {said.refusal(refused.refusal)}', 1)
+        raise Stop(f'{files.shown(words.file)}: {said.refusal(refused.refusal, refused.marks)}', 1)
     data = drawing(listed, words.tiles).encode('utf-8')
     if words.out is None:
         sys.stdout.buffer.write(data)
@@ -204,7 +204,7 @@ def path(words):
         listed, _ = fitted(words.file, words)
         data = outline.path_data(listed)
     except outline.Refused as refused:
-        raise Stop(f'{files.shown(words.file)}: {said.refusal(refused.refusal)}', 1)
+        raise Stop(f'{files.shown(words.file)}: {said.refusal(refused.refusal, refused.marks)}', 1)
     if words.svg:
         from bench.cutter import wrapped
         listed.name = os.path.basename(listed.name)

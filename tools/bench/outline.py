@@ -2,7 +2,7 @@
 import math
 import re
 
-from bench import programs
+from bench import files, programs
 from shared import house
 from shared.checker import closed, first_marks_fault
 from shared.command import Stop
@@ -16,11 +16,11 @@ VERDICT = '(PASSED) ([0-9]+) ([0-9]+)|(FAULT) ([A-E]) ([0-9]+) ([0-9]+)|(NO CURV
 
 
 class Refused(Exception):
-    """An outline that a program refused, by its number."""
+    """An outline that a program refused, by its number; of too many marks also how many there are."""
 
-    def __init__(self, refusal):
+    def __init__(self, refusal, marks=None):
         super().__init__(refusal)
-        self.refusal = int(refusal)
+        self.refusal, self.marks = int(refusal), marks
 
 
 class Verdict:
@@ -95,15 +95,28 @@ def value(answer, form, what):
     return found[1]
 
 
+def hand(program, data):
+    """What a program writes to a house file. Of one that is longer than it reads it gets a byte more than that, and refuses it."""
+    return programs.run(program, data[:files.TAKEN + 1])
+
+
+def refused(number, program, data):
+    """A program's refusal of a file. To one that is longer than it reads it says 9, whether the file is whole or not; a whole one has too many marks."""
+    if number == '2':
+        return Refused(2, taken_apart(data, program).count)
+    held = house.parse(data) if number == '9' and files.TAKEN < len(data) <= files.LONGEST else None
+    return Refused(number) if held is None else Refused(2, held.count)
+
+
 def judged(data):
     """The words of judge's line: PASSED marks curves, FAULT letter curve mark, or NO CURVES marks."""
-    said = programs.run('judge', data).decode('latin-1')
+    said = hand('judge', data).decode('latin-1')
     found = re.fullmatch(f'(?:{VERDICT})\n', said)
     if not found:
         raise Stop(f'judge gives no verdict: it says {said[:60]!r}')
     kind, *rest = [text for text in found.groups() if text is not None]
     if kind == 'REFUSED':
-        raise Refused(rest[0])
+        raise refused(rest[0], 'judge', data)
     return [kind, *(text if text.isalpha() else int(text) for text in rest)]
 
 
@@ -182,10 +195,10 @@ def hold(listed, program):
 
 def saved(data):
     """The house file of a file's joined fit."""
-    made = programs.run('save', data)
-    refused = re.fullmatch(b'REFUSED ([1-9])\n', made)
-    if refused:
-        raise Refused(refused[1])
+    made = hand('save', data)
+    found = re.fullmatch(b'REFUSED ([1-9])\n', made)
+    if found:
+        raise refused(found[1].decode('ascii'), 'save', data)
     return made
 
 
@@ -201,8 +214,8 @@ def ring(name, data):
     """The ring fit of a file's marks. Whether the file can be read, and has too many, is judge's answer; the rest is the fit's own."""
     try:
         judged(data)
-    except Refused as refused:
-        if refused.refusal in (2, 9):
+    except Refused as refusal:
+        if refusal.refusal in (2, 9):
             raise
     held = taken_apart(data, 'judge')
     (answer,) = ask([f'ring {words([held.tolerance] + held.marks)}'])

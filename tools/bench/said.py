@@ -58,10 +58,12 @@ def row(name):
     return known[name]
 
 
-def refusal(number):
-    """A refusal in one line."""
-    short, meaning, _ = row(str(number))
-    return f'refused {number}, {short}: {meaning}'
+def refusal(number, marks=None):
+    """A refusal in one line. Where there are too many marks nothing is wrong with the file: then how many there are, and what to do, are said too."""
+    short, meaning, remedy = row(str(number))
+    if marks is None:
+        return f'refused {number}, {short}: {meaning}'
+    return f'refused {number}, {short} ({marks:,} marks): {meaning} What to do: {remedy}'
 
 
 def given():

@@ -6,7 +6,9 @@ from shared.words import value_of
 LARGEST = 1e6           # a coordinate in magnitude
 LARGEST_TANGENT = 2.0   # a tangent's component
 MOST_ROUNDS = 64
-MOST_MARKS = 4096
+MOST_MARKS = 100000     # of the fits by blocks, of the list checker and of a house file
+BENCH_MARKS = 4096      # that the programs judge and save have room for
+LINE_MARKS = 21000      # that a line of replay holds
 MOST_DIRECT = 512       # marks of the direct fit and of the listing
 FITS = ('source', 'loop', 'direct', 'joined', 'ring')
 

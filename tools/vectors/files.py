@@ -1,11 +1,13 @@
 """house_cases, listing, save, judge, path_out and path_in: house files that are listed, read and written again, damaged, fitted, judged, and written as path data.
 
-A record is eight words (what to do, how many bytes the file has, the room in each lent slice) and the file. Files are taken apart record by record
+A record is thirteen words (what to do, the file's three runs, the room in each lent slice) and the file's bytes; a run is so many bytes that are given and so many zeros behind them, so that large
+files are kept by their heads. Files are taken apart record by record
 (shared/house.py), and refusals are by the document's order; the curves of a listing are those of the Rust's joined fit. Two outlines
 are read from the kept input. `listing` is the document's worked example, in its own words. `save` is given an example, and has to write the file of the Rust's
 curves; `judge` is given that file. `path_out` is given the same example, and `path_in` the path data of the Rust's ring fit of another."""
 import math
 import os
+import re
 import struct
 
 from shared import house, kept
@@ -17,20 +19,41 @@ from shared.words import INFINITY, MINUS, NAN, bits, number, numbers, patterns_o
 from vectors import outlines
 
 NAME = 'house_cases'
-LIST, READ, PREFIXES, CHANGES, WRITE_WORST = range(5)
-HEAD = 8
+LIST, READ, PREFIXES, CHANGES, WRITE_WORST, WRITE_FIRST = range(6)
+HEAD = 13
+RUNS = 3
+LARGE = 8192                            # bytes of a file of which not all zeros are given
+GAP = re.compile(rb'(?<=\0)\0{63,}')  # such zeros; the first one is, as it may be a head's last byte
 KEPT = 2  # outlines, of 201 and 512 marks
 HALF = bits(0.5)
-ROOM = [8192, 1024, 1024, 8192, 4096, 70000]  # marks, first marks, worst marks, curves, parameters and bytes: enough for every file here
+ROOM = [10240, 1024, 1024, 10240, 5120, 100000]  # marks, first marks, worst marks, curves, parameters and bytes: enough for every file here of up to 4,097 marks
 NO_ROOM = [0] * 6
+BEYOND = 65536  # a mark's number that two bytes do not hold
 
 
 def read():
     """(what to do, bytes, rooms) of each record of the kept input."""
     source = kept.Words(NAME)
     while source:
-        todo, length, *room = source.take(HEAD)
-        yield todo, source.bytes(length), room
+        todo, *rest = source.take(HEAD)
+        counts, room = rest[:2 * RUNS], rest[2 * RUNS:]
+        yield todo, b''.join(source.bytes(given) + bytes(zeros) for given, zeros in zip(counts[::2], counts[1::2])), room
+
+
+def runs(data):
+    """A file as three pairs of the bytes that are given and of how many zeros are behind them. Of a large one the longest gaps are not given."""
+    found = sorted((gap.span() for gap in GAP.finditer(data)), key=lambda gap: gap[0] - gap[1]) if len(data) > LARGE else []
+    gaps = sorted(found[:RUNS])
+    if len(gaps) == RUNS and gaps[-1][1] != len(data):
+        gaps = sorted(found[:RUNS - 1])  # the last run has what is behind them
+    gaps += [(len(data), len(data))] * (RUNS - len(gaps))
+    return [(data[start:here], end - here) for start, (here, end) in zip([0] + [end for _, end in gaps], gaps)]
+
+
+def record(todo, data, room):
+    parts = runs(data)
+    head = [todo] + [count for given, zeros in parts for count in (len(given), zeros)] + room
+    return kept.packed(head) + b''.join(given for given, _ in parts)
 
 
 # ---- the reader, and the writer on what was read
@@ -50,12 +73,21 @@ def read_answer(data, room):
 
 
 def again(data, held, room, todo):
-    """The writer's answer to what was read; the first worst mark may have been made too big for its field. The bytes have to be the file's own."""
+    """The writer's answer to what was read, and what follows it; the first worst mark, or the first first mark, may have been made too big for two bytes. The bytes have to be the file's own,
+    unless one was."""
     if held.bytes() != data:
         raise Stop('a file that is read and written again is another file', 1)
     if len(data) > room[5]:
-        return [4]
-    return [9] if todo == WRITE_WORST and held.worsts else [0, len(data)]
+        return '4\n'
+    if todo == WRITE_WORST and held.worsts:
+        held.worsts[0] = BEYOND
+    elif todo == WRITE_FIRST and held.curves:
+        held.curves[0] = BEYOND, held.curves[0][1]
+    else:
+        return f'0 {len(data)}\n'
+    if held.count <= house.FEW_MARKS:
+        return '9\n'
+    return f'0 {len(data)}\n' + 'DIFFERS\n' * (held.bytes() != data)
 
 
 # ---- the listing
@@ -109,12 +141,40 @@ class Makers:
         return self.half_circle(count) if count <= 513 else [bits(i % 4) for i in range(2 * count)]
 
     def plain(self, count):
-        return house.build(HALF, self.marks(count))
+        """Above 513 marks, where they are not fitted, zeros."""
+        return house.build(HALF, self.marks(count) if count <= 513 else [0] * 2 * count)
 
-    def full(self, count, curves, kind=3):
-        rows = [(i, patterns_of(*(i + j / 8 for j in range(8 if kind == 3 else 9)))) for i in range(curves)]
-        worsts = None if kind == 3 else [count - 1 - i for i in range(curves)]
-        return house.build(HALF, self.marks(count), rows, patterns_of(*(i / count for i in range(count))), worsts)
+    def full(self, count, curves, kept=False):
+        rows = [(i, patterns_of(*(i + j / 8 for j in range(9 if kept else 8)))) for i in range(curves)]
+        params = patterns_of(*(i / count if count <= 513 else i % 8 / 8 for i in range(count)))
+        return house.build(HALF, self.marks(count), rows, params, [count - 1 - i for i in range(curves)] if kept else None)
+
+
+# Mark numbers of the curves of large files, first and worst in turn: the four bytes of one are all others, and two are just beyond two bytes.
+NUMBERS = [0x12345678, BEYOND, (1 << 32) - 1, 0x0001FFFF, BEYOND, 0]
+
+
+def beside(kind, k):
+    """The mark numbers of curve k, as its record has them."""
+    form = house.KINDS[kind][0]
+    numbers_ = NUMBERS[2 * k:2 * k + 2] if '2' in form else NUMBERS[2 * k:2 * k + 1]
+    return numbers_ if 'I' in form else [value % BEYOND for value in numbers_]
+
+
+def around(count, curves):
+    """A file of so many marks, all zero, with these records of curves, whether they suit or not."""
+    parts = [house.record(1, house.row([HALF])), house.record(2, bytes(16 * count)), *curves]
+    return b''.join(parts + [house.record(4, bytes(8 * count))] * bool(curves))
+
+
+def large(count, *kinds):
+    """The same with a curve of each of these kinds."""
+    return around(count, [house.curve(kind, beside(kind, k), patterns_of(*(k + j / 8 for j in range(house.KINDS[kind][1])))) for k, kind in enumerate(kinds)])
+
+
+def bare(count, kind):
+    """The same with one curve whose numbers are all zero: heads and mark numbers are all that is given."""
+    return around(count, [house.curve(kind, beside(kind, 0), [0] * house.KINDS[kind][1])])
 
 
 TWO = house.build(HALF, outlines.LINE_OF_TWO)
@@ -132,7 +192,7 @@ def listings(makers, collected):
     for count, curves in ((3, 1), (3, 2), (9, 8), (512, 100), (513, 1), (513, 512), (683, 682), (2726, 1)):
         yield makers.full(count, curves)
     for count, curves in ((3, 2), (512, 100), (618, 617), (619, 618)):  # the last is 22 bytes too long
-        yield makers.full(count, curves, 6)
+        yield makers.full(count, curves, True)
     yield house.build(HALF, outlines.LINE_OF_TWO, [(65535, [NAN] * 8)], [INFINITY, NAN])
 
 
@@ -187,29 +247,62 @@ def read_cases(makers):
     """Files that are whole; 9, then 2, then 4; each slice one too short."""
     for count, curves in ((0, 0), (1, 0), (2, 0), (2, 1), (9, 8), (512, 511), (513, 512), (4096, 0), (4096, 2), (683, 682)):
         yield READ, makers.full(count, curves), ROOM
-    for count, curves in ((2, 1), (9, 8), (512, 511)):
-        yield READ, makers.full(count, curves, 6), ROOM
+    for count, curves in ((2, 1), (9, 8), (512, 511), (4097, 3)):
+        yield READ, makers.full(count, curves, True), ROOM
     odd = [NAN + j for j in range(9)]
     for rows, worsts in (([(65535, odd[:8])], None), ([(65535, odd)], [65535])):
         yield READ, house.build(NAN + 1, [MINUS + NAN + 7, 1, INFINITY, MINUS], rows, [MINUS, INFINITY + 1], worsts), ROOM
-    yield READ, makers.plain(4097), ROOM
-    yield READ, makers.plain(4097), NO_ROOM
-    for kind, numbers_of, worsts in ((3, 8, 0), (6, 9, 3)):
-        full = makers.full(9, 3, kind)
+    for kept_, wide, worsts in ((False, 8, 0), (True, 9, 3)):
+        full = makers.full(9, 3, kept_)
         yield READ, full + b'\0', NO_ROOM
-        exact = [18, 3, worsts, 3 * numbers_of, 9, len(full)]
-        yield READ, full, exact
-        for place in range(6):
-            if exact[place]:
-                yield READ, full, [have - (place == i) for i, have in enumerate(exact)]
-        yield WRITE_WORST, full, exact
-        yield WRITE_WORST, full, ROOM
-        yield WRITE_WORST, full, [*exact[:5], len(full) - 1]  # 4 before 9
+        exact = [18, 3, worsts, 3 * wide, 9, len(full)]
+        yield from in_rooms(full, exact)
+        for todo in (WRITE_WORST, WRITE_FIRST):
+            yield todo, full, exact
+            yield todo, full, ROOM
+            yield todo, full, [*exact[:5], len(full) - 1]  # 4 before 9
     yield READ, makers.full(9, 0), [18, 0, 0, 0, 0, 164]
     yield READ, makers.full(9, 0), [17, 0, 0, 0, 0, 164]
-    yield WRITE_WORST, makers.full(9, 0), ROOM
+    for todo in (WRITE_WORST, WRITE_FIRST):
+        yield todo, makers.full(9, 0), ROOM
     for data in out_of_turn():
         yield READ, data, ROOM
+
+
+def in_rooms(data, exact):
+    """A file in as much room as it wants, and with each slice one too short."""
+    yield READ, data, exact
+    for place in range(6):
+        if exact[place]:
+            yield READ, data, [have - (place == i) for i, have in enumerate(exact)]
+
+
+def large_cases():
+    """Both sides of the marks from which on mark numbers have four bytes, and of the most marks."""
+    for count, other in ((4096, 4097), (4097, 4096)):
+        suits = [house.kind_of(count, kept_) for kept_ in (False, True)]
+        for kind in house.KINDS:
+            yield READ, large(count, kind, kind), ROOM
+        for first, second in ((3, 5), (5, 3), (6, 7), (7, 6), suits, suits[::-1]):
+            yield READ, large(count, first, second), ROOM
+        for kind, length in zip(suits, (house.BODIES[house.kind_of(other, kept_)] for kept_ in (False, True))):  # as long as those of the other side
+            yield READ, around(count, [house.record(kind, bytes(length))]), ROOM
+        for todo, kind in ((todo, kind) for todo in (WRITE_WORST, WRITE_FIRST) for kind in suits):
+            yield todo, large(count, kind, kind), ROOM
+    for kind, wide, worsts in ((5, 8, 0), (7, 9, 3)):
+        full = large(4097, kind, kind, kind)
+        yield READ, full + b'\0', NO_ROOM
+        yield READ, full, NO_ROOM
+        yield from in_rooms(full, [8194, 3, worsts, 3 * wide, 4097, len(full)])
+    for count in (4097, 100000, 100001):
+        for room in (ROOM, NO_ROOM):
+            yield READ, large(count), room
+    for count in (100000, 100001):
+        for kind in house.KINDS:
+            yield READ, large(count, kind), ROOM
+    for kind in (5, 7):
+        yield PREFIXES, bare(4097, kind), ROOM
+        yield CHANGES, bare(4097, kind), ROOM
 
 
 def collected_in(before, makers):
@@ -223,7 +316,8 @@ def cases(before):
     makers = Makers(before)
     yield from list_cases(makers, collected_in(before, makers))
     yield from read_cases(makers)
-    for data in (TWO, makers.full(2, 1), makers.full(3, 2), makers.full(2, 1, 6), makers.full(3, 2, 6)):
+    yield from large_cases()
+    for data in (TWO, makers.full(2, 1), makers.full(3, 2), makers.full(2, 1, True), makers.full(3, 2, True)):
         yield PREFIXES, data, ROOM
         yield CHANGES, data, ROOM
 
@@ -233,22 +327,23 @@ def prefixes(data):
 
 
 def changes(data):
-    """Every other value of every byte."""
-    for place, here in enumerate(data):
-        for value in range(256):
-            if value != here:
-                yield data[:place] + bytes([value]) + data[place + 1:]
+    """Every other value of every byte that is given."""
+    at = 0
+    for given, zeros in runs(data):
+        for place in range(at, at + len(given)):
+            for value in range(256):
+                if value != data[place]:
+                    yield data[:place] + bytes([value]) + data[place + 1:]
+        at += len(given) + zeros
 
 
 def answer(todo, data, room, rust):
     if todo == LIST:
         text = listing(data, rust)
         return text if len(text) <= room[5] else '4\n'
-    if todo in (READ, WRITE_WORST):
+    if todo in (READ, WRITE_WORST, WRITE_FIRST):
         said, held = read_answer(data, room)
-        if held:
-            said = said + again(data, held, room, todo)
-        return ' '.join(map(str, said)) + '\n'
+        return ' '.join(map(str, said)) + (' ' + again(data, held, room, todo) if held else '\n')
     heads = [read_answer(other, room)[0][0] for other in (prefixes if todo == PREFIXES else changes)(data)]
     return ' '.join(str(heads.count(head)) for head in (0, 2, 4, 9)) + '\n'
 
@@ -257,7 +352,7 @@ def make(rust):
     before = list(read())
     rows = list(cases(before))
     rust.ask([joined_line(data) for todo, data, _ in rows if todo == LIST and not listing_refusal(data)])
-    stdin = b''.join(kept.packed([todo, len(data)] + room) + data for todo, data, room in rows)
+    stdin = b''.join(record(*row) for row in rows)
     stdout = ''.join(answer(*row, rust) for row in rows)
     return kept.Made(NAME, stdin, stdout, len(rows), len(before))
 

@@ -10,13 +10,11 @@ from shared import kept
 from shared.blocks import blocks_of, size_of
 from shared.checker import PASSED
 from shared.command import Stop
-from shared.table import FITS
+from shared.table import FITS, LINE_MARKS
 from shared.words import INFINITY, MINUS, NAN, bits, numbers, pattern_of, patterns_of, word, word_of, words
 from vectors import lists, near, outlines, paths, roots, single
 
 NAME = 'replay'
-ROOM = 1 << 20     # bytes of a line that the program has room for
-MOST_MARKS = 4200  # marks of a line
 KEPT_CURVES = 230  # calls on single curves, 30 of them refused by 6
 KEPT_OUTLINES = 186
 KEPT_LISTS = 24    # sound lists, seven of them with changed copies
@@ -61,16 +59,14 @@ def outline_borders():
 
 
 def long_lines():
-    """More marks than the fits take, as many as a ring takes, and more than a line holds. The marks are all one, so that the input packs well."""
-    mark = values(1, 2)
-    tolerance = values(0.5)
+    """More marks than a house file has with mark numbers of two bytes, as many as a line holds, and more than the direct fit takes. Marks that are all one pack well; lines that hold too many
+    are tried by tests/tools_test.py."""
+    mark, tolerance = values(1, 2), values(0.5)
+    teeth = values(*(value for i in range(4097) for value in (i, i * i % 11)))
     return [
-        (' '.join(['joined', tolerance] + [mark] * MOST_MARKS), '2'),
-        (' '.join(['direct', values(0.5, 1, 0, 0, 1)] + [mark] * 513), '2'),
-        (' '.join(['ring', tolerance] + [mark] * MOST_MARKS), '2'),
-        (' '.join(['ring', tolerance] + [mark] * 4096), '6'),
-        (' '.join(['source', tolerance] + [mark] * MOST_MARKS + [values(1)]), 'BAD'),
-        (' '.join(['joined', tolerance] + [mark] * (MOST_MARKS + 1)), 'BAD')]
+        (f'joined {values(16)} {teeth}', None),
+        (' '.join(['ring', tolerance] + [mark] * LINE_MARKS), None),
+        (' '.join(['direct', values(0.5, 1, 0, 0, 1)] + [mark] * 513), '2')]
 
 
 # ---- what the bench's command asks for
@@ -84,7 +80,7 @@ def distance_lines():
                 yield f'distance {words(eight)} {values(x, y, t)}'
 
 
-COUNTS = [*range(6), *range(195, 260), 399, 400, 401, 512, 1000, 4095, 4096, 4097, 30049, 100000, (1 << 63) - 1]  # of marks
+COUNTS = [*range(6), *range(195, 260), 399, 400, 401, 512, 1000, 4095, 4096, 4097, 20000, 20001, 30049, 100000, 100001, (1 << 63) - 1]  # of marks
 
 
 def block_lines():
@@ -93,7 +89,7 @@ def block_lines():
 
 
 def size_lines():
-    """The size of a block, and beyond what a fit takes; 30,049 is the first number for which a division by 200 would not give it."""
+    """The size of a block, and beyond what a fit takes; up to 20,000 it is worked out by a division, and 30,049 is the first number for which that would not give it."""
     for count in [*COUNTS, 4098, 4250, 30048, (1 << 64) - 1]:
         yield f'size {count}', f'0 {size_of(count)}'
 
@@ -238,7 +234,7 @@ def miscounted():
         yield from [with_worst(kind, text) for kind in CHECKS[2:]]
     for kind in CHECKS:
         right, marks, *_ = COUNTED[kind]
-        for text in ('0', '1', '2', '3', '4', '4201', '18446744073709551615'):
+        for text in ('0', '1', '2', '3', '4', str(LINE_MARKS), str(LINE_MARKS + 1), '18446744073709551615'):
             if text != right:
                 yield counted(kind, count=text)
             if text != '1':
@@ -388,7 +384,7 @@ def hold_roundings(rust):
 def make(rust):
     before = kept.read_stdin(NAME).decode('latin-1').split('\n')
     wrong = list(bad())
-    end = long_lines() + LAST
+    end = answered(long_lines(), rust) + LAST
     rows = cases(kept.without(before, wrong + [line for line, _ in end]))
     hold(wrong, rust)
     hold_alike(rows, CHECKS, 'checkers', rust)

@@ -299,8 +299,10 @@ def borders():
         yield sound.but(tolerance=math.nan, params=sound.params[:-1])  # room before range
         yield sound.but(tolerance=math.nan, claimed=0)  # range before A
         if sound.nine == sound.ring:
-            yield Claim(0.001, [0.0] * 8192, 1, [0.0] * sound.wide(), [0], [0.0] + [0.5] * (4094 + sound.ring) + [1.0], sound.ring, nine=sound.nine, worsts=[0] * sound.nine)
-            yield Claim(0.001, [0.0] * 8194, 1, [], [], [], sound.ring, nine=sound.nine)
+            many = Claim(0.001, [0.0] * 8194, 1, [0.0] * sound.wide(), [0], [0.0] + [0.5] * (4095 + sound.ring) + [1.0], sound.ring, nine=sound.nine, worsts=[0] * sound.nine)
+            yield many
+            yield many.but(curves=[], firsts=[], params=[], worsts=[])
+            yield many.but(params=many.params[:-1])
         if sound.nine:
             yield from border_records(sound)
     yield from border_rings()

@@ -154,7 +154,7 @@ def orders(kind, arc):
 
 
 def saw(count):
-    """Teeth, in whole numbers: at tolerance 0 every curve has two marks, so that a ring of the most marks fills its room."""
+    """Teeth, in whole numbers: at tolerance 0 every curve has two marks, so that a ring of 4,096 marks fills the program's room."""
     return patterns_of(*(value for i in range(count) for value in (37 * i % 1024, i * i % 11)))
 
 
@@ -180,6 +180,14 @@ def rings(arc):
     yield Outline('ring', NAN, [NAN] + saw(4097)[1:], NO_ROOM)
 
 
+def long_outlines(arc):
+    """More than 4,096 marks, which were once too many; of teeth every curve has two marks, and they fill the room that the program has."""
+    yield Outline('source', THOUSANDTH, arc(4097))
+    yield Outline('loop', bits(9.0), saw(4097))
+    yield Outline('joined', 0, saw(4097))
+    yield Outline('joined', THOUSANDTH, saw(4097), room_for('joined', 4097, 0, 0, 0, -1))
+
+
 def meetings():
     """Marks with a direction between them and without one, where two blocks meet: at mark 150 of 200 on a parabola through it, and at mark 0 of a ring that one curve is to follow."""
     bowl = patterns_of(*(value for i in range(-150, 50) for value in (i, i * i / 64)))
@@ -199,7 +207,7 @@ def borders(arc):
         tangents = patterns_of(1, 0, -1, 0)
         tangents[place] = pattern
         yield Outline('direct', THOUSANDTH, arc(5), None, tangents)
-    yield Outline('source', THOUSANDTH, arc(4097))
+    yield from long_outlines(arc)
     yield Outline('direct', THOUSANDTH, arc(513))
     yield Outline('direct', NAN, arc(513), NO_ROOM)
     for kind in ('source', 'loop', 'joined', 'ring'):

@@ -12,6 +12,7 @@ use borrow.Author.Tests.{leb-false, ltb-false, eqb-true, eqb-false}
 use Rattle.float.specs.Answer.{Answer, ok, unless, outcome}
 use Rattle.float.specs.Answer.{refused as no}
 use Rattle.plane.specs.declared.Point.{Point}
+use Rattle.limits.specs.Limits.{mostMarks}
 use Rattle.marks.specs.Marks.{count}
 use Rattle.marks.specs.Block.{blockSize}
 use Rattle.cut.specs.Run.{Run, refused, done, join, turned, runOf}
@@ -132,17 +133,17 @@ module _ (q g : ℕ) (R : Run) (C C′ : List Float) (F F′ W W′ : List ℕ) 
 pub fit-refuses : FitRefuses
 unfolding fittedAnswer fitOf blocksOf
 fit-refuses k ms tol q C C′ F F′ W W′ P P′ h =
-    refuses q g (blocksOf k ws (blockSize (count ws)) tol) C C′ F F′ W W′ P P′ (gate-most 4096 (outlineOf k) Nine (again (outlineOf k) + count ms - 1) ms tol (length C) (length F) (length W) (length P)) stops h
+    refuses q g (blocksOf k ws (blockSize (count ws)) tol) C C′ F F′ W W′ P P′ (gate-most mostMarks (outlineOf k) Nine (again (outlineOf k) + count ms - 1) ms tol (length C) (length F) (length W) (length P)) stops h
   where
     ws : List Float
     ws = marksOf k ms
 
     g : ℕ
-    g = gateOf 4096 (outlineOf k) ms tol (length C) (length F) (length W) (length P)
+    g = gateOf mostMarks (outlineOf k) ms tol (length C) (length F) (length W) (length P)
 
     stops : g ≡ 0 → Stopped (blocksOf k ws (blockSize (count ws)) tol)
     stops z =
-        let p = passed 4096 (outlineOf k) ms tol (length C) (length F) (length W) (length P) z in
+        let p = passed mostMarks (outlineOf k) ms tol (length C) (length F) (length W) (length P) z in
         let e = whole-even (outlineOf k) ms (passed-even p) in
         let even : length ws ≡ 2 * count ws = omega (arith, e) in
         blocks-stop k ws (count ws) (blockSize (count ws)) tol even (passed-usable p) (size-within (count ws) (blockSize (count ws)) refl .0) (e .1)

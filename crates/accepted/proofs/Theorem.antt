@@ -15,6 +15,7 @@ use Rattle.float.specs.Slices.{written}
 use Rattle.float.proofs.Truth.{both}
 use Rattle.plane.specs.declared.Point.{Point}
 use Rattle.plane.proofs.Fine.{good-point}
+use Rattle.limits.specs.Limits.{mostMarks}
 use Rattle.marks.specs.Marks.{count, markAt}
 use Rattle.ring.specs.Ring.{again, whole}
 use Rattle.ring.specs.declared.Outline.{Outline}
@@ -172,13 +173,13 @@ accepted-done ms tol k C C′ F F′ W W′ P P′ g R h = go (eqb g 0) refl h
 
 -- a list laid by an accepted call is sound, and the checker does not refuse it
 pub record Passing (o : Outline) (ms : List Float) (tol : Float) (k : ℕ) (C : List Float) (F W : List ℕ) (P : List Float) : Type 0 where
-  pub taken : gateFor 4096 o Nine k ms tol (length C) (length F) (length W) (length P) ≡ 0
+  pub taken : gateFor mostMarks o Nine k ms tol (length C) (length F) (length W) (length P) ≡ 0
   pub sound : Sound Nine (whole o ms) tol k C F W P
 
 module _ (o : Outline) (ms : List Float) (tol : Float) (k : ℕ) where
-  laid-passing : (top : ℕ) (cs C : List Float) (bs : List Beside) (F W : List ℕ) (ps P : List Float) → top ≤ 4096 → Passed top o ms tol (length C) (length F) (length W) (length P) → k ≡ length bs
+  laid-passing : (top : ℕ) (cs C : List Float) (bs : List Beside) (F W : List ℕ) (ps P : List Float) → top ≤ mostMarks → Passed top o ms tol (length C) (length F) (length W) (length P) → k ≡ length bs
       → Laid (whole o ms) tol 0 (count (whole o ms) - 1) cs bs ps → Passing o ms tol k (written cs C) (written (firstsOf bs) F) (written (worstsOf bs) W) (written ps P)
-  laid-passing top cs C bs F W ps P t g e l = rw e (record { taken = passes 4096 o Nine (length bs) ms tol _ _ _ _ room; sound = laid-sound (whole o ms) tol cs bs ps _ _ _ _ (omega (arith, n, two)) l })
+  laid-passing top cs C bs F W ps P t g e l = rw e (record { taken = passes mostMarks o Nine (length bs) ms tol _ _ _ _ room; sound = laid-sound (whole o ms) tol cs bs ps _ _ _ _ (omega (arith, n, two)) l })
     where
       two : again o + 2 ≤ count ms
       two = g .two
@@ -186,7 +187,7 @@ module _ (o : Outline) (ms : List Float) (tol : Float) (k : ℕ) where
       n : count (whole o ms) ≡ again o + count ms
       n = whole-count o ms (passed-even g)
 
-      room : PassedFor 4096 o Nine (length bs) ms tol (length (written cs C)) (length (written (firstsOf bs) F)) (length (written (worstsOf bs) W)) (length (written ps P))
+      room : PassedFor mostMarks o Nine (length bs) ms tol (length (written cs C)) (length (written (firstsOf bs) F)) (length (written (worstsOf bs) W)) (length (written ps P))
       room =
           let a = laid-curves l in
           let b = laid-many l in
@@ -209,7 +210,7 @@ module _ (ms : List Float) (tol : Float) (k : ℕ) (C C′ : List Float) (F F′
     pub cs : List Float
     pub bs : List Beside
     pub ps : List Float
-    pub gate : Passed 4096 (outlineOf cutting) ms tol (length C) (length F) (length W) (length P)
+    pub gate : Passed mostMarks (outlineOf cutting) ms tol (length C) (length F) (length W) (length P)
     pub is-done : blocksOf cutting (marksOf cutting ms) (blockSize (count (marksOf cutting ms))) tol ≡ done cs bs ps
     pub laid : Laid (marksOf cutting ms) tol 0 (count (marksOf cutting ms) - 1) cs bs ps
     pub many : k ≡ length bs
@@ -223,8 +224,8 @@ module _ (ms : List Float) (tol : Float) (k : ℕ) (C C′ : List Float) (F F′
   blocks-given cutting meet h =
       let o = outlineOf cutting in
       let ws = marksOf cutting ms in
-      let d = accepted-done ms tol k C C′ F F′ W W′ P P′ (gateOf 4096 o ms tol (length C) (length F) (length W) (length P)) (blocksOf cutting ws (blockSize (count ws)) tol) h in
-      let g = passed 4096 o ms tol (length C) (length F) (length W) (length P) (d .let-pass) in
+      let d = accepted-done ms tol k C C′ F F′ W W′ P P′ (gateOf mostMarks o ms tol (length C) (length F) (length W) (length P)) (blocksOf cutting ws (blockSize (count ws)) tol) h in
+      let g = passed mostMarks o ms tol (length C) (length F) (length W) (length P) (d .let-pass) in
       let two = g .two in
       let e = passed-even g in
       let n = whole-count o ms e in
@@ -249,7 +250,7 @@ module _ (ms : List Float) (tol : Float) (k : ℕ) (C C′ : List Float) (F F′
   blocks-passing cutting meet h =
       let o = outlineOf cutting in
       let d = blocks-given cutting meet h in
-      same-lists o ms tol k _ C′ _ F′ _ W′ _ P′ (d .curves) (d .firsts) (d .worsts) (d .params) (laid-passing o ms tol k 4096 (d .cs) C (d .bs) F W (d .ps) P (omega arith) (d .gate) (d .many) (d .laid))
+      same-lists o ms tol k _ C′ _ F′ _ W′ _ P′ (d .curves) (d .firsts) (d .worsts) (d .params) (laid-passing o ms tol k mostMarks (d .cs) C (d .bs) F W (d .ps) P (omega arith) (d .gate) (d .many) (d .laid))
 
   pub direct-passing : (s e : Point) → ending (ok k) C′ F′ W′ P′ ≡ cubicOf ms s e tol C F W P → Passing Open ms tol k C′ F′ W′ P′
   unfolding cubicOf
@@ -288,5 +289,5 @@ pub fit-closes : FitCloses
 unfolding fittedAnswer over
 fit-closes ms tol k C C′ F F′ W W′ P P′ fits =
     let h = blocks-passing ms tol k C C′ F F′ W W′ P P′ Ring refl fits in
-    let g = passed-for 4096 Closed Nine k ms tol (length C′) (length F′) (length W′) (length P′) (h .taken) in
+    let g = passed-for mostMarks Closed Nine k ms tol (length C′) (length F′) (length W′) (length P′) (h .taken) in
     sound-closes Nine ms tol k C′ F′ W′ P′ (passed-even g) (h .sound)

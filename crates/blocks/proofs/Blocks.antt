@@ -13,6 +13,7 @@ use Rattle.float.specs.Answer.{Answer, ok, outcome}
 use Rattle.float.specs.Answer.{refused as no}
 use Rattle.float.specs.Slices.{written}
 use Rattle.plane.specs.declared.Point.{Point}
+use Rattle.limits.specs.Limits.{mostNumbered}
 use Rattle.marks.specs.Marks.{count}
 use Rattle.form.specs.Form.{recordNumbers}
 use Rattle.cut.specs.Run.{Run, refused, done, Beside, join, turned, runOf}
@@ -87,7 +88,7 @@ module _ (k : Cutting) (ms : List Float) (n size : ℕ) (tol : Float) where
 
 -- ---- fit_block's returns
 
-pub block-ready : (ms : List Float) (n from to : ℕ) (tol : Float) (C : List Float) (F W : List ℕ) (P : List Float) → (length ms ≡ 2 * n) × Usable ms tol → (from + 2 ≤ to) × (to ≤ n) × (n ≤ 65536)
+pub block-ready : (ms : List Float) (n from to : ℕ) (tol : Float) (C : List Float) (F W : List ℕ) (P : List Float) → (length ms ≡ 2 * n) × Usable ms tol → (from + 2 ≤ to) × (to ≤ n) × (n ≤ mostNumbered)
     → (to ≡ from + length P) × (length P ≤ 201) × (recordNumbers * length P ≤ length C + recordNumbers) × (length P ≤ length F + 1) × (length P ≤ length W + 1) → Ready (blockAt ms from to) from tol C F W P
 block-ready ms n from to tol C F W P e h l =
     let m : length (blockAt ms from to) ≡ 2 * to - 2 * from = simp (length-take, length-drop) (omega arith) in

@@ -10,6 +10,7 @@ use lib.Ieee.{Float}
 use borrow.Author.Tests.{lt-ltb, le-ltb}
 use Rattle.float.specs.Number.{f0}
 use Rattle.float.specs.Slices.{written}
+use Rattle.limits.specs.Limits.{mostNumbered}
 use Rattle.marks.specs.Marks.{count}
 use Rattle.form.specs.Form.{recordNumbers}
 use Rattle.cut.specs.Run.{Run, done, Beside, firstsOf, worstsOf, join}
@@ -240,7 +241,7 @@ module _ (H : Head) where
     abbrev to : ℕ
     to = from + (K .w)
 
-    pub block-asks : ((length (K .ms) ≡ 2 * n) × Usable (K .ms) (K .tol)) × (((from + 2 ≤ to) × (to ≤ n) × (n ≤ 65536))
+    pub block-asks : ((length (K .ms) ≡ 2 * n) × Usable (K .ms) (K .tol)) × (((from + 2 ≤ to) × (to ≤ n) × (n ≤ mostNumbered))
         × ((to ≡ from + length (take (to - from) (drop from P₁))) × (length (take (to - from) (drop from P₁)) ≤ 201) × (recordNumbers * length (take (to - from) (drop from P₁)) ≤ length CC + recordNumbers) × (length (take (to - from) (drop from P₁)) ≤ length FF + 1) × (length (take (to - from) (drop from P₁)) ≤ length WW + 1)))
     block-asks =
         let m = numbers in
@@ -319,7 +320,7 @@ module _ (H : Head) where
         rw is (ap Curves (sym (so .long)), so .curves, so .firsts, so .worsts, p)
 
     module _ (some : 2 ≤ n - from) where
-      pub last-asks : ((length (K .ms) ≡ 2 * n) × Usable (K .ms) (K .tol)) × (((from + 2 ≤ n) × (n ≤ n) × (n ≤ 65536))
+      pub last-asks : ((length (K .ms) ≡ 2 * n) × Usable (K .ms) (K .tol)) × (((from + 2 ≤ n) × (n ≤ n) × (n ≤ mostNumbered))
           × ((n ≡ from + length (take (length P₁ - from) (drop from P₁))) × (length (take (length P₁ - from) (drop from P₁)) ≤ 201) × (recordNumbers * length (take (length P₁ - from) (drop from P₁)) ≤ length CC + recordNumbers) × (length (take (length P₁ - from) (drop from P₁)) ≤ length FF + 1) × (length (take (length P₁ - from) (drop from P₁)) ≤ length WW + 1)))
       last-asks =
           let m = numbers in

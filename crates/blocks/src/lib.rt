@@ -3,6 +3,7 @@
 ghost use mathlib.Core.Path.{_≡_};
 ghost use Prim.Native.Nat.{_+_, _*_, _≤_};
 ghost use lib.ListN.{length, drop};
+ghost use Rattle.limits.specs.Limits.{mostNumbered};
 ghost use Rattle.marks.specs.Marks.{count};
 ghost use Rattle.form.specs.Form.{recordNumbers};
 ghost use Rattle.ring.specs.Ring.{whole, Even};
@@ -117,7 +118,7 @@ fn fit_block(
     params: &mut [f64],
 ) -> Fitted
     requires { ⌜ (length (marksOf cutting (now marks)) ≡ 2 * n) × Usable (marksOf cutting (now marks)) tolerance ⌝ }
-    requires { ⌜ (from + 2 ≤ to) × (to ≤ n) × (n ≤ 65536) ⌝ }
+    requires { ⌜ (from + 2 ≤ to) × (to ≤ n) × (n ≤ mostNumbered) ⌝ }
     requires { ⌜ (to ≡ from + length (now params)) × (length (now params) ≤ 201) × (recordNumbers * length (now params) ≤ length (now curves) + recordNumbers) × (length (now params) ≤ length (now firsts) + 1) × (length (now params) ≤ length (now worsts) + 1) ⌝ }
     ensures { λ r. ⌜ Left (blockOf cutting (marksOf cutting (now (marks .entry))) n tolerance from to) r (now (curves .entry)) (now (curves .exit)) (now (firsts .entry)) (now (firsts .exit)) (now (worsts .entry)) (now (worsts .exit)) (now (params .exit)) ⌝ }
 {

@@ -9,6 +9,7 @@ use denote.Enum.Declared.{tagOf}
 use lib.Ieee.{Float}
 use borrow.Author.Tests.{eq-eqb, ne-eqb}
 use Rattle.float.specs.Answer.{Answer, ok, refused}
+use Rattle.limits.specs.Limits.{mostMarks}
 use Rattle.marks.specs.Marks.{count}
 use Rattle.form.specs.declared.Form.{Form}
 use Rattle.ring.specs.Ring.{again, whole, Even}
@@ -47,14 +48,14 @@ module _ (form : Form) (ms : List Float) (tol : Float) (k : ℕ) (cs : List Floa
         sym (rw n at (inv .1))
 
 -- ---- the whole list, after a gate that gave g
-module _ (o : Outline) (form : Form) (ms : List Float) (tol : Float) (k : ℕ) (cs : List Float) (fs ws : List ℕ) (ps : List Float) (g : ℕ) (is : g ≡ gateFor 4096 o form k ms tol (length cs) (length fs) (length ws) (length ps)) where
+module _ (o : Outline) (form : Form) (ms : List Float) (tol : Float) (k : ℕ) (cs : List Float) (fs ws : List ℕ) (ps : List Float) (g : ℕ) (is : g ≡ gateFor mostMarks o form k ms tol (length cs) (length fs) (length ws) (length ps)) where
   pub by-gate : (g ≡ 0 → ⊥) → refused g ≡ checkOf o form ms tol k cs fs ws ps
   unfolding checkOf
   by-gate n = rw (← is, ne-eqb g 0 n)
 
   module _ (z : g ≡ 0) where
-    pub gate-passed : PassedFor 4096 o form k ms tol (length cs) (length fs) (length ws) (length ps)
-    gate-passed = passed-for 4096 o form k ms tol (length cs) (length fs) (length ws) (length ps) (sym is ∙ z)
+    pub gate-passed : PassedFor mostMarks o form k ms tol (length cs) (length fs) (length ws) (length ps)
+    gate-passed = passed-for mostMarks o form k ms tol (length cs) (length fs) (length ws) (length ps) (sym is ∙ z)
 
     through : checkOf o form ms tol k cs fs ws ps ≡ ok (listChecked form (whole o ms) tol k cs fs ws ps)
     unfolding checkOf

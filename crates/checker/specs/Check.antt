@@ -7,6 +7,7 @@ use lib.ListN.{length, getD}
 use lib.Dec.{leb, ltb, eqb}
 use lib.Ieee.{Float, nan}
 use Rattle.float.specs.Answer.{Answer, ok, refused}
+use Rattle.limits.specs.Limits.{mostMarks}
 use Rattle.marks.specs.Marks.{count, markAt}
 use Rattle.form.specs.declared.Form.{Form}
 use Rattle.ring.specs.Ring.{whole}
@@ -79,10 +80,10 @@ module _ (form : Form) (ms : List Float) (tol : Float) (k : ℕ) (cs : List Floa
   unfoldable pub listChecked : Verdict
   listChecked = listed (count ms) k fs then inTurn k curveChecked
 
--- 3, 1, 2 of more than 4,096 marks given, 4, 5; else the verdict over the marks that the outline runs over
+-- 3, 1, 2 of more than `mostMarks` given, 4, 5; else the verdict over the marks that the outline runs over
 unfoldable pub checkOf : Outline → Form → List Float → Float → ℕ → List Float → List ℕ → List ℕ → List Float → Answer Verdict
 checkOf o form ms tol k cs fs ws ps =
     cond
-    (eqb (gateFor 4096 o form k ms tol (length cs) (length fs) (length ws) (length ps)) 0)
+    (eqb (gateFor mostMarks o form k ms tol (length cs) (length fs) (length ws) (length ps)) 0)
     (ok (listChecked form (whole o ms) tol k cs fs ws ps))
-    (refused (gateFor 4096 o form k ms tol (length cs) (length fs) (length ws) (length ps)))
+    (refused (gateFor mostMarks o form k ms tol (length cs) (length fs) (length ws) (length ps)))

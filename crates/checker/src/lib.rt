@@ -12,12 +12,10 @@ ghost use Rattle.faults.specs.Tests.{squareAt, unmeasured};
 ghost use Rattle.checker.specs.Check.{checkedAnswer, place, inTurn, listed, curveChecked, checkOf};
 ghost use Rattle.checker.specs.Inner.{underChecked, walked, keptChecked, Under, Listed};
 use form::Form;
+use limits::MOST_MARKS;
 use plane::Curve;
 use ring::Outline;
 use stages::Worst;
-
-// The most marks that are taken.
-const MOST: usize = 4096;
 
 // Where a fault is: the curve's number and the mark's.
 pub struct Place {
@@ -319,7 +317,7 @@ pub fn check(
         form,
         marks,
         tolerance,
-        MOST,
+        MOST_MARKS,
         count,
         curves.len(),
         firsts.len(),

@@ -5,6 +5,7 @@ use mathlib.Core.List.{List}
 use lib.ListN.{length}
 use lib.Ieee.{Float}
 use Rattle.float.specs.Slices.{written}
+use Rattle.limits.specs.Limits.{mostNumbered}
 use Rattle.form.specs.Form.{recordNumbers}
 use Rattle.gate.specs.Gate.{Usable}
 use Rattle.cut.specs.Run.{Run, refused, done, firstsOf, worstsOf}
@@ -16,12 +17,12 @@ abbrev pub Left : Run → Fitted → List Float → List Float → List ℕ → 
 Left (refused q) r C C′ F F′ W W′ P′ = r ≡ Refused q
 Left (done cs bs ps) r C C′ F F′ W W′ P′ = (r ≡ Curves (length bs)) × (C′ ≡ written cs C) × (F′ ≡ written (firstsOf bs) F) × (W′ ≡ written (worstsOf bs) W) × (P′ ≡ ps)
 
--- a run is ready: marks and a tolerance in range, two marks or more, a parameter for each, and room
+-- a run is ready: marks and a tolerance in range, two marks or more, a number and a parameter for each, and room
 pub record Ready (ms : List Float) (first : ℕ) (tol : Float) (C : List Float) (F W : List ℕ) (P : List Float) : Type 0 where
   pub usable : Usable ms tol
   pub even : length ms ≡ 2 * length P
   pub two : 2 ≤ length P
-  pub near : first + length P ≤ 65536
+  pub near : first + length P ≤ mostNumbered
   pub curves : recordNumbers * length P ≤ length C + recordNumbers
   pub firsts : length P ≤ length F + 1
   pub worsts : length P ≤ length W + 1

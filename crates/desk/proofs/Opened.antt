@@ -4,7 +4,7 @@ use mathlib.Core.Bool.{Bool, true, false, _&&_}
 use mathlib.Core.List.{List, _∷_, []}
 use Prim.Native.Nat.{ℕ, _*_, _<_, _≤_}
 use native.Mathlib.Omega.{arith}
-use borrow.Author.Tests.{leb-true, le-leb, lt-leb}
+use borrow.Author.Tests.{leb-true, leb-false, le-leb, lt-leb}
 use lib.Dec.{leb}
 use types.Run.{OneOf}
 use denote.Enum.Declared.{tagOf}
@@ -14,8 +14,9 @@ use Rattle.float.specs.Slices.{written}
 use Rattle.form.specs.Form.{width, worstsFor}
 use Rattle.form.specs.declared.Form.{Form}
 use Rattle.form.specs.declared.Form.the-variants.{Eight, Nine}
+use Rattle.limits.specs.Limits.{mostMarks}
 use Rattle.house.specs.File.{File, Holds, marksIn, curvesIn, paramsFor}
-use Rattle.house.specs.Held.{fileOf}
+use Rattle.house.specs.Held.{candidate, isFile, fileOf}
 use Rattle.house.specs.Slices.{room}
 use Rattle.reader.specs.declared.Read.{Read}
 use Rattle.reader.specs.declared.Read.the-variants as read
@@ -25,47 +26,104 @@ use Rattle.float.proofs.Answers.{not-refused, unless-ok}
 use Rattle.grammar.proofs.Formed.{Turn, plain, full, Sized, Formed, formed, params-some}
 use Rattle.grammar.proofs.Rooms.{Places, placing}
 use Rattle.grammar.proofs.Grammar.{file-holds}
-use Rattle.desk.specs.Desk.{Roomy, fileIn, refusalIn}
+use Rattle.grammar.proofs.Candidate.{holds-candidate}
+use Rattle.desk.specs.Desk.{roomMarks, mostBytes, Roomy, fileIn, refusalIn, crowdedAs}
 use Rattle.desk.proofs.Numbers.{front}
 
 -- ---- the call
 
-pub too-long : (b : List ℕ) {M P W C Q : List ℕ} → 434120 < length b → outcome (refused 9) M P W C Q ≡ settled (fileIn b) M P W C Q
+pub too-long : (b : List ℕ) {M P W C Q : List ℕ} → mostBytes < length b → outcome (refused 9) M P W C Q ≡ settled (fileIn b) M P W C Q
 unfolding fileIn
-too-long b h = rw (lt-leb (length b) 434120 h)
+too-long b h = rw (lt-leb (length b) mostBytes h)
 
-pub as-read : (b M P W C Q : List ℕ) {o : Outcome} → length b ≤ 434120 → Roomy M P W C Q → o ≡ readOf b M P W C Q → o ≡ settled (fileIn b) M P W C Q
-unfolding fileIn readOf
-as-read b M P W C Q h r e = e ∙ rw (le-leb (length b) 434120 h, r .marks, r .firsts, r .worsts, r .curves, r .params)
+-- a file of at most 4,096 marks
+abbrev pub few : File → Answer File
+few F = unless 2 (leb (marksIn F) roomMarks) (ok F)
+
+-- a list of up to 4,095 curves, in either form
+list-within : (form : Form) (k : ℕ) → k ≤ 4095 → (worstsFor form k ≤ 4095) × (width form * k ≤ 36855)
+list-within Eight k h = (omega arith, omega arith)
+list-within Nine k h = (omega arith, omega arith)
+
+none-within : (form : Form) {k : ℕ} → k ≡ 0 → (worstsFor form k ≤ 4095) × (width form * k ≤ 36855)
+none-within form {k} z = list-within form k (omega arith)
+
+places-for : (F : File) → Sized F (marksIn F) (curvesIn F) → Turn (F .form) (marksIn F) (curvesIn F) → marksIn F ≤ 4096 → Places (F .form) (marksIn F) (curvesIn F) 4095 4095 36855 4096
+places-for F s (plain e z) h = record { firsts = omega arith; worsts = none-within (F .form) z .0; curves = none-within (F .form) z .1; params = rw z (omega arith) }
+places-for F s (full some less) h =
+    let b = list-within (F .form) (curvesIn F) (omega arith) in
+    record { firsts = omega arith; worsts = b .0; curves = b .1; params = rw (params-some (marksIn F) some) h }
+
+-- the reader's answer, with that room: 4 is for more marks
+abbrev moved : Answer File → Answer File
+moved (ok F) = ok F
+moved (refused q) = refused (crowdedAs q)
+
+held : (F : File) → Sized F (marksIn F) (curvesIn F) → Turn (F .form) (marksIn F) (curvesIn F) → few F ≡ moved (within F 8192 4095 4095 36855 4096)
+held F s w = go (leb (marksIn F) roomMarks) refl
+  where
+    many : (b : Bool) → leb (marksIn F) mostMarks ≡ b → roomMarks < marksIn F → refused 2 ≡ moved (within F 8192 4095 4095 36855 4096)
+    many true e h = simp (e, lt-leb (length (F .marks)) 8192 (omega (arith, s .marks)))
+    many false e h = rw e
+
+    go : (b : Bool) → leb (marksIn F) roomMarks ≡ b → few F ≡ moved (within F 8192 4095 4095 36855 4096)
+    go true e =
+        let h : marksIn F ≤ roomMarks = leb-true _ _ e in
+        let m : length (F .marks) ≤ 8192 = omega (arith, s .marks) in
+        simp (e, le-leb (marksIn F) mostMarks (omega arith), le-leb (length (F .marks)) 8192 m, placing (places-for F s w h))
+    go false e = rw e (many (leb (marksIn F) mostMarks) refl (leb-false _ _ e))
+
+read-as : (b : List ℕ) → length b ≤ mostBytes → fileIn b ≡ moved (judged b 8192 4095 4095 36855 4096)
+unfolding fileIn judged fileOf
+read-as b h = rw (le-leb (length b) mostBytes h) (go (isFile b) refl)
+  where
+    go : (t : Bool) → isFile b ≡ t → _>>=_ (unless 9 (isFile b) (ok (candidate b))) few ≡ moved (judged b 8192 4095 4095 36855 4096)
+    go true x = let f = formed (candidate b) (holds-candidate x .formed) in rw x (held (candidate b) (f .sized) (f .way))
+    go false x = rw x
+
+module _ (b M P W C Q : List ℕ) (r : Read) {M′ P′ W′ C′ Q′ : List ℕ} (h : length b ≤ mostBytes) (y : Roomy M P W C Q) (e : outcome (readAnswer r) M′ P′ W′ C′ Q′ ≡ readOf b M P W C Q) where
+  lent : outcome (readAnswer r) M′ P′ W′ C′ Q′ ≡ settled (judged b 8192 4095 4095 36855 4096) M P W C Q
+  unfolding readOf
+  lent = e ∙ rw (y .marks, y .firsts, y .worsts, y .curves, y .params)
+
+  pub file-read : {form : Form} {t n k : ℕ} → r ≡ read.File form t n k → outcome (readAnswer (read.File form t n k)) M′ P′ W′ C′ Q′ ≡ settled (fileIn b) M P W C Q
+  file-read {form} {t} {n} {k} i = rw (read-as b h) (go (judged b 8192 4095 4095 36855 4096) (rw i at lent))
+    where
+      go : (a : Answer File) → outcome (readAnswer (read.File form t n k)) M′ P′ W′ C′ Q′ ≡ settled a M P W C Q → outcome (readAnswer (read.File form t n k)) M′ P′ W′ C′ Q′ ≡ settled (moved a) M P W C Q
+      go (ok F) x = x
+      go (refused q) x = not-refused q (ap (λ (o : Outcome). o .answer) x)
+
+  pub file-refused : {q p : ℕ} → r ≡ read.Refused q → p ≡ crowdedAs q → outcome (readAnswer (read.Refused p)) M′ P′ W′ C′ Q′ ≡ settled (fileIn b) M P W C Q
+  file-refused {q} {p} i z = rw (read-as b h) (go (judged b 8192 4095 4095 36855 4096) (rw i at lent))
+    where
+      go : (a : Answer File) → outcome (readAnswer (read.Refused q)) M′ P′ W′ C′ Q′ ≡ settled a M P W C Q → outcome (readAnswer (read.Refused p)) M′ P′ W′ C′ Q′ ≡ settled (moved a) M P W C Q
+      go (ok F) x = not-refused q (sym (ap (λ (o : Outcome). o .answer) x))
+      go (refused s) x =
+          let a : _≡_ {A = Answer Found} (refused q) (refused s) = ap (λ (o : Outcome). o .answer) x in
+          let g : q ≡ s = cc in
+          let u : p ≡ crowdedAs s = z ∙ ap crowdedAs g in
+          rw u (λ i. outcome (refused (crowdedAs s)) (x i .marks) (x i .firsts) (x i .worsts) (x i .curves) (x i .params))
 
 -- ---- what it tells
 
 record Within (b : List ℕ) (F : File) : Type 0 where
   holds : Holds b F
-  few : marksIn F ≤ 4096
+  few : marksIn F ≤ roomMarks
 
-module _ {b : List ℕ} {F : File} where
-  judged-ok : (m p w c q : ℕ) → judged b m p w c q ≡ ok F → Within b F
-  unfolding judged
-  judged-ok m p w c q e = go (fileOf b) refl e
-    where
-      go : (a : Answer File) → fileOf b ≡ a → judged b m p w c q ≡ ok F → Within b F
-      go (ok G) x y =
-          let y′ = rw x at y in
-          let u = unless-ok 2 (leb (marksIn G) 4096) _ y′ in
-          let v = unless-ok 4 (leb (length (G .marks)) m && room (G .form) (marksIn G) (curvesIn G) p w c q) (ok G) (u .1) in
-          let g : G ≡ F = cc in
-          let n : marksIn G ≤ 4096 = leb-true _ _ (u .0) in
-          let w : Within b G = record { holds = file-holds x; few = n } in
-          rw g at w
-      go (refused r) x y = let y′ : refused r ≡ ok F = rw x at y in not-refused r (sym y′)
-
-  within-file : fileIn b ≡ ok F → Within b F
-  unfolding fileIn
-  within-file e = let u = unless-ok 9 (leb (length b) 434120) (judged b 8192 4095 4095 36855 4096) e in judged-ok 8192 4095 4095 36855 4096 (u .1)
+within-file : {b : List ℕ} {F : File} → fileIn b ≡ ok F → Within b F
+unfolding fileIn
+within-file {b} {F} e = let u = unless-ok 9 (leb (length b) mostBytes) (_>>=_ (fileOf b) few) e in go (fileOf b) refl (u .1)
+  where
+    go : (a : Answer File) → fileOf b ≡ a → _>>=_ a few ≡ ok F → Within b F
+    go (ok G) x y =
+        let u = unless-ok 2 (leb (marksIn G) roomMarks) (ok G) y in
+        let g : G ≡ F = cc in
+        let w : Within b G = record { holds = file-holds x; few = leb-true _ _ (u .0) } in
+        rw g at w
+    go (refused q) x y = not-refused q (sym y)
 
 -- a file that is taken is well formed, and has at most 4,096 marks
-pub file-formed : (b : List ℕ) {F : File} → fileIn b ≡ ok F → Formed F (marksIn F) (curvesIn F) × (marksIn F ≤ 4096)
+pub file-formed : (b : List ℕ) {F : File} → fileIn b ≡ ok F → Formed F (marksIn F) (curvesIn F) × (marksIn F ≤ roomMarks)
 file-formed b {F} e = let w = within-file e in (formed F (w .holds .formed), w .few)
 
 -- a file's numbers stand in the first places
@@ -76,7 +134,7 @@ pub record Opened (b : List ℕ) (form : Form) (t n k : ℕ) (M′ P′ W′ C�
   pub tolerance : t ≡ file .tolerance
   pub many : marksIn file ≡ n
   pub formed : Formed file n k
-  pub few : n ≤ 4096
+  pub few : n ≤ roomMarks
   pub marks : take (2 * n) M′ ≡ file .marks
   pub firsts : take k P′ ≡ file .firsts
   pub worsts : take (worstsFor form k) W′ ≡ file .worsts
@@ -158,44 +216,3 @@ module _ {b : List ℕ} {form : Form} {t n k : ℕ} {M P W C Q : List ℕ} (o : 
     curves = front-within (width form * k) C (o .curves) (o .formed .sized .curves ∙ ap (λ (f : Form). width f * k) (sym (o .shape)));
     params = front-within n Q (params-at h) (rw (params-some n h) at (o .formed .sized .params));
   }
-
--- ---- there is always room
-
--- a file of at most 4,096 marks
-abbrev pub few : File → Answer File
-few F = unless 2 (leb (marksIn F) 4096) (ok F)
-
--- a list of up to 4,095 curves, in either form
-list-within : (form : Form) (k : ℕ) → k ≤ 4095 → (worstsFor form k ≤ 4095) × (width form * k ≤ 36855)
-list-within Eight k h = (omega arith, omega arith)
-list-within Nine k h = (omega arith, omega arith)
-
-none-within : (form : Form) {k : ℕ} → k ≡ 0 → (worstsFor form k ≤ 4095) × (width form * k ≤ 36855)
-none-within form {k} z = list-within form k (omega arith)
-
-places-for : (F : File) → Sized F (marksIn F) (curvesIn F) → Turn (F .form) (marksIn F) (curvesIn F) → marksIn F ≤ 4096 → Places (F .form) (marksIn F) (curvesIn F) 4095 4095 36855 4096
-places-for F s (plain e z) h = record { firsts = omega arith; worsts = none-within (F .form) z .0; curves = none-within (F .form) z .1; params = rw z (omega arith) }
-places-for F s (full some less) h =
-    let b = list-within (F .form) (curvesIn F) (omega arith) in
-    record { firsts = omega arith; worsts = b .0; curves = b .1; params = rw (params-some (marksIn F) some) h }
-
-held : (F : File) → Sized F (marksIn F) (curvesIn F) → Turn (F .form) (marksIn F) (curvesIn F) → within F 8192 4095 4095 36855 4096 ≡ few F
-held F s w = go (leb (marksIn F) 4096) refl
-  where
-    go : (b : Bool) → leb (marksIn F) 4096 ≡ b → within F 8192 4095 4095 36855 4096 ≡ few F
-    go true e =
-        let h : marksIn F ≤ 4096 = leb-true _ _ e in
-        let m : length (F .marks) ≤ 8192 = omega (arith, s .marks) in
-        simp (e, le-leb (length (F .marks)) 8192 m, placing (places-for F s w h))
-    go false e = rw e
-
--- it is never 4: a file of up to 4,096 marks has its places
-pub roomy : (b : List ℕ) → fileIn b ≡ unless 9 (leb (length b) 434120) (_>>=_ (fileOf b) few)
-unfolding fileIn judged
-roomy b = ap (unless 9 (leb (length b) 434120)) (go (fileOf b) refl)
-  where
-    go : (a : Answer File) → fileOf b ≡ a → judged b 8192 4095 4095 36855 4096 ≡ _>>=_ a few
-    go (ok F) x =
-        let f = formed F (file-holds x .formed) in
-        rw x (held F (f .sized) (f .way))
-    go (refused q) x = rw x

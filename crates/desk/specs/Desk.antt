@@ -2,14 +2,15 @@
 use Prim.Native.Nat.{ℕ}
 use mathlib.Core.Path.{_≡_}
 use mathlib.Core.List.{List, map}
-use lib.Dec.{leb}
+use mathlib.Core.Bool.{cond}
+use lib.Dec.{leb, eqb}
 use lib.ListN.{length, replicate}
 use lib.Ieee.{Float, binary64, ofBits, toBits}
 use Rattle.float.specs.Number.{f0}
-use Rattle.float.specs.Answer.{Answer, unless}
-use Rattle.house.specs.Limits.{badlyFormed}
-use Rattle.house.specs.File.{File}
-use Rattle.reader.specs.Reader.{judged}
+use Rattle.float.specs.Answer.{Answer, ok, unless, _>>=_}
+use Rattle.house.specs.Limits.{tooMany, noRoom, badlyFormed}
+use Rattle.house.specs.File.{File, marksIn}
+use Rattle.house.specs.Held.{fileOf}
 use Rattle.reader.specs.declared.Read.{Read}
 use Rattle.reader.specs.declared.Read.the-variants as read
 
@@ -33,7 +34,11 @@ noMarks n = replicate n 0
 
 -- ---- the file
 
--- the longest file: 4,096 marks, 4,095 curves with their worst marks, and the parameters
+-- what the calls over whole files have room for: 4,096 marks
+abbrev pub roomMarks : ℕ
+roomMarks = 4096
+
+-- the longest file of so many: 4,095 curves with their worst marks, and the parameters
 abbrev pub mostBytes : ℕ
 mostBytes = 434120
 
@@ -45,11 +50,17 @@ pub record Roomy (M P W C Q : List ℕ) : Type 0 where
   pub curves : length C ≡ 36855
   pub params : length Q ≡ 4096
 
--- 9 or 2, or the file, as the reader has it of slices with that room. (proofs/Opened: it is never 4.)
+-- 9 or 2, or the file
 unfoldable pub fileIn : List ℕ → Answer File
-fileIn b = unless badlyFormed (leb (length b) mostBytes) (judged b 8192 4095 4095 36855 4096)
+fileIn b = unless badlyFormed (leb (length b) mostBytes) do
+  F ← fileOf b
+  unless tooMany (leb (marksIn F) roomMarks) (ok F)
 
 -- the number of a reader's refusal, and 0 where there is none
 abbrev pub refusalIn : Read → ℕ
 refusalIn (read.File form t n k) = 0
 refusalIn (read.Refused q) = q
+
+-- for an inner contract: a reader's refusal for want of room is one of too many marks
+abbrev pub crowdedAs : ℕ → ℕ
+crowdedAs q = cond (eqb q noRoom) tooMany q

@@ -4,14 +4,16 @@ ghost use Prim.Native.Nat.{_≤_};
 ghost use lib.ListN.{length};
 ghost use Rattle.float.specs.Slices.{written};
 ghost use Rattle.reader.specs.Reader.{readAnswer, outcome, settled};
-ghost use Rattle.desk.specs.Desk.{floats, patterns, zeros, noMarks, fileIn, refusalIn, Roomy};
+ghost use Rattle.desk.specs.Desk.{floats, patterns, zeros, noMarks, fileIn, refusalIn, crowdedAs, Roomy};
 use float::of_bits;
 use float::refusal::BADLY_FORMED;
+use float::refusal::NO_ROOM;
+use float::refusal::TOO_MANY;
 use float::to_bits;
 use reader::Read;
 use reader::read_file;
 
-// The longest house file: 4,096 marks, 4,095 curves with their worst marks, and the parameters.
+// The longest house file of 4,096 marks: 4,095 curves with their worst marks, and the parameters.
 const MOST_BYTES: usize = 434120;
 
 // ---- numbers and patterns
@@ -93,7 +95,18 @@ pub fn param_floats() -> [f64; 4096]
 
 // ---- the file
 
-// Takes a file of any size apart into slices with that room. One that is longer than any file is badly formed.
+// The number of a reader's refusal, where the slices have room for 4,096 marks: only more marks than that leave none.
+fn crowded(q: u32) -> u32
+    ensures { λ r. ⌜ r ≡ crowdedAs q ⌝ }
+{
+    if q == NO_ROOM {
+        return TOO_MANY;
+    }
+    q
+}
+
+// Takes a file apart into slices with that room. One of more marks is too many here, though the reader knows it; one that is longer than any of so many marks is
+// not looked at.
 pub fn open_file(
     file: &[u8],
     marks: &mut [u64],
@@ -108,7 +121,21 @@ pub fn open_file(
     if file.len() > MOST_BYTES {
         return Read::Refused(BADLY_FORMED);
     }
-    read_file(file, marks, firsts, worsts, curves, params)
+    let read = read_file(file, marks, firsts, worsts, curves, params);
+    match read {
+        Read::File {
+            form,
+            tolerance,
+            marks: n,
+            curves: k,
+        } => Read::File {
+            form,
+            tolerance,
+            marks: n,
+            curves: k,
+        },
+        Read::Refused(q) => Read::Refused(crowded(q)),
+    }
 }
 
 // The number of a refusal, and 0 where a file was read.

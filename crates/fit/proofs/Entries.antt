@@ -12,6 +12,7 @@ use Rattle.float.specs.Number.{f0}
 use Rattle.float.specs.Answer.{ok}
 use Rattle.float.specs.Answer.{refused as no}
 use Rattle.plane.specs.declared.Point.{Point}
+use Rattle.limits.specs.Limits.{mostNumbered}
 use Rattle.marks.specs.Marks.{count}
 use Rattle.marks.specs.Block.{sizeFrom, blockSize}
 use Rattle.ring.specs.Ring.{again, whole}
@@ -64,7 +65,7 @@ usable-whole Closed u = usable-append u (usable-take 2 u)
 pub passed-usable : {top : ℕ} {o : Outline} {ms : List Float} {tol : Float} {c f w p : ℕ} → Passed top o ms tol c f w p → Usable (whole o ms) tol
 passed-usable {o = o} g = usable-whole o (record { near = g .near; tolerance = g .usable })
 
-pub passed-ready : (top : ℕ) (o : Outline) (ms : List Float) (tol : Float) (C : List Float) (F W : List ℕ) (P : List Float) → top < 65536 → Passed top o ms tol (length C) (length F) (length W) (length P) → Ready (whole o ms) 0 tol C F W (take (again o + count ms) P)
+pub passed-ready : (top : ℕ) (o : Outline) (ms : List Float) (tol : Float) (C : List Float) (F W : List ℕ) (P : List Float) → top < mostNumbered → Passed top o ms tol (length C) (length F) (length W) (length P) → Ready (whole o ms) 0 tol C F W (take (again o + count ms) P)
 passed-ready top o ms tol C F W P t g =
     let n : length (take (again o + count ms) P) ≡ again o + count ms = simp length-take (let r = g .params in omega arith) in
     let l = whole-length o ms (passed-even g) in

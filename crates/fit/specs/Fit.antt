@@ -11,6 +11,7 @@ use Rattle.float.specs.Answer.{refused as no}
 use Rattle.float.specs.Slices.{written}
 use Rattle.plane.specs.Range.{upTo}
 use Rattle.plane.specs.declared.Point.{Point}
+use Rattle.limits.specs.Limits.{mostMarks}
 use Rattle.marks.specs.Marks.{count}
 use Rattle.marks.specs.Block.{blockSize}
 use Rattle.gate.specs.Gate.{refuse, gateOf}
@@ -48,10 +49,10 @@ ended (done cs bs ps) C F W P = ending (ok (length bs)) (written cs C) (written 
 abbrev pub entered : ℕ → Run → List Float → List ℕ → List ℕ → List Float → Ending
 entered g R C F W P = cond (eqb g 0) (ended R C F W P) (ending (no g) C F W P)
 
--- by blocks, at most 4,096 marks given; the size of a block is by the marks that are cut, a ring's with mark 0 once more
+-- by blocks, at most `mostMarks` given; the size of a block is by the marks that are cut, a ring's with mark 0 once more
 unfoldable pub fitOf : Cutting → List Float → Float → List Float → List ℕ → List ℕ → List Float → Ending
 fitOf k ms tol C F W P =
-    entered (gateOf 4096 (outlineOf k) ms tol (length C) (length F) (length W) (length P)) (blocksOf k (marksOf k ms) (blockSize (count (marksOf k ms))) tol) C F W P
+    entered (gateOf mostMarks (outlineOf k) ms tol (length C) (length F) (length W) (length P)) (blocksOf k (marksOf k ms) (blockSize (count (marksOf k ms))) tol) C F W P
 
 -- a tangent's components: finite and of magnitude at most 2
 unfoldable pub component : Float → Bool

@@ -6,13 +6,12 @@ ghost use Rattle.tangents.specs.declared.Cutting.the-variants as variants;
 ghost use Rattle.fit.specs.Fit.{fittedAnswer, ending, component, areTangents, fitOf, cubicOf, cubicGate};
 use cut::Fitted;
 use float::refusal::OUT_OF_RANGE;
+use limits::MOST_MARKS;
 use plane::Point;
 use ring::Outline;
 use tangents::Cutting;
 
-// The most marks that are taken, and the most that the direct fit takes.
-const MOST: usize = 4096;
-
+// The most marks that the direct fit takes.
 const MOST_DIRECT: usize = 512;
 
 // Whether x may be a tangent's component. A NaN or an infinity is not at most 2.
@@ -133,7 +132,7 @@ fn fit_cut(
         outline,
         marks,
         tolerance,
-        MOST,
+        MOST_MARKS,
         curves.len(),
         firsts.len(),
         worsts.len(),

@@ -8,16 +8,16 @@ use lib.ListN.{length, drop, length-append}
 use lib.Seq.{drop-drop, drop-at}
 use Rattle.form.specs.declared.Form.the-variants.{Eight}
 use Rattle.form.specs.Form.{width}
-use Rattle.house.specs.Limits.{worstMarks, curveBytes}
+use Rattle.house.specs.Limits.{fieldFor, worstMarks, curveBytes}
 use Rattle.house.specs.Bytes.{le, num, row, words, les, allFit}
-use Rattle.house.specs.File.{File, rec, framed, flat, curveRecords, fitRecords, bytesOf, paramsFor}
+use Rattle.house.specs.File.{File, rec, framed, flat, curveRecords, fitRecords, bytesOf, fieldIn, paramsFor}
 use Rattle.house.specs.Held.{inEach, firstsOf, worstsOf, curvesOf, fileAt}
 use Rattle.house.proofs.Forms.{worsts-each}
 use Rattle.house.proofs.Numbers.{length-le, val-front, drop-front}
 use Rattle.house.proofs.Rows.{length-les, row-back}
 use Rattle.grammar.proofs.Records.{Head, length-framed, framed-head, framed-body}
 use Rattle.grammar.proofs.Curves.{Opened, opened, empty}
-use Rattle.grammar.proofs.Formed.{Turn, Sized, Fit, Formed, params-some}
+use Rattle.grammar.proofs.Formed.{Turn, Sized, Fit, Formed, field-is, params-some}
 use Rattle.grammar.proofs.Laid.{Started, Laid, plain, full}
 use Rattle.grammar.proofs.Whole.{bytes-are, rest-none, rest-some, length-records}
 
@@ -65,20 +65,20 @@ pub record Read-back (b : List ℕ) (F : File) (n k : ℕ) : Type 0 where
   pub laid : Laid b (F .form) n k
   pub file : fileAt b (F .form) n k ≡ F
 
-same-file : (b : List ℕ) (n k : ℕ) (F : File) → num 8 b 6 ≡ F .tolerance → words (2 * n) (drop 20 b) ≡ F .marks → firstsOf (F .form) k (drop (20 + 16 * n) b) ≡ F .firsts
-    → worstsOf (F .form) k (drop (20 + 16 * n) b) ≡ F .worsts → curvesOf (F .form) k (drop (20 + 16 * n) b) ≡ F .curves
-    → words (paramsFor n k) (drop (20 + 16 * n + curveBytes (F .form) * k + 6) b) ≡ F .params → fileAt b (F .form) n k ≡ F
+same-file : (b : List ℕ) (n k : ℕ) (F : File) → num 8 b 6 ≡ F .tolerance → words (2 * n) (drop 20 b) ≡ F .marks → firstsOf (F .form) (fieldFor n) k (drop (20 + 16 * n) b) ≡ F .firsts
+    → worstsOf (F .form) (fieldFor n) k (drop (20 + 16 * n) b) ≡ F .worsts → curvesOf (F .form) (fieldFor n) k (drop (20 + 16 * n) b) ≡ F .curves
+    → words (paramsFor n k) (drop (20 + 16 * n + curveBytes (F .form) (fieldFor n) * k + 6) b) ≡ F .params → fileAt b (F .form) n k ≡ F
 same-file b n k F e1 e2 e3 e4 e5 e6 = simp (e1, e2, e3, e4, e5, e6)
 
 -- what follows the marks
 abbrev rest : File → List ℕ
-rest F = flat (fitRecords (F .form) (F .firsts) (F .worsts) (F .curves) (F .params))
+rest F = flat (fitRecords (F .form) (fieldIn F) (F .firsts) (F .worsts) (F .curves) (F .params))
 
 module _ (F : File) (b : List ℕ) (n : ℕ) (f : Fronted b n (F .tolerance) (F .marks) (rest F)) where
   back-plain : F .form ≡ Eight → Sized F n 0 → Read-back b F n 0
   unfolding inEach row
   back-plain ef s =
-      let r : length (rest F) ≡ 0 = ap length (rest-none (F .form) (F .firsts) (F .worsts) (F .curves) (F .params) (s .firsts)) in
+      let r : length (rest F) ≡ 0 = ap length (rest-none (F .form) (fieldIn F) (F .firsts) (F .worsts) (F .curves) (F .params) (s .firsts)) in
       let w : length (F .worsts) ≡ 0 = s .worsts ∙ rw ef in
       let c : length (F .curves) ≡ 0 = omega (arith, s .curves) in
       record {
@@ -86,20 +86,20 @@ module _ (F : File) (b : List ℕ) (n : ℕ) (f : Fronted b n (F .tolerance) (F 
         file = same-file b n 0 F (f .tolerance) (f .marks) (sym (empty (F .firsts) (s .firsts))) (sym (empty (F .worsts) w)) (sym (empty (F .curves) c)) (sym (empty (F .params) (s .params)));
       }
 
-  back-full : (k : ℕ) → 0 < k → k < n → 2 + 16 * n < 256 ^ 4 → Fit F → Sized F n k → Read-back b F n k
+  back-full : (k : ℕ) → 0 < k → k < n → 2 + 16 * n < 256 ^ 4 → Fit F (fieldFor n) → Sized F n k → Read-back b F n k
   back-full k some few hn g s =
-      let S : ℕ = curveBytes (F .form) in
+      let S : ℕ = curveBytes (F .form) (fieldFor n) in
       let last : List ℕ = framed (rec 4 (les (F .params))) in
-      let d : List ℕ = flat (curveRecords (F .form) (F .firsts) (F .worsts) (F .curves)) in
+      let d : List ℕ = flat (curveRecords (F .form) (fieldFor n) (F .firsts) (F .worsts) (F .curves)) in
       let hw : length (F .worsts) ≡ worstMarks (F .form) * length (F .firsts) = rw (s .firsts) (s .worsts ∙ worsts-each (F .form) k) in
       let hc : length (F .curves) ≡ width (F .form) * length (F .firsts) = rw (s .firsts) (s .curves) in
       let eq : paramsFor n k ≡ n = params-some n some in
       let ep : length (F .params) ≡ n = s .params ∙ eq in
-      let er : rest F ≡ d ++ last = rest-some (F .form) (F .firsts) (F .worsts) (F .curves) (F .params) (rw (s .firsts) some) in
+      let er : rest F ≡ d ++ last = rw (field-is s) (rest-some (F .form) (fieldFor n) (F .firsts) (F .worsts) (F .curves) (F .params) (rw (s .firsts) some)) in
       let et : drop (20 + 16 * n) b ≡ d ++ last = f .behind ∙ er in
-      let o : Opened (F .form) k (d ++ last) (F .firsts) (F .worsts) (F .curves) =
-      rw (s .firsts) at (opened (F .form) (F .firsts) (F .worsts) (F .curves) last (g .firsts) (g .worsts) (g .curves) hw hc) in
-      let ld : length d ≡ S * k = length-records s in
+      let o : Opened (F .form) (fieldFor n) k (d ++ last) (F .firsts) (F .worsts) (F .curves) =
+      rw (s .firsts) at (opened (F .form) (fieldFor n) (F .firsts) (F .worsts) (F .curves) last (g .firsts) (g .worsts) (g .curves) hw hc) in
+      let ld : length d ≡ S * k = length-records (fieldFor n) s in
       let zp : length (les (F .params)) ≡ 8 * n = length-les (F .params) ∙ rw ep in
       let z4 : 2 + length (les (F .params)) ≡ 2 + 8 * n = ap (λ (x : ℕ). 2 + x) zp in
       let ll : length last ≡ 6 + 8 * n = length-framed 4 (les (F .params)) ∙ rw zp in

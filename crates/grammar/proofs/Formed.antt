@@ -1,5 +1,5 @@
 -- What makes a file well formed, as facts: the tests of `wellFormed`, to and fro. Assumes nothing.
-use mathlib.Core.Path.{_≡_, refl}
+use mathlib.Core.Path.{_≡_, refl, ap}
 use mathlib.Core.Bool.{true}
 use mathlib.Core.List.{List}
 use Prim.Native.Nat.{ℕ, zero, suc, _+_, _*_, _<_, _^_}
@@ -10,8 +10,10 @@ use Rattle.float.proofs.Truth.{both}
 use Rattle.form.specs.declared.Form.{Form}
 use Rattle.form.specs.declared.Form.the-variants.{Eight, Nine}
 use Rattle.form.specs.Form.{width, worstsFor}
+use Rattle.house.specs.declared.sizes.Field.{Field}
+use Rattle.house.specs.Limits.{fieldFor, markField}
 use Rattle.house.specs.Bytes.{les, allFit}
-use Rattle.house.specs.File.{File, marksIn, curvesIn, fewer, suits, paramsFor, wellFormed}
+use Rattle.house.specs.File.{File, marksIn, curvesIn, fieldIn, fewer, suits, paramsFor, wellFormed}
 use Rattle.house.proofs.Forms.{suits-some}
 use Rattle.house.proofs.Numbers.{split}
 use Rattle.house.proofs.Rows.{length-les}
@@ -52,12 +54,12 @@ pub record Sized (F : File) (n k : ℕ) : Type 0 where
   pub curves : length (F .curves) ≡ width (F .form) * k
   pub params : length (F .params) ≡ paramsFor n k
 
--- by its numbers
-pub record Fit (F : File) : Type 0 where
+-- by its numbers, those of marks in their field
+pub record Fit (F : File) (field : Field) : Type 0 where
   pub tolerance : F .tolerance < 256 ^ 8
   pub marks : allFit 8 (F .marks) ≡ true
-  pub firsts : allFit 2 (F .firsts) ≡ true
-  pub worsts : allFit 2 (F .worsts) ≡ true
+  pub firsts : allFit (markField field) (F .firsts) ≡ true
+  pub worsts : allFit (markField field) (F .worsts) ≡ true
   pub curves : allFit 8 (F .curves) ≡ true
   pub params : allFit 8 (F .params) ≡ true
 
@@ -65,7 +67,14 @@ pub record Formed (F : File) (n k : ℕ) : Type 0 where
   pub sized : Sized F n k
   pub way : Turn (F .form) n k
   pub few : 2 + 16 * n < 256 ^ 4
-  pub fit : Fit F
+  pub fit : Fit F (fieldFor n)
+
+-- so many marks, and so their field
+pub marks-are : {F : File} {n k : ℕ} → Sized F n k → marksIn F ≡ n
+marks-are s = rw (s .marks) (omega arith)
+
+pub field-is : {F : File} {n k : ℕ} → Sized F n k → fieldIn F ≡ fieldFor n
+field-is s = ap fieldFor (marks-are s)
 
 few-marks : (M : List ℕ) (n : ℕ) → length M ≡ 2 * n → 2 + length (les M) < 256 ^ 4 → 2 + 16 * n < 256 ^ 4
 few-marks M n m l = omega (arith, length-les M)
@@ -98,7 +107,7 @@ pub forming : {F : File} {n k : ℕ} → Formed F n k → wellFormed F ≡ true
 unfolding wellFormed
 forming {F} {n} {k} f =
     let s = f .sized in
-    let en : marksIn F ≡ n = rw (s .marks) (omega arith) in
+    let en : marksIn F ≡ n = marks-are s in
     let em : length (F .marks) ≡ 2 * marksIn F = rw en (s .marks) in
     let eo : length (F .worsts) ≡ worstsFor (F .form) (curvesIn F) = rw (s .firsts) (s .worsts) in
     let ec : length (F .curves) ≡ width (F .form) * curvesIn F = rw (s .firsts) (s .curves) in
@@ -106,6 +115,9 @@ forming {F} {n} {k} f =
     let es : suits (F .form) (curvesIn F) ≡ true = rw (s .firsts) (suiting (f .way)) in
     let ew : fewer (curvesIn F) (marksIn F) ≡ true = rw (en, s .firsts) (turning (f .way)) in
     let el : 2 + length (les (F .marks)) < 256 ^ 4 = omega (arith, length-les (F .marks)) in
+    let ef : fieldIn F ≡ fieldFor n = field-is s in
+    let gf : allFit (markField (fieldIn F)) (F .firsts) ≡ true = rw ef (f .fit .firsts) in
+    let gw : allFit (markField (fieldIn F)) (F .worsts) ≡ true = rw ef (f .fit .worsts) in
     both _ _ (eq-eqb _ _ em)
     (both _ _ (eq-eqb _ _ eo)
     (both _ _ (eq-eqb _ _ ec)
@@ -115,6 +127,6 @@ forming {F} {n} {k} f =
     (both _ _ (lt-ltb _ _ el)
     (both _ _ (lt-ltb _ _ (f .fit .tolerance))
     (both _ _ (f .fit .marks)
-    (both _ _ (f .fit .firsts)
-    (both _ _ (f .fit .worsts)
+    (both _ _ gf
+    (both _ _ gw
     (both _ _ (f .fit .curves) (f .fit .params))))))))))))

@@ -8,36 +8,36 @@ use lib.ListN.{length, drop, length-drop, drop-of-length-le}
 use lib.Seq.{drop-drop}
 use Rattle.form.specs.declared.Form.{Form}
 use Rattle.form.specs.Form.{width}
-use Rattle.house.specs.Limits.{worstMarks, curveBytes, numbersAt}
+use Rattle.house.specs.Limits.{fieldFor, markField, worstMarks, curveBytes, numbersAt}
 use Rattle.house.specs.Bytes.{le, num, words, les, allFit}
-use Rattle.house.specs.File.{Holds, rec, framed, flat, curveRecords, fitRecords, paramsFor}
+use Rattle.house.specs.File.{Holds, bytesOf, rec, framed, flat, curveRecords, fitRecords, paramsFor}
 use Rattle.house.specs.Held.{firstsOf, worstsOf, curvesOf, fileAt}
 use Rattle.house.proofs.Numbers.{fit-drop, length-le, le-front}
 use Rattle.house.proofs.Rows.{length-words, length-les, fit-num, fit-row, row-front}
 use Rattle.grammar.proofs.Records.{Head, framed-front}
 use Rattle.grammar.proofs.Curves.{length-firsts, length-worsts, length-curves, fit-each, curves-front}
-use Rattle.grammar.proofs.Formed.{Turn, Sized, Fit, forming, params-some}
+use Rattle.grammar.proofs.Formed.{Turn, Sized, Fit, forming, field-is, params-some}
 use Rattle.grammar.proofs.Laid.{Started, Ended, Laid, plain, full}
 use Rattle.grammar.proofs.Whole.{bytes-are, rest-none, rest-some}
 
 sized-at : (b : List ℕ) (form : Form) (n k : ℕ) → Sized (fileAt b form n k) n k
 sized-at b form n k = record {
   marks = length-words (2 * n) (drop 20 b);
-  firsts = length-firsts form k (drop (20 + 16 * n) b);
-  worsts = length-worsts form k (drop (20 + 16 * n) b);
-  curves = length-curves form k (drop (20 + 16 * n) b);
-  params = length-words (paramsFor n k) (drop (20 + 16 * n + curveBytes form * k + 6) b);
+  firsts = length-firsts form (fieldFor n) k (drop (20 + 16 * n) b);
+  worsts = length-worsts form (fieldFor n) k (drop (20 + 16 * n) b);
+  curves = length-curves form (fieldFor n) k (drop (20 + 16 * n) b);
+  params = length-words (paramsFor n k) (drop (20 + 16 * n + curveBytes form (fieldFor n) * k + 6) b);
 }
 
 module _ (b : List ℕ) (g : allFit 1 b ≡ true) where
-  fit-at : (form : Form) (n k : ℕ) → Fit (fileAt b form n k)
+  fit-at : (form : Form) (n k : ℕ) → Fit (fileAt b form n k) (fieldFor n)
   fit-at form n k = record {
     tolerance = fit-num 8 6 b g;
     marks = fit-row 8 (2 * n) (drop 20 b) (fit-drop 1 20 b g);
-    firsts = fit-each 2 1 6 (curveBytes form) k (drop (20 + 16 * n) b) (fit-drop 1 (20 + 16 * n) b g);
-    worsts = fit-each 2 (worstMarks form) 8 (curveBytes form) k (drop (20 + 16 * n) b) (fit-drop 1 (20 + 16 * n) b g);
-    curves = fit-each 8 (width form) (numbersAt form) (curveBytes form) k (drop (20 + 16 * n) b) (fit-drop 1 (20 + 16 * n) b g);
-    params = fit-row 8 (paramsFor n k) (drop (20 + 16 * n + curveBytes form * k + 6) b) (fit-drop 1 (20 + 16 * n + curveBytes form * k + 6) b g);
+    firsts = fit-each (markField (fieldFor n)) 1 6 (curveBytes form (fieldFor n)) k (drop (20 + 16 * n) b) (fit-drop 1 (20 + 16 * n) b g);
+    worsts = fit-each (markField (fieldFor n)) (worstMarks form) (6 + markField (fieldFor n)) (curveBytes form (fieldFor n)) k (drop (20 + 16 * n) b) (fit-drop 1 (20 + 16 * n) b g);
+    curves = fit-each 8 (width form) (numbersAt form (fieldFor n)) (curveBytes form (fieldFor n)) k (drop (20 + 16 * n) b) (fit-drop 1 (20 + 16 * n) b g);
+    params = fit-row 8 (paramsFor n k) (drop (20 + 16 * n + curveBytes form (fieldFor n) * k + 6) b) (fit-drop 1 (20 + 16 * n + curveBytes form (fieldFor n) * k + 6) b g);
   }
 
   few-at : {n : ℕ} → Started b n → 2 + 16 * n < 256 ^ 4
@@ -69,12 +69,12 @@ module _ (b : List ℕ) (g : allFit 1 b ≡ true) where
     abbrev rest : List ℕ
     rest =
         flat
-        (fitRecords form (firstsOf form k (drop (20 + 16 * n) b)) (worstsOf form k (drop (20 + 16 * n) b)) (curvesOf form k (drop (20 + 16 * n) b)) (words (paramsFor n k) (drop (20 + 16 * n + curveBytes form * k + 6) b)))
+        (fitRecords form (fieldFor n) (firstsOf form (fieldFor n) k (drop (20 + 16 * n) b)) (worstsOf form (fieldFor n) k (drop (20 + 16 * n) b)) (curvesOf form (fieldFor n) k (drop (20 + 16 * n) b)) (words (paramsFor n k) (drop (20 + 16 * n + curveBytes form (fieldFor n) * k + 6) b)))
 
     -- the curves and kind 4
     end-held : Ended b form n k → rest ≡ drop (20 + 16 * n) b
     end-held f =
-        let S : ℕ = curveBytes form in
+        let S : ℕ = curveBytes form (fieldFor n) in
         let at : ℕ = 20 + 16 * n in
         let last : ℕ = at + S * k in
         let d : List ℕ = drop at b in
@@ -88,20 +88,24 @@ module _ (b : List ℕ) (g : allFit 1 b ≡ true) where
         framed-front (drop last b) 4 (2 + 8 * n) (les (words n t)) [] (fit-drop 1 last b g) (simp length-drop (omega (arith, f .size))) z (head-at last (f .head4)) (b4 ∙ sym j6) in
         let jl : drop (S * k) d ≡ drop last b = drop-drop (S * k) at b in
         let r : framed (rec 4 (les (words n t))) ≡ drop (S * k) d = sym (append-nil (framed (rec 4 (les (words n t))))) ∙ r4 ∙ sym jl in
-        let i : flat (curveRecords form (firstsOf form k d) (worstsOf form k d) (curvesOf form k d)) ++ drop (S * k) d ≡ d =
-        curves-front form k d (fit-drop 1 at b g) (simp length-drop (omega (arith, f .size))) (f .heads) in
-        rw (eq, rest-some form (firstsOf form k d) (worstsOf form k d) (curvesOf form k d) (words n t) (rw (length-firsts form k d) (f .some)), r) i
+        let i : flat (curveRecords form (fieldFor n) (firstsOf form (fieldFor n) k d) (worstsOf form (fieldFor n) k d) (curvesOf form (fieldFor n) k d)) ++ drop (S * k) d ≡ d =
+        curves-front form (fieldFor n) k d (fit-drop 1 at b g) (simp length-drop (omega (arith, f .size))) (f .heads) in
+        rw (eq, rest-some form (fieldFor n) (firstsOf form (fieldFor n) k d) (worstsOf form (fieldFor n) k d) (curvesOf form (fieldFor n) k d) (words n t) (rw (length-firsts form (fieldFor n) k d) (f .some)), r) i
+
+    -- the bytes of what stands there
+    bytes-at : bytesOf (fileAt b form n k) ≡ framed (rec 1 (le 8 (num 8 b 6))) ++ (framed (rec 2 (les (words (2 * n) (drop 20 b)))) ++ rest)
+    bytes-at = bytes-are (fileAt b form n k) ∙ rw (field-is (sized-at b form n k))
 
     -- the law
     pub held : Laid b form n k → Holds b (fileAt b form n k)
     held (plain s z f e) =
         let r : rest ≡ drop (20 + 16 * n) b =
-        rest-none form (firstsOf form k (drop (20 + 16 * n) b)) _ _ _ (length-firsts form k (drop (20 + 16 * n) b) ∙ e) ∙ sym (drop-of-length-le b {i = 20 + 16 * n} (omega arith)) in
+        rest-none form (fieldFor n) (firstsOf form (fieldFor n) k (drop (20 + 16 * n) b)) _ _ _ (length-firsts form (fieldFor n) k (drop (20 + 16 * n) b) ∙ e) ∙ sym (drop-of-length-le b {i = 20 + 16 * n} (omega arith)) in
         record {
           formed = forming (record { sized = sized-at b form n k; way = Turn.plain f e; few = few-at s; fit = fit-at form n k });
-          bytes = bytes-are (fileAt b form n k) ∙ start-held n _ s (omega arith) r;
+          bytes = bytes-at ∙ start-held n _ s (omega arith) r;
         }
     held (full s f) = record {
       formed = forming (record { sized = sized-at b form n k; way = Turn.full (f .some) (f .few); few = few-at s; fit = fit-at form n k });
-      bytes = bytes-are (fileAt b form n k) ∙ start-held n _ s (omega (arith, f .size)) (end-held f);
+      bytes = bytes-at ∙ start-held n _ s (omega (arith, f .size)) (end-held f);
     }

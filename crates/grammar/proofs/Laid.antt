@@ -10,11 +10,11 @@ use lib.Seq.{drop-drop}
 use Rattle.float.proofs.Truth.{both}
 use Rattle.form.specs.declared.Form.{Form}
 use Rattle.form.specs.declared.Form.the-variants.{Eight}
-use Rattle.house.specs.Limits.{curveKind, curveBytes}
+use Rattle.house.specs.Limits.{fieldFor, curveKind, curveBytes}
 use Rattle.house.specs.Bytes.{val, num}
 use Rattle.house.specs.Held.{marksHeld, formOf, formHeld, curvesHeld, fileAt, candidate}
 use Rattle.house.specs.Layout.{startsWith, curvesLead, endsWith}
-use Rattle.house.proofs.Forms.{records-of, form-is}
+use Rattle.house.proofs.Forms.{records-of, form-is, form-none}
 use Rattle.house.proofs.Numbers.{split}
 use Rattle.grammar.proofs.Records.{Head, head-out, head-in}
 use Rattle.grammar.proofs.Curves.{lead-kind}
@@ -35,11 +35,11 @@ starting {b} {n} s = both _ _ (head-in b 0 10 1 (s .head1)) (head-in b 14 (2 + 1
 
 -- k curves and kind 4 fill the rest
 pub record Ended (b : List ℕ) (form : Form) (n k : ℕ) : Type 0 where
-  pub size : length b ≡ 20 + 16 * n + curveBytes form * k + 6 + 8 * n
+  pub size : length b ≡ 20 + 16 * n + curveBytes form (fieldFor n) * k + 6 + 8 * n
   pub some : 0 < k
   pub few : k < n
-  pub heads : curvesLead form k (drop (20 + 16 * n) b) ≡ true
-  pub head4 : Head b (20 + 16 * n + curveBytes form * k) (2 + 8 * n) 4
+  pub heads : curvesLead form (fieldFor n) k (drop (20 + 16 * n) b) ≡ true
+  pub head4 : Head b (20 + 16 * n + curveBytes form (fieldFor n) * k) (2 + 8 * n) 4
 
 pub ended : (b : List ℕ) (form : Form) (n k : ℕ) → endsWith b form n k ≡ true → Ended b form n k
 unfolding endsWith
@@ -53,13 +53,13 @@ ended b form n k h =
       some = ltb-true _ _ (h1 .0);
       few = ltb-true _ _ (h2 .0);
       heads = h3 .0;
-      head4 = head-out b (20 + 16 * n + curveBytes form * k) (2 + 8 * n) 4 (h3 .1);
+      head4 = head-out b (20 + 16 * n + curveBytes form (fieldFor n) * k) (2 + 8 * n) 4 (h3 .1);
     }
 
 pub ending : {b : List ℕ} {form : Form} {n k : ℕ} → Ended b form n k → endsWith b form n k ≡ true
 unfolding endsWith
 ending {b} {form} {n} {k} s =
-    both _ _ (eq-eqb _ _ (s .size)) (both _ _ (lt-ltb 0 k (s .some)) (both _ _ (lt-ltb k n (s .few)) (both _ _ (s .heads) (head-in b (20 + 16 * n + curveBytes form * k) (2 + 8 * n) 4 (s .head4)))))
+    both _ _ (eq-eqb _ _ (s .size)) (both _ _ (lt-ltb 0 k (s .some)) (both _ _ (lt-ltb k n (s .few)) (both _ _ (s .heads) (head-in b (20 + 16 * n + curveBytes form (fieldFor n) * k) (2 + 8 * n) 4 (s .head4)))))
 
 -- the whole: n marks and nothing more, or k curves too
 pub data Laid (b : List ℕ) (form : Form) (n k : ℕ) : Type 0 where
@@ -81,19 +81,19 @@ laid-marks (full s d) = omega (arith, s .head2 .size-is)
 
 -- behind the last byte there is no kind
 pub no-kind : (b : List ℕ) (n : ℕ) → length b ≡ 20 + 16 * n → formHeld b n ≡ Eight
-unfolding formOf val
-no-kind b n z = let d : drop (20 + 16 * n + 4) b ≡ [] = drop-of-length-le b {i = 20 + 16 * n + 4} (omega arith) in rw d
+unfolding val
+no-kind b n z = let d : drop (20 + 16 * n + 4) b ≡ [] = drop-of-length-le b {i = 20 + 16 * n + 4} (omega arith) in rw d (form-none (fieldFor n))
 
 pub laid-form : {b : List ℕ} {form : Form} {n k : ℕ} → Laid b form n k → formHeld b n ≡ form
 laid-form {b} {form} {n} {k} (plain s z f e) = no-kind b n z ∙ sym f
 laid-form {b} {form} {n} {k} (full s d) =
     let j : drop 4 (drop (20 + 16 * n) b) ≡ drop (20 + 16 * n + 4) b = drop-drop 4 (20 + 16 * n) b in
-    let t : num 2 b (20 + 16 * n + 4) ≡ curveKind form = rw j at (lead-kind form k (drop (20 + 16 * n) b) (d .some) (d .heads)) in
-    ap formOf t ∙ form-is form
+    let t : num 2 b (20 + 16 * n + 4) ≡ curveKind form (fieldFor n) = rw j at (lead-kind form (fieldFor n) k (drop (20 + 16 * n) b) (d .some) (d .heads)) in
+    ap (formOf (fieldFor n)) t ∙ form-is form (fieldFor n)
 
 pub laid-curves : {b : List ℕ} {form : Form} {n k : ℕ} → Laid b form n k → curvesHeld b form n ≡ k
-laid-curves {b} {form} {n} {k} (plain s z f e) = records-of form k _ (rw e (omega arith))
-laid-curves {b} {form} {n} {k} (full s d) = records-of form k _ (omega (arith, d .size))
+laid-curves {b} {form} {n} {k} (plain s z f e) = records-of form (fieldFor n) k _ (rw e (omega arith))
+laid-curves {b} {form} {n} {k} (full s d) = records-of form (fieldFor n) k _ (omega (arith, d .size))
 
 pub laid-candidate : {b : List ℕ} {form : Form} {n k : ℕ} → Laid b form n k → candidate b ≡ fileAt b form n k
 unfolding candidate

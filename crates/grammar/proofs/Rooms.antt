@@ -9,7 +9,7 @@ use lib.ListN.{length}
 use Rattle.float.proofs.Truth.{both}
 use Rattle.form.specs.declared.Form.{Form}
 use Rattle.form.specs.Form.{width, worstsFor}
-use Rattle.house.specs.Limits.{curveBytes}
+use Rattle.house.specs.Limits.{fieldFor, curveBytes}
 use Rattle.house.specs.File.{paramsFor}
 use Rattle.house.specs.Slices.{room}
 use Rattle.house.specs.Layout.{Room, sizeFor}
@@ -20,7 +20,7 @@ use Rattle.grammar.proofs.Formed.{params-some}
 pub size-none : (form : Form) (n : ℕ) {k : ℕ} → k ≡ 0 → sizeFor form n k ≡ 20 + 16 * n
 size-none form n {k} e = rw (eq-eqb k 0 e)
 
-pub size-some : (form : Form) (n : ℕ) {k : ℕ} → 0 < k → sizeFor form n k ≡ 20 + 16 * n + curveBytes form * k + 6 + 8 * n
+pub size-some : (form : Form) (n : ℕ) {k : ℕ} → 0 < k → sizeFor form n k ≡ 20 + 16 * n + curveBytes form (fieldFor n) * k + 6 + 8 * n
 size-some form n {k} h = rw (ne-eqb k 0 (λ e. omega arith))
 
 -- places in the slices
@@ -51,7 +51,7 @@ module _ {form : Form} {n k : ℕ} {b M P W C Q : List ℕ} (r : Room form n k b
       go zero h = h
       go (suc k) h = omega (arith, size-some form n {k = suc k} (omega arith))
 
-  pub room-whole : 0 < k → 20 + 16 * n + curveBytes form * k + 6 + 8 * n ≤ length b
+  pub room-whole : 0 < k → 20 + 16 * n + curveBytes form (fieldFor n) * k + 6 + 8 * n ≤ length b
   room-whole h = omega (arith, size-some form n h, r .bytes)
 
   pub room-params : 0 < k → n ≤ length Q

@@ -1,5 +1,5 @@
 -- What each way through the search for a layout answers. Assumes nothing.
-use mathlib.Core.Path.{_≡_, refl}
+use mathlib.Core.Path.{_≡_, refl, sym}
 use mathlib.Core.Bool.{Bool, true, false, cond}
 use mathlib.Core.List.{List}
 use Prim.Native.Nat.{ℕ, _+_, _*_, _<_}
@@ -8,9 +8,10 @@ use borrow.Author.Tests.{eq-eqb, lt-ltb}
 use lib.ListN.{length, drop}
 use Rattle.float.proofs.Truth.{not-so}
 use Rattle.form.specs.declared.Form.{Form}
-use Rattle.house.specs.Limits.{curveKind, bodyBytes, curveBytes}
-use Rattle.house.specs.Bytes.{allFit}
-use Rattle.house.specs.Held.{marksHeld, formHeld, curvesHeld, isFile}
+use Rattle.house.specs.declared.sizes.Field.{Field}
+use Rattle.house.specs.Limits.{fieldFor, curveKind, bodyBytes, curveBytes}
+use Rattle.house.specs.Bytes.{num, allFit}
+use Rattle.house.specs.Held.{marksHeld, formOf, formHeld, curvesHeld, isFile}
 use Rattle.house.specs.Layout.{headAt, recordsLead, curvesLead, endsWith}
 use Rattle.heads.specs.declared.Layout.the-variants as layout
 use Rattle.heads.specs.Layout.{counts, layoutOf}
@@ -50,15 +51,19 @@ untold b e = go (isFile b) refl e
     go true h q = let z : _≡_ {A = ℕ} 0 1 = cc in absurd (omega arith)
     go false h q = h
 
--- the tests at the end, with the body's length and the kind as they were worked out
-pub leads-by : (form : Form) (k : ℕ) (d : List ℕ) {r t : ℕ} → r ≡ bodyBytes form → t ≡ curveKind form → curvesLead form k d ≡ true → recordsLead r t k d ≡ true
-leads-by form k d er et h = rw (er, et) h
+-- the form, with the field and the kind as they were read
+pub form-by : (b : List ℕ) (n : ℕ) {field : Field} {kind : ℕ} {form : Form} → field ≡ fieldFor n → kind ≡ num 2 b (20 + 16 * n + 4) → form ≡ formOf field kind → formHeld b n ≡ form
+form-by b n ef ek e = sym (rw (ef, ek) at e)
 
-pub ends-by : (b : List ℕ) (form : Form) (n k : ℕ) {r t : ℕ} → r ≡ bodyBytes form → t ≡ curveKind form
+-- the tests at the end, with the body's length and the kind as they were worked out
+pub leads-by : (form : Form) (field : Field) (k : ℕ) (d : List ℕ) {r t : ℕ} → r ≡ bodyBytes form field → t ≡ curveKind form field → curvesLead form field k d ≡ true → recordsLead r t k d ≡ true
+leads-by form field k d er et h = rw (er, et) h
+
+pub ends-by : (b : List ℕ) (form : Form) (n k : ℕ) {r t : ℕ} → r ≡ bodyBytes form (fieldFor n) → t ≡ curveKind form (fieldFor n)
     → length b ≡ 20 + 16 * n + (6 + r) * k + 6 + 8 * n → 0 < k → k < n → recordsLead r t k (drop (20 + 16 * n) b) ≡ true
     → headAt b (20 + 16 * n + (6 + r) * k) (2 + 8 * n) 4 ≡ endsWith b form n k
 unfolding endsWith
 ends-by b form n k er et z some few h =
-    let z′ : length b ≡ 20 + 16 * n + curveBytes form * k + 6 + 8 * n = rw er at z in
-    let h′ : curvesLead form k (drop (20 + 16 * n) b) ≡ true = rw (er, et) at h in
-    rw er (simp (eq-eqb (length b) (20 + 16 * n + curveBytes form * k + 6 + 8 * n) z′, lt-ltb 0 k some, lt-ltb k n few, h′))
+    let z′ : length b ≡ 20 + 16 * n + curveBytes form (fieldFor n) * k + 6 + 8 * n = rw er at z in
+    let h′ : curvesLead form (fieldFor n) k (drop (20 + 16 * n) b) ≡ true = rw (er, et) at h in
+    rw er (simp (eq-eqb (length b) (20 + 16 * n + curveBytes form (fieldFor n) * k + 6 + 8 * n) z′, lt-ltb 0 k some, lt-ltb k n few, h′))

@@ -1,4 +1,4 @@
-// How a house file is laid out. Three things settle where everything stands: the length of kind 2 gives the marks, the kind of the record behind
+// How a house file is laid out. Three things settle where everything stands: the length of kind 2 gives the marks, and they the bytes of a mark number; the kind of the record behind
 // them how curves are stored, and the length of the whole how many there are. So the heads are tested at fixed places.
 use form::Form;
 use house::bytes::four;
@@ -69,7 +69,8 @@ fn ends_with(b: &[u8], form: Form, n: usize, k: usize) -> bool
     requires { ⌜ paramsAt form n k + numberField * n ≤ length (now b) ⌝ }
     ensures { λ r. ⌜ r ≡ endsWith (now (b .entry)) form n k ⌝ }
 {
-    let body = sizes::body_bytes(form);
+    let field = sizes::field_for(n);
+    let body = sizes::body_bytes(form, field);
     let end = sizes::MARKS_AT + sizes::MARK_BYTES * n;
     let last = end + (sizes::HEAD_BYTES + body) * k;
     if b.len() != last + sizes::HEAD_BYTES + sizes::NUMBER_FIELD * n {
@@ -81,7 +82,7 @@ fn ends_with(b: &[u8], form: Form, n: usize, k: usize) -> bool
     if n <= k {
         return false;
     }
-    if records_lead(b, end, body, sizes::curve_kind(form), k) {
+    if records_lead(b, end, body, sizes::curve_kind(form, field), k) {
         let size = sizes::KIND_FIELD + sizes::NUMBER_FIELD * n;
         return has_head(b, last, size as u64, sizes::PARAMS_KIND);
     }
@@ -110,8 +111,9 @@ pub fn find_layout(b: &[u8]) -> Layout
         if len < least {
             return Layout::Broken;
         }
-        let form = sizes::form_of(two(b, end + sizes::LENGTH_FIELD));
-        let k = (len - least) / (sizes::HEAD_BYTES + sizes::body_bytes(form));
+        let field = sizes::field_for(n);
+        let form = sizes::form_of(field, two(b, end + sizes::LENGTH_FIELD));
+        let k = (len - least) / (sizes::HEAD_BYTES + sizes::body_bytes(form, field));
         if ends_with(b, form, n, k) {
             return Layout::Counts {
                 form,

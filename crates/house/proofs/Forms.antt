@@ -1,23 +1,52 @@
--- What holds of either form. Assumes nothing.
+-- What holds of either form, and of mark numbers of either length. Assumes nothing.
 use mathlib.Core.Path.{_≡_, refl}
-use mathlib.Core.Bool.{true}
+use mathlib.Core.Bool.{Bool, true, false, cond}
 use Prim.Native.Nat.{ℕ, zero, suc, _+_, _*_, _/_, _^_, _<_, _≤_}
 use native.Mathlib.Nat.{mul-le-mul-left}
 use native.Mathlib.Omega.{arith}
-use borrow.Author.Tests.{lt-ltb, ne-eqb}
+use borrow.Author.Tests.{leb-true, le-leb, lt-ltb, ne-eqb}
+use lib.Dec.{leb}
 use Rattle.form.specs.declared.Form.{Form}
 use Rattle.form.specs.declared.Form.the-variants.{Eight, Nine}
 use Rattle.form.specs.Form.{width, worstsFor}
-use Rattle.house.specs.Limits.{worstMarks, curveKind, bodyBytes, curveBytes}
+use Rattle.limits.specs.Limits.{mostMarks}
+use Rattle.house.specs.declared.sizes.Field.{Field}
+use Rattle.house.specs.declared.sizes.Field.the-variants.{Two, Four}
+use Rattle.house.specs.Limits.{mostSmall, fieldFor, markField, worstMarks, curveKind, besideBytes, bodyBytes, curveBytes}
 use Rattle.house.specs.File.{suits, formFor}
 use Rattle.house.specs.Held.{formOf, paramsAt}
 use Rattle.house.specs.Layout.{sizeFor}
 
 -- ---- sizes
 
-pub body-few : (form : Form) → bodyBytes form ≤ 76
-body-few Eight = omega arith
-body-few Nine = omega arith
+pub field-few : (field : Field) → markField field ≤ 4
+field-few Two = omega arith
+field-few Four = omega arith
+
+pub body-few : (form : Form) (field : Field) → bodyBytes form field ≤ 80
+body-few Eight Two = omega arith
+body-few Eight Four = omega arith
+body-few Nine Two = omega arith
+body-few Nine Four = omega arith
+
+-- a mark number, and one for each that is kept, are within a record
+pub beside-few : (form : Form) (field : Field) → besideBytes form field ≤ 8
+beside-few Eight Two = omega arith
+beside-few Eight Four = omega arith
+beside-few Nine Two = omega arith
+beside-few Nine Four = omega arith
+
+pub field-within : (form : Form) (field : Field) → markField field ≤ besideBytes form field
+field-within Eight Two = omega arith
+field-within Eight Four = omega arith
+field-within Nine Two = omega arith
+field-within Nine Four = omega arith
+
+pub beside-within : (form : Form) (field : Field) → 2 * markField field ≤ bodyBytes form field
+beside-within Eight Two = omega arith
+beside-within Eight Four = omega arith
+beside-within Nine Two = omega arith
+beside-within Nine Four = omega arith
 
 pub width-some : (form : Form) → 0 < width form
 width-some Eight = omega arith
@@ -33,22 +62,45 @@ curves-under Eight k c h = omega arith
 curves-under Nine k c h = omega arith
 
 -- the bytes of k curves, divided into records
-pub records-under : (form : Form) (x : ℕ) → curveBytes form * (x / curveBytes form) ≤ x
-records-under Eight x = omega arith
-records-under Nine x = omega arith
+pub records-under : (form : Form) (field : Field) (x : ℕ) → curveBytes form field * (x / curveBytes form field) ≤ x
+records-under Eight Two x = omega arith
+records-under Eight Four x = omega arith
+records-under Nine Two x = omega arith
+records-under Nine Four x = omega arith
 
-pub records-of : (form : Form) (k x : ℕ) → x ≡ curveBytes form * k → x / curveBytes form ≡ k
-records-of Eight k x e = omega arith
-records-of Nine k x e = omega arith
+pub records-of : (form : Form) (field : Field) (k x : ℕ) → x ≡ curveBytes form field * k → x / curveBytes form field ≡ k
+records-of Eight Two k x e = omega arith
+records-of Eight Four k x e = omega arith
+records-of Nine Two k x e = omega arith
+records-of Nine Four k x e = omega arith
 
 -- slices that can be lent keep a file's size in a number
-pub size-few : (form : Form) (n k c : ℕ) → width form * k ≤ c → n ≤ 4096 → 8 * c < 2 ^ 63 → paramsAt form n k + 8 * n < 2 ^ 64
-size-few Eight n k c h few g = omega arith
-size-few Nine n k c h few g = omega arith
+curves-few : (form : Form) (field : Field) (k c : ℕ) → width form * k ≤ c → curveBytes form field * k ≤ 10 * c
+curves-few Eight Two k c h = omega arith
+curves-few Eight Four k c h = omega arith
+curves-few Nine Two k c h = omega arith
+curves-few Nine Four k c h = omega arith
+
+pub size-few : (form : Form) (n k c : ℕ) → width form * k ≤ c → n ≤ mostMarks → 8 * c < 2 ^ 63 → paramsAt form n k + 8 * n < 2 ^ 64
+size-few form n k c h few g = omega (arith, curves-few form (fieldFor n) k c h)
 
 -- a record is within those of which it is one
 pub within : (step k i : ℕ) → i < k → step * i + step ≤ step * k
 within step k i h = let m : step * (i + 1) ≤ step * k = mul-le-mul-left step (omega arith) in omega arith
+
+-- ---- the number of a mark fits the field that goes with so many marks
+
+pub small-field : (n : ℕ) → n ≤ mostSmall → fieldFor n ≡ Two
+unfolding fieldFor
+small-field n h = rw (le-leb n mostSmall h)
+
+pub number-fits : (n x : ℕ) → x < n → n ≤ mostMarks → x < 256 ^ markField (fieldFor n)
+unfolding fieldFor
+number-fits n x h m = go (leb n mostSmall) refl
+  where
+    go : (b : Bool) → leb n mostSmall ≡ b → x < 256 ^ markField (cond (leb n mostSmall) Two Four)
+    go true e = let s : n ≤ mostSmall = leb-true _ _ e in rw e (omega arith)
+    go false e = rw e (omega arith)
 
 -- ---- worst marks: as many in each record
 
@@ -62,14 +114,24 @@ worsts-within Nine k i h = omega arith
 
 -- ---- kinds
 
-pub kind-few : (form : Form) → curveKind form ≤ 6
-kind-few Eight = omega arith
-kind-few Nine = omega arith
+pub kind-few : (form : Form) (field : Field) → curveKind form field ≤ 7
+kind-few Eight Two = omega arith
+kind-few Eight Four = omega arith
+kind-few Nine Two = omega arith
+kind-few Nine Four = omega arith
 
-pub form-is : (form : Form) → formOf (curveKind form) ≡ form
+pub form-is : (form : Form) (field : Field) → formOf field (curveKind form field) ≡ form
 unfolding formOf
-form-is Eight = refl
-form-is Nine = refl
+form-is Eight Two = refl
+form-is Eight Four = refl
+form-is Nine Two = refl
+form-is Nine Four = refl
+
+-- no record has kind 0
+pub form-none : (field : Field) → formOf field 0 ≡ Eight
+unfolding formOf
+form-none Two = refl
+form-none Four = refl
 
 -- ---- a file without curves
 

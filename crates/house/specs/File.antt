@@ -8,7 +8,8 @@ use lib.ListN.{length, take, drop}
 use Rattle.form.specs.declared.Form.{Form}
 use Rattle.form.specs.declared.Form.the-variants.{Eight, Nine}
 use Rattle.form.specs.Form.{width, worstsFor}
-use Rattle.house.specs.Limits.{lengthField, kindField, markField, numberField, markNumbers, worstMarks, toleranceKind, marksKind, curveKind, paramsKind}
+use Rattle.house.specs.declared.sizes.Field.{Field}
+use Rattle.house.specs.Limits.{lengthField, kindField, fieldFor, markField, numberField, markNumbers, worstMarks, toleranceKind, marksKind, curveKind, paramsKind}
 use Rattle.house.specs.Bytes.{le, rowBytes, les, fits, allFit}
 
 -- ---- records
@@ -41,36 +42,40 @@ pub record File : Type 0 where
   pub curves : List ℕ
   pub params : List ℕ
 
--- a curve's body: its first mark, the next worst mark where one is kept, the next numbers
-abbrev pub bodyOf : Form → ℕ → List ℕ → List ℕ → List ℕ
-bodyOf form p W C = le markField p ++ (rowBytes markField (take (worstMarks form) W) ++ les (take (width form) C))
-
--- a record for each first mark
-unfoldable pub curveRecords : Form → List ℕ → List ℕ → List ℕ → List Record
-curveRecords form [] W C = []
-curveRecords form (p ∷ P) W C = rec (curveKind form) (bodyOf form p W C) ∷ curveRecords form P (drop (worstMarks form) W) (drop (width form) C)
-
--- what follows the marks: no more, or a record for each curve and one kind 4
-unfoldable pub fitRecords : Form → List ℕ → List ℕ → List ℕ → List ℕ → List Record
-fitRecords form [] W C Q = []
-fitRecords form (p ∷ P) W C Q = curveRecords form (p ∷ P) W C ++ (rec paramsKind (les Q) ∷ [])
-
--- one 1, one 2, and what follows
-unfoldable pub recordsOf : File → List Record
-recordsOf F = rec toleranceKind (le numberField (F .tolerance)) ∷ (rec marksKind (les (F .marks)) ∷ fitRecords (F .form) (F .firsts) (F .worsts) (F .curves) (F .params))
-
--- a file's bytes
-abbrev pub bytesOf : File → List ℕ
-bytesOf F = flat (recordsOf F)
-
--- ---- well formed files
-
 -- how many marks and curves a file has
 abbrev pub marksIn : File → ℕ
 marksIn F = length (F .marks) / markNumbers
 
 abbrev pub curvesIn : File → ℕ
 curvesIn F = length (F .firsts)
+
+-- how many bytes its mark numbers have
+abbrev pub fieldIn : File → Field
+fieldIn F = fieldFor (marksIn F)
+
+-- a curve's body: its first mark, the next worst mark where one is kept, the next numbers
+abbrev pub bodyOf : Form → Field → ℕ → List ℕ → List ℕ → List ℕ
+bodyOf form field p W C = le (markField field) p ++ (rowBytes (markField field) (take (worstMarks form) W) ++ les (take (width form) C))
+
+-- a record for each first mark
+unfoldable pub curveRecords : Form → Field → List ℕ → List ℕ → List ℕ → List Record
+curveRecords form field [] W C = []
+curveRecords form field (p ∷ P) W C = rec (curveKind form field) (bodyOf form field p W C) ∷ curveRecords form field P (drop (worstMarks form) W) (drop (width form) C)
+
+-- what follows the marks: no more, or a record for each curve and one kind 4
+unfoldable pub fitRecords : Form → Field → List ℕ → List ℕ → List ℕ → List ℕ → List Record
+fitRecords form field [] W C Q = []
+fitRecords form field (p ∷ P) W C Q = curveRecords form field (p ∷ P) W C ++ (rec paramsKind (les Q) ∷ [])
+
+-- one 1, one 2, and what follows
+unfoldable pub recordsOf : File → List Record
+recordsOf F = rec toleranceKind (le numberField (F .tolerance)) ∷ (rec marksKind (les (F .marks)) ∷ fitRecords (F .form) (fieldIn F) (F .firsts) (F .worsts) (F .curves) (F .params))
+
+-- a file's bytes
+abbrev pub bytesOf : File → List ℕ
+bytesOf F = flat (recordsOf F)
+
+-- ---- well formed files
 
 -- no curves, or fewer than marks
 abbrev pub fewer : ℕ → ℕ → Bool
@@ -100,8 +105,8 @@ wellFormed F =
     && (fits lengthField (kindField + length (les (F .marks)))
     && (fits numberField (F .tolerance)
     && (allFit numberField (F .marks)
-    && (allFit markField (F .firsts)
-    && (allFit markField (F .worsts)
+    && (allFit (markField (fieldIn F)) (F .firsts)
+    && (allFit (markField (fieldIn F)) (F .worsts)
     && (allFit numberField (F .curves)
     && allFit numberField (F .params))))))))))))
 

@@ -7,7 +7,8 @@ use lib.Dec.{eqb, ltb}
 use lib.ListN.{length, drop}
 use Rattle.form.specs.declared.Form.{Form}
 use Rattle.form.specs.Form.{width, worstsFor}
-use Rattle.house.specs.Limits.{lengthField, kindField, numberField, markNumbers, headBytes, markBytes, bodyBytes, curveBytes, marksHead, toleranceKind, marksKind, curveKind, paramsKind}
+use Rattle.house.specs.declared.sizes.Field.{Field}
+use Rattle.house.specs.Limits.{lengthField, kindField, fieldFor, numberField, markNumbers, headBytes, markBytes, bodyBytes, curveBytes, marksHead, toleranceKind, marksKind, curveKind, paramsKind}
 use Rattle.house.specs.Bytes.{num}
 use Rattle.house.specs.File.{File, paramsFor}
 use Rattle.house.specs.Held.{marksEnd, paramsAt}
@@ -26,8 +27,8 @@ unfoldable pub recordsLead : ℕ → ℕ → ℕ → List ℕ → Bool
 recordsLead body kind zero b = true
 recordsLead body kind (suc k) b = headAt b 0 (kindField + body) kind && recordsLead body kind k (drop (headBytes + body) b)
 
-abbrev pub curvesLead : Form → ℕ → List ℕ → Bool
-curvesLead form k b = recordsLead (bodyBytes form) (curveKind form) k b
+abbrev pub curvesLead : Form → Field → ℕ → List ℕ → Bool
+curvesLead form field k b = recordsLead (bodyBytes form field) (curveKind form field) k b
 
 -- behind n marks k curves, above none and fewer than marks, and kind 4 up to the end
 unfoldable pub endsWith : List ℕ → Form → ℕ → ℕ → Bool
@@ -35,8 +36,8 @@ endsWith b form n k =
     eqb (length b) (paramsAt form n k + numberField * n)
     && (ltb 0 k
     && (ltb k n
-    && (curvesLead form k (drop (marksEnd n) b)
-    && headAt b (marksEnd n + curveBytes form * k) (kindField + numberField * n) paramsKind)))
+    && (curvesLead form (fieldFor n) k (drop (marksEnd n) b)
+    && headAt b (marksEnd n + curveBytes form (fieldFor n) * k) (kindField + numberField * n) paramsKind)))
 
 -- how many bytes a file of n marks and k curves has
 abbrev pub sizeFor : Form → ℕ → ℕ → ℕ

@@ -1,10 +1,11 @@
 // Little-endian numbers in bytes, read and written.
 use super::sizes;
+use super::sizes::Field;
 ghost use mathlib.Core.Path.{_≡_};
 ghost use Prim.Native.Nat.{_+_, _*_, _^_, _<_, _≤_};
 ghost use lib.ListN.{length, take, drop};
 ghost use lib.Seq.{sets};
-ghost use Rattle.house.specs.Limits.{numberField};
+ghost use Rattle.house.specs.Limits.{markField, numberField};
 ghost use Rattle.house.specs.Bytes.{num, words, le, les};
 ghost use Rattle.float.specs.Slices.{written};
 
@@ -33,6 +34,17 @@ pub fn four(b: &[u8], at: usize) -> u64
     let low = two(b, at);
     let high = two(b, at + 2);
     low + 0x1_0000 * high
+}
+
+// The mark number at `at`.
+pub fn mark_number(b: &[u8], at: usize, field: Field) -> u64
+    requires { ⌜ at + markField field ≤ length (now b) ⌝ }
+    ensures { λ r. ⌜ (r ≡ num (markField field) (now (b .entry)) at) × (r < 2 ^ 32) ⌝ }
+{
+    match field {
+        Field::Two => two(b, at),
+        Field::Four => four(b, at),
+    }
 }
 
 // The number in the eight bytes at `at`.
@@ -73,6 +85,17 @@ pub fn put_four(out: &mut [u8], at: usize, x: u64)
 {
     put_two(out, at, x);
     put_two(out, at + 2, x / 0x1_0000);
+}
+
+// The mark number x, at `at`.
+pub fn put_mark(out: &mut [u8], at: usize, field: Field, x: u64)
+    requires { ⌜ at + markField field ≤ length (now out) ⌝ }
+    ensures { λ _. ⌜ now (out .exit) ≡ sets (now (out .entry)) at (le (markField field) x) ⌝ }
+{
+    match field {
+        Field::Two => put_two(out, at, x),
+        Field::Four => put_four(out, at, x),
+    }
 }
 
 // The eight bytes of x, at `at`.

@@ -1,9 +1,10 @@
-// The house file and its listing over kept files. A record on standard input is eight words of eight bytes and then a file's bytes: what to
-// do, how many bytes the file has, and the room for marks, first marks, worst marks, curves, parameters and bytes.
+// The house file and its listing over kept files. A record on standard input is thirteen words of eight bytes and then a file's bytes: what to
+// do, the file in three runs, and the room for marks, first marks, worst marks, curves, parameters and bytes. A run is so many bytes that are given, and so many zeros
+// behind them: a file of 100,001 marks is then a few heads.
 //
 // 0 lists the file, and writes the text, or 4 where there is no room for it. 1 reads the file and writes it again: 0, the marks, the curves, and
 // the writer's 0 and bytes, or a refusal in place of either; a line `DIFFERS` follows where the bytes are not the file's. 2 reads every
-// prefix, and 3 every change of one byte: how many were answered with 0, 2, 4 and 9. 4 does as 1, with a first worst mark that its field does not hold.
+// prefix, and 3 every change of one of the bytes that are given: how many were answered with 0, 2, 4 and 9. 4 does as 1, with a first worst mark that two bytes do not hold, and 5 with such a first first mark.
 ghost use Prim.Native.Nat.{_<_};
 ghost use lib.ListN.{length};
 use cases::parts::front_bytes;
@@ -18,14 +19,26 @@ use lines::Listed;
 use reader::Read;
 use writer::Wrote;
 
-// The room for a file and for text, for marks and curves, for first marks and for parameters.
-const FILE: usize = 163840;
+// The room for a file, for what is written, for marks and curves, for first marks and for parameters. A file of 100,001 marks is only refused: nothing of it is read.
+const FILE: usize = 2400256;
 
-const NUMBERS: usize = 8192;
+const WRITTEN: usize = 163840;
+
+const NUMBERS: usize = 10240;
 
 const FIRSTS: usize = 1024;
 
-const PARAMS: usize = 4096;
+const PARAMS: usize = 5120;
+
+// Where the bytes that are given of a file end, begin and end again twice, and how long it is.
+struct Runs {
+    end: usize,
+    second: usize,
+    second_end: usize,
+    third: usize,
+    third_end: usize,
+    length: usize,
+}
 
 // How often each answer was given.
 struct Tally {
@@ -119,10 +132,23 @@ fn turned(x: u8, d: u64) -> u8 {
     ((x as u64 + d % 256) % 256) as u8
 }
 
-// The other 255 values of the byte at `at`.
+// How many values of the byte at `at` are read: all of them where it is given, and else the one that it has.
+fn values_at(runs: Runs, at: usize) -> u64 {
+    if (at < runs.end)
+        | ((runs.second <= at) & (at < runs.second_end))
+        | ((runs.third <= at) & (at < runs.third_end))
+    {
+        256
+    } else {
+        1
+    }
+}
+
+// The other ones of so many values of the byte at `at`.
 fn change_at(
     file: &mut [u8],
     at: usize,
+    values: u64,
     start: Tally,
     marks: &mut [u64],
     firsts: &mut [u32],
@@ -135,7 +161,7 @@ fn change_at(
     let was = file[at];
     let mut t = start;
     let mut d: u64 = 1;
-    while d < 256 {
+    while d < values {
         file[at] = turned(was, d);
         t = count(t, read_answer(file, marks, firsts, worsts, curves, params));
         d += 1;
@@ -144,8 +170,9 @@ fn change_at(
     t
 }
 
-// Every change of one byte.
+// Every change of one byte that is given.
 fn changes(
+    runs: Runs,
     file: &mut [u8],
     marks: &mut [u64],
     firsts: &mut [u32],
@@ -161,7 +188,8 @@ fn changes(
     };
     let mut i: usize = 0;
     while i < file.len() {
-        t = change_at(file, i, t, marks, firsts, worsts, curves, params);
+        let values = values_at(runs, i);
+        t = change_at(file, i, values, t, marks, firsts, worsts, curves, params);
         i += 1;
     }
     t
@@ -207,19 +235,32 @@ fn print_written(wrote: Wrote, file: &[u8], out: &[u8]) {
     }
 }
 
+// A first number that two bytes do not hold, if it is asked for.
+fn beyond(too_far: bool, beside: &mut [u32]) {
+    if beside.len() == 0 {
+        return;
+    }
+    if too_far {
+        beside[0] = 65536;
+    }
+}
+
 // What the reader found, written again.
 fn write_again(
+    what: u64,
     form: Form,
     tolerance: u64,
     count: usize,
     file: &[u8],
     marks: &[u64],
-    firsts: &[u32],
-    worsts: &[u32],
+    firsts: &mut [u32],
+    worsts: &mut [u32],
     curves: &[u64],
     params: &[u64],
     out: &mut [u8],
 ) {
+    beyond(what == 5, firsts);
+    beyond(what == 4, worsts);
     let wrote = writer::write_file(
         form,
         tolerance,
@@ -240,19 +281,9 @@ fn print_counts(marks: usize, curves: usize) {
     print_next(curves as u64);
 }
 
-// A first worst mark that two bytes do not hold, if it is asked for.
-fn beyond(too_far: bool, worsts: &mut [u32]) {
-    if worsts.len() == 0 {
-        return;
-    }
-    if too_far {
-        worsts[0] = 65536;
-    }
-}
-
 // The file read, and written again.
 fn read_and_write(
-    too_far: bool,
+    what: u64,
     file: &[u8],
     marks: &mut [u64],
     firsts: &mut [u32],
@@ -270,8 +301,8 @@ fn read_and_write(
         } => {
             print_counts(n, k);
             let m = std::num::wrapping_add_usize(n, n);
-            beyond(too_far, worsts);
             write_again(
+                what,
                 form,
                 t,
                 k,
@@ -299,48 +330,67 @@ fn list(file: &[u8], out: &mut [u8]) {
 }
 
 // The word of a record's head that says a length.
-fn length_at(head: &[u8; 64], at: usize) -> usize {
+fn length_at(head: &[u8; 104], at: usize) -> usize {
     cases::word(head, at) as usize
 }
 
+// The runs of a head. Where a sum wraps around, a run's end is before its beginning, and nothing is done with it.
+fn runs_of(head: &[u8; 104]) -> Runs {
+    let end = length_at(head, 8);
+    let second = std::num::wrapping_add_usize(end, length_at(head, 16));
+    let second_end = std::num::wrapping_add_usize(second, length_at(head, 24));
+    let third = std::num::wrapping_add_usize(second_end, length_at(head, 32));
+    let third_end = std::num::wrapping_add_usize(third, length_at(head, 40));
+    Runs {
+        end,
+        second,
+        second_end,
+        third,
+        third_end,
+        length: std::num::wrapping_add_usize(third_end, length_at(head, 48)),
+    }
+}
+
 // Whether there is as much room as a head asks for.
-fn fits(head: &[u8; 64]) -> bool {
-    (length_at(head, 8) <= FILE)
-        & (length_at(head, 16) <= NUMBERS)
-        & (length_at(head, 24) <= FIRSTS)
-        & (length_at(head, 32) <= FIRSTS)
-        & (length_at(head, 40) <= NUMBERS)
-        & (length_at(head, 48) <= PARAMS)
-        & (length_at(head, 56) <= FILE)
+fn fits(head: &[u8; 104]) -> bool {
+    let runs = runs_of(head);
+    (runs.length <= FILE)
+        & (length_at(head, 56) <= NUMBERS)
+        & (length_at(head, 64) <= FIRSTS)
+        & (length_at(head, 72) <= FIRSTS)
+        & (length_at(head, 80) <= NUMBERS)
+        & (length_at(head, 88) <= PARAMS)
+        & (length_at(head, 96) <= WRITTEN)
 }
 
-fn list_record(head: &[u8; 64], file: &[u8]) {
-    let mut out = [0u8; FILE];
-    list(file, lent_bytes(&mut out, length_at(head, 56)));
+fn list_record(head: &[u8; 104], file: &[u8]) {
+    let mut out = [0u8; WRITTEN];
+    list(file, lent_bytes(&mut out, length_at(head, 96)));
 }
 
-fn write_record(too_far: bool, head: &[u8; 64], file: &[u8]) {
+fn write_record(what: u64, head: &[u8; 104], file: &[u8]) {
     let mut marks = [0u64; NUMBERS];
     let mut firsts = [0u32; FIRSTS];
     let mut worsts = [0u32; FIRSTS];
     let mut curves = [0u64; NUMBERS];
     let mut params = [0u64; PARAMS];
-    let mut out = [0u8; FILE];
+    let mut out = [0u8; WRITTEN];
     read_and_write(
-        too_far,
+        what,
         file,
-        lent_words(&mut marks, length_at(head, 16)),
-        lent_firsts(&mut firsts, length_at(head, 24)),
-        lent_firsts(&mut worsts, length_at(head, 32)),
-        lent_words(&mut curves, length_at(head, 40)),
-        lent_words(&mut params, length_at(head, 48)),
-        lent_bytes(&mut out, length_at(head, 56)),
+        lent_words(&mut marks, length_at(head, 56)),
+        lent_firsts(&mut firsts, length_at(head, 64)),
+        lent_firsts(&mut worsts, length_at(head, 72)),
+        lent_words(&mut curves, length_at(head, 80)),
+        lent_words(&mut params, length_at(head, 88)),
+        lent_bytes(&mut out, length_at(head, 96)),
     );
 }
 
 // Prefixes or changes.
 fn tallied(
     what: u64,
+    runs: Runs,
     file: &mut [u8],
     marks: &mut [u64],
     firsts: &mut [u32],
@@ -351,10 +401,10 @@ fn tallied(
     if what == 2 {
         return prefixes(file, marks, firsts, worsts, curves, params);
     }
-    changes(file, marks, firsts, worsts, curves, params)
+    changes(runs, file, marks, firsts, worsts, curves, params)
 }
 
-fn tally_record(what: u64, head: &[u8; 64], file: &mut [u8]) {
+fn tally_record(what: u64, head: &[u8; 104], file: &mut [u8]) {
     let mut marks = [0u64; NUMBERS];
     let mut firsts = [0u32; FIRSTS];
     let mut worsts = [0u32; FIRSTS];
@@ -362,39 +412,69 @@ fn tally_record(what: u64, head: &[u8; 64], file: &mut [u8]) {
     let mut params = [0u64; PARAMS];
     let t = tallied(
         what,
+        runs_of(head),
         file,
-        lent_words(&mut marks, length_at(head, 16)),
-        lent_firsts(&mut firsts, length_at(head, 24)),
-        lent_firsts(&mut worsts, length_at(head, 32)),
-        lent_words(&mut curves, length_at(head, 40)),
-        lent_words(&mut params, length_at(head, 48)),
+        lent_words(&mut marks, length_at(head, 56)),
+        lent_firsts(&mut firsts, length_at(head, 64)),
+        lent_firsts(&mut worsts, length_at(head, 72)),
+        lent_words(&mut curves, length_at(head, 80)),
+        lent_words(&mut params, length_at(head, 88)),
     );
     print_tally(t);
 }
 
 // What a record asks for.
-fn record(head: &[u8; 64], file: &mut [u8]) {
+fn record(head: &[u8; 104], file: &mut [u8]) {
     match cases::word(head, 0) {
         0 => list_record(head, file),
-        1 => write_record(false, head, file),
-        4 => write_record(true, head, file),
+        1 => write_record(1, head, file),
+        4 => write_record(4, head, file),
+        5 => write_record(5, head, file),
         what => tally_record(what, head, file),
     }
 }
 
+// The next bytes of standard input, put from `at` to before `end`.
+fn read_run(file: &mut [u8], at: usize, end: usize) {
+    if end > file.len() {
+        return;
+    }
+    if at > end {
+        return;
+    }
+    io::read_full(STDIN_FILENO, &mut file[at..end]);
+}
+
+fn read_runs(runs: Runs, file: &mut [u8]) {
+    read_run(file, 0, runs.end);
+    read_run(file, runs.second, runs.second_end);
+    read_run(file, runs.third, runs.third_end);
+}
+
+// The file of a head, read and looked at.
+fn read_record(head: &[u8; 104], room: &mut [u8]) {
+    let runs = runs_of(head);
+    let file = lent_bytes(room, runs.length);
+    read_runs(runs, file);
+    record(head, file);
+}
+
+// The same in an array, which is lent as a slice here and not where it is made: there it is too large for the prover.
+fn in_room(head: &[u8; 104], room: &mut [u8; FILE]) {
+    read_record(head, room);
+}
+
 // One record, if there is one with no more than there is room for.
 fn step() -> bool {
-    let mut head = [0u8; 64];
-    if io::read_full(STDIN_FILENO, &mut head) < 64 {
+    let mut head = [0u8; 104];
+    if io::read_full(STDIN_FILENO, &mut head) < 104 {
         return false;
     }
     if !fits(&head) {
         return false;
     }
     let mut file = [0u8; FILE];
-    let lent = lent_bytes(&mut file, length_at(&head, 8));
-    io::read_full(STDIN_FILENO, lent);
-    record(&head, lent);
+    in_room(&head, &mut file);
     true
 }
 

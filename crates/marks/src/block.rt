@@ -8,8 +8,8 @@ pub const MAX_POINTS_TO_FIT: usize = 200;
 
 const MIN_POINTS_TO_FIT: usize = 50;
 
-// The most marks that a fit asks for: a ring of 4,096, whose first mark counts again. Up to here the size goes by the bench's sheet.
-const MAX_POINTS_TO_DIVIDE: usize = 4097;
+// The bench's sheet serves to here, and above it the count-down decides: at 30,049 marks the two part.
+const MAX_POINTS_TO_DIVIDE: usize = 20000;
 
 // The size by the sheet's division. q blocks of 200 leave r marks over; where these are fewer than 50, the blocks give up what is missing, each as many as the next.
 // At 30,049 marks, 150 blocks and 49 over, that would be one mark each, and blocks of 199 leave none over.

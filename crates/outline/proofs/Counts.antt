@@ -9,6 +9,7 @@ use lib.ListN.{length, length-append, length-map}
 use lib.Ieee.{Float, binary64, ofBits}
 use Rattle.float.specs.Answer.{ok}
 use Rattle.float.specs.Answer.{refused as no}
+use Rattle.limits.specs.Limits.{mostMarks}
 use Rattle.marks.specs.Marks.{count}
 use Rattle.marks.specs.Block.{blockSize}
 use Rattle.ring.specs.declared.Outline.the-variants.{Open}
@@ -33,5 +34,5 @@ unfolding fileFit fitOf
 fit-count F C P W Q k e =
     let ms : List Float = floats (F .marks) in
     let t : Float = ofBits binary64 (F .tolerance) in
-    let g : ℕ = gateOf 4096 Open ms t (length C) (length P) (length W) (length Q) in
+    let g : ℕ = gateOf mostMarks Open ms t (length C) (length P) (length W) (length Q) in
     ran (eqb g 0) g (blocksOf Joined ms (blockSize (count ms)) t) C P W Q k e

@@ -9,7 +9,8 @@ use lib.Seq.{drop-drop, take-at, drop-at, take-all}
 use Rattle.form.specs.declared.Form.{Form}
 use Rattle.form.specs.declared.Form.the-variants.{Eight, Nine}
 use Rattle.form.specs.Form.{width, worstsFor}
-use Rattle.house.specs.Limits.{worstMarks, besides, bodyBytes, curveBytes}
+use Rattle.house.specs.declared.sizes.Field.{Field}
+use Rattle.house.specs.Limits.{fieldFor, markField, worstMarks, besideBytes, bodyBytes, curveBytes}
 use Rattle.house.specs.Bytes.{num, row, words}
 use Rattle.house.specs.File.{paramsFor}
 use Rattle.house.specs.Held.{inEach, firstsOf, worstsOf, curvesOf, paramsAt}
@@ -35,12 +36,12 @@ module _ (b : List ℕ) (at p step : ℕ) where
       rw (add-one i, each-suc, drop-drop, e)
 
   -- one mark number more
-  pub marks-turn : (l : List ℕ) (i : ℕ) → i < length l
-      → set (inEach 2 1 p step i (drop at b) ++ drop i l) i (num 2 b (at + step * i + p)) ≡ inEach 2 1 p step (i + 1) (drop at b) ++ drop (i + 1) l
-  marks-turn l i h =
-      let z : length (inEach 2 1 p step i (drop at b)) ≡ i = length-each 2 1 p step i (drop at b) ∙ omega arith in
-      let e : inEach 2 1 p step (i + 1) (drop at b) ≡ inEach 2 1 p step i (drop at b) ++ (num 2 b (at + step * i + p) ∷ []) = each-next 2 1 i ∙ rw row-one in
-      front-suc 0 (inEach 2 1 p step i (drop at b)) l (num 2 b (at + step * i + p)) i z h ∙ ap (λ (r : List ℕ). r ++ drop (i + 1) l) (sym e)
+  pub marks-turn : (f : ℕ) (l : List ℕ) (i : ℕ) → i < length l
+      → set (inEach f 1 p step i (drop at b) ++ drop i l) i (num f b (at + step * i + p)) ≡ inEach f 1 p step (i + 1) (drop at b) ++ drop (i + 1) l
+  marks-turn f l i h =
+      let z : length (inEach f 1 p step i (drop at b)) ≡ i = length-each f 1 p step i (drop at b) ∙ omega arith in
+      let e : inEach f 1 p step (i + 1) (drop at b) ≡ inEach f 1 p step i (drop at b) ++ (num f b (at + step * i + p) ∷ []) = each-next f 1 i ∙ rw row-one in
+      front-suc 0 (inEach f 1 p step i (drop at b)) l (num f b (at + step * i + p)) i z h ∙ ap (λ (r : List ℕ). r ++ drop (i + 1) l) (sym e)
 
   -- the front as it is, and n numbers more
   rows-turn : (n : ℕ) (l m : List ℕ) (i : ℕ) → m ≡ inEach 8 n p step i (drop at b) ++ drop (n * i) l
@@ -79,10 +80,10 @@ unfolding inEach row
 none-each f p step zero b = refl
 none-each f p step (suc k) b = none-each f p step k (drop step b)
 
-worsts-as : (form : Form) (p step k : ℕ) (b : List ℕ) → inEach 2 1 p step (worstsFor form k) b ≡ inEach 2 (worstMarks form) p step k b
+worsts-as : (form : Form) (f p step k : ℕ) (b : List ℕ) → inEach f 1 p step (worstsFor form k) b ≡ inEach f (worstMarks form) p step k b
 unfolding inEach
-worsts-as Eight p step k b = sym (none-each 2 p step k b)
-worsts-as Nine p step k b = refl
+worsts-as Eight f p step k b = sym (none-each f p step k b)
+worsts-as Nine f p step k b = refl
 
 pub worsts-few : (form : Form) (k : ℕ) → worstsFor form k ≤ k
 worsts-few Eight k = omega arith
@@ -90,16 +91,16 @@ worsts-few Nine k = omega arith
 
 -- ---- what is copied, with sizes as they were worked out
 
-module _ (form : Form) (k : ℕ) (d : List ℕ) {r : ℕ} (er : r ≡ bodyBytes form) where
-  pub firsts-by : (P : List ℕ) {P′ : List ℕ} → P′ ≡ written (inEach 2 1 6 (6 + r) k d) P → P′ ≡ written (firstsOf form k d) P
+module _ (form : Form) (field : Field) (k : ℕ) (d : List ℕ) {r : ℕ} (er : r ≡ bodyBytes form field) where
+  pub firsts-by : (P : List ℕ) {P′ : List ℕ} → P′ ≡ written (inEach (markField field) 1 6 (6 + r) k d) P → P′ ≡ written (firstsOf form field k d) P
   firsts-by P h = rw er at h
 
-  pub worsts-by : (W : List ℕ) {m : ℕ} {W′ : List ℕ} → m ≡ worstsFor form k → W′ ≡ written (inEach 2 1 8 (6 + r) m d) W → W′ ≡ written (worstsOf form k d) W
-  worsts-by W em h = let g = rw (er, em) at h in rw (worsts-as form 8 (curveBytes form) k d) at g
+  pub worsts-by : (W : List ℕ) {m s : ℕ} {W′ : List ℕ} → m ≡ worstsFor form k → s ≡ markField field → W′ ≡ written (inEach (markField field) 1 (6 + s) (6 + r) m d) W → W′ ≡ written (worstsOf form field k d) W
+  worsts-by W em es h = let g = rw (er, em, es) at h in rw (worsts-as form (markField field) (6 + markField field) (curveBytes form field) k d) at g
 
-  pub curves-by : (C : List ℕ) {q n : ℕ} {C′ : List ℕ} → q ≡ 2 * besides form → n ≡ width form → C′ ≡ written (inEach 8 n (6 + q) (6 + r) k d) C → C′ ≡ written (curvesOf form k d) C
+  pub curves-by : (C : List ℕ) {q n : ℕ} {C′ : List ℕ} → q ≡ besideBytes form field → n ≡ width form → C′ ≡ written (inEach 8 n (6 + q) (6 + r) k d) C → C′ ≡ written (curvesOf form field k d) C
   curves-by C eq en h = rw (er, eq, en) at h
 
-pub params-by : (b : List ℕ) (form : Form) (n k : ℕ) (Q : List ℕ) → 0 < k → {r : ℕ} {Q′ : List ℕ} → r ≡ bodyBytes form
+pub params-by : (b : List ℕ) (form : Form) (n k : ℕ) (Q : List ℕ) → 0 < k → {r : ℕ} {Q′ : List ℕ} → r ≡ bodyBytes form (fieldFor n)
     → Q′ ≡ written (words n (drop (20 + 16 * n + (6 + r) * k + 6) b)) Q → Q′ ≡ written (words (paramsFor n k) (drop (paramsAt form n k) b)) Q
 params-by b form n k Q h er e = rw (params-some n h) (rw er at e)

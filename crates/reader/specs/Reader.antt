@@ -8,7 +8,8 @@ use Rattle.float.specs.Answer.{Answer, ok, refused, unless, _>>=_}
 use Rattle.form.specs.declared.Form.{Form}
 use Rattle.reader.specs.declared.Read.{Read}
 use Rattle.reader.specs.declared.Read.the-variants as read
-use Rattle.house.specs.Limits.{tooMany, noRoom, mostMarks}
+use Rattle.limits.specs.Limits.{mostMarks}
+use Rattle.house.specs.Limits.{tooMany, noRoom}
 use Rattle.house.specs.File.{File, marksIn, curvesIn}
 use Rattle.house.specs.Held.{fileOf}
 use Rattle.float.specs.Slices.{written}

@@ -3,8 +3,9 @@ use form::Form;
 use form::width;
 use form::worsts_for;
 use house::bytes::copy_words;
-use house::bytes::two;
+use house::bytes::mark_number;
 use house::sizes;
+use house::sizes::Field;
 ghost use mathlib.Core.Path.{_≡_};
 ghost use Prim.Native.Nat.{_+_, _*_, _≤_};
 ghost use lib.ListN.{length, drop};
@@ -15,13 +16,13 @@ ghost use Rattle.house.specs.Layout.{Room, Copied};
 ghost use Rattle.house.specs.Held.{inEach, firstsOf, worstsOf, curvesOf, fileAt};
 
 // The mark number at the place p of each of k records of `step` bytes from `at` on, into the first places.
-fn copy_marks(b: &[u8], at: usize, p: usize, step: usize, k: usize, out: &mut [u32])
-    requires { ⌜ (at + step * k ≤ length (now b)) × ((p + markField ≤ step) × (k ≤ length (now out))) ⌝ }
-    ensures { λ _. ⌜ now (out .exit) ≡ written (inEach markField 1 p step k (drop at (now (b .entry)))) (now (out .entry)) ⌝ }
+fn copy_marks(b: &[u8], at: usize, p: usize, field: Field, step: usize, k: usize, out: &mut [u32])
+    requires { ⌜ (at + step * k ≤ length (now b)) × ((p + markField field ≤ step) × (k ≤ length (now out))) ⌝ }
+    ensures { λ _. ⌜ now (out .exit) ≡ written (inEach (markField field) 1 p step k (drop at (now (b .entry)))) (now (out .entry)) ⌝ }
 {
     let mut i = 0;
     while i < k {
-        out[i] = two(b, at + step * i + p) as u32;
+        out[i] = mark_number(b, at + step * i + p, field) as u32;
         i += 1;
     }
 }
@@ -44,19 +45,20 @@ fn copy_curves(
     b: &[u8],
     at: usize,
     form: Form,
+    field: Field,
     k: usize,
     firsts: &mut [u32],
     worsts: &mut [u32],
     curves: &mut [u64],
 )
-    requires { ⌜ (at + curveBytes form * k ≤ length (now b)) × ((k ≤ length (now firsts)) × ((worstsFor form k ≤ length (now worsts)) × (width form * k ≤ length (now curves)))) ⌝ }
-    ensures { λ _. ⌜ (now (firsts .exit) ≡ written (firstsOf form k (drop at (now (b .entry)))) (now (firsts .entry))) × ((now (worsts .exit) ≡ written (worstsOf form k (drop at (now (b .entry)))) (now (worsts .entry))) × (now (curves .exit) ≡ written (curvesOf form k (drop at (now (b .entry)))) (now (curves .entry)))) ⌝ }
+    requires { ⌜ (at + curveBytes form field * k ≤ length (now b)) × ((k ≤ length (now firsts)) × ((worstsFor form k ≤ length (now worsts)) × (width form * k ≤ length (now curves)))) ⌝ }
+    ensures { λ _. ⌜ (now (firsts .exit) ≡ written (firstsOf form field k (drop at (now (b .entry)))) (now (firsts .entry))) × ((now (worsts .exit) ≡ written (worstsOf form field k (drop at (now (b .entry)))) (now (worsts .entry))) × (now (curves .exit) ≡ written (curvesOf form field k (drop at (now (b .entry)))) (now (curves .entry)))) ⌝ }
 {
-    let step = sizes::HEAD_BYTES + sizes::body_bytes(form);
-    copy_marks(b, at, sizes::HEAD_BYTES, step, k, firsts);
-    let second = sizes::HEAD_BYTES + sizes::MARK_FIELD;
-    copy_marks(b, at, second, step, worsts_for(form, k), worsts);
-    let numbers = sizes::HEAD_BYTES + sizes::beside_bytes(form);
+    let step = sizes::HEAD_BYTES + sizes::body_bytes(form, field);
+    copy_marks(b, at, sizes::HEAD_BYTES, field, step, k, firsts);
+    let second = sizes::HEAD_BYTES + sizes::mark_field(field);
+    copy_marks(b, at, second, field, step, worsts_for(form, k), worsts);
+    let numbers = sizes::HEAD_BYTES + sizes::beside_bytes(form, field);
     copy_rows(b, at, numbers, width(form), step, k, curves);
 }
 
@@ -80,8 +82,9 @@ pub fn copy_file(
         return;
     }
     let end = sizes::MARKS_AT + sizes::MARK_BYTES * n;
-    copy_curves(b, end, form, k, firsts, worsts, curves);
-    let step = sizes::HEAD_BYTES + sizes::body_bytes(form);
+    let field = sizes::field_for(n);
+    copy_curves(b, end, form, field, k, firsts, worsts, curves);
+    let step = sizes::HEAD_BYTES + sizes::body_bytes(form, field);
     let last = end + step * k + sizes::HEAD_BYTES;
     copy_words(b, last, n, params);
 }

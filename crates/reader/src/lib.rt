@@ -11,6 +11,7 @@ use heads::find_layout;
 use house::bytes::eight;
 use house::sizes;
 use house::sizes::has_room;
+use limits::MOST_MARKS;
 ghost use mathlib.Core.Path.{_≡_};
 ghost use Rattle.reader.specs.Reader.{outcome, readAnswer, readOf};
 
@@ -45,7 +46,7 @@ pub fn read_file(
     else {
         return Read::Refused(BADLY_FORMED);
     };
-    if n > sizes::MOST_MARKS {
+    if n > MOST_MARKS {
         return Read::Refused(TOO_MANY);
     }
     if marks.len() < sizes::MARK_NUMBERS * n {

@@ -1,20 +1,20 @@
 // A line, answered by the kind that its first word names.
+use crate::kind::SINGLE_KINDS;
 use crate::kind::kind_of;
 use crate::listing;
 use crate::outline;
 use crate::outline::Fit;
 use crate::paths;
+use crate::room;
 use crate::single;
 use bytes::scan;
 use form::Form;
 use libc::STDOUT_FILENO;
 use ring::Outline;
 
-// Whether a line is a case; what a case answers is printed. The kinds are in the order of their names' list.
-fn answered(line: &[u8]) -> bool {
-    let from: usize = 0;
-    let end = scan::find(line, from, line.len(), b' ');
-    match kind_of(&line[from..end]) {
+// Whether a line of one of the first kinds is a case; what a case answers is printed. The kinds are in the order of their names' list.
+fn single_case(kind: usize, line: &[u8], end: usize) -> bool {
+    match kind {
         0 => single::sqrt_case(line, end),
         1 => single::basis_case(line, end),
         2 => single::casteljau4_case(line, end),
@@ -24,26 +24,57 @@ fn answered(line: &[u8]) -> bool {
         6 => single::casteljau2_case(line, end),
         7 => single::refine_case(line, end),
         8 => single::nearest_case(line, end),
-        9 => outline::direct_case(line, end),
-        10 => outline::blocks_case(Fit::Source, line, end),
-        11 => outline::blocks_case(Fit::Loop, line, end),
-        12 => outline::blocks_case(Fit::Joined, line, end),
-        13 => listing::check_case(Outline::Open, Form::Eight, line, end),
-        14 => outline::blocks_case(Fit::Ring, line, end),
-        15 => listing::check_case(Outline::Closed, Form::Eight, line, end),
-        16 => single::distance_case(line, end),
-        17 => single::blocks_case(line, end),
-        18 => single::size_case(line, end),
-        19 => listing::check_case(Outline::Open, Form::Nine, line, end),
-        20 => listing::check_case(Outline::Closed, Form::Nine, line, end),
-        21 => paths::export_case(line, end),
-        22 => paths::import_case(line, end),
+        9 => single::distance_case(line, end),
+        10 => single::blocks_case(line, end),
+        _ => single::size_case(line, end),
+    }
+}
+
+// The same of the other kinds. They have this room for curves in turn, since what each had for itself might lie on the stack together.
+fn case_in(kind: usize, line: &mut [u8], end: usize, curves: &mut [f64]) -> bool {
+    match kind {
+        12 => outline::direct_case(line, end, curves),
+        13 => outline::blocks_case(Fit::Source, line, end, curves),
+        14 => outline::blocks_case(Fit::Loop, line, end, curves),
+        15 => outline::blocks_case(Fit::Joined, line, end, curves),
+        16 => outline::blocks_case(Fit::Ring, line, end, curves),
+        17 => listing::check_case(Outline::Open, Form::Eight, line, end, curves),
+        18 => listing::check_case(Outline::Closed, Form::Eight, line, end, curves),
+        19 => listing::check_case(Outline::Open, Form::Nine, line, end, curves),
+        20 => listing::check_case(Outline::Closed, Form::Nine, line, end, curves),
+        21 => paths::export_case(line, end, curves),
+        22 => paths::import_case(line, end, curves),
         _ => false,
     }
 }
 
+fn short_case(kind: usize, line: &mut [u8], end: usize) -> bool {
+    let mut curves = room::short_curves();
+    case_in(kind, line, end, &mut curves)
+}
+
+fn long_case(kind: usize, line: &mut [u8], end: usize) -> bool {
+    let mut curves = room::curves();
+    case_in(kind, line, end, &mut curves)
+}
+
+// Whether a line is a case.
+fn answered(line: &mut [u8]) -> bool {
+    let from: usize = 0;
+    let end = scan::find(line, from, line.len(), b' ');
+    let kind = kind_of(&line[from..end]);
+    if kind < SINGLE_KINDS {
+        return single_case(kind, line, end);
+    }
+    if room::is_short(line) {
+        short_case(kind, line, end)
+    } else {
+        long_case(kind, line, end)
+    }
+}
+
 // The answer to a line, and a newline. A line that is no case is bad.
-pub fn answer(line: &[u8]) {
+pub fn answer(line: &mut [u8]) {
     if !answered(line) {
         io::write_all(STDOUT_FILENO, b"BAD");
     }

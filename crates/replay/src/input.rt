@@ -1,6 +1,7 @@
 // Standard input line by line. What is kept between bytes is how much of a line there is so far; a line that fills its room is too long.
 ghost use Prim.Native.Nat.{_≤_};
 use crate::dispatch::answer;
+use crate::room;
 use libc::STDIN_FILENO;
 
 // How much there is of a line after a chunk, or that the input has ended.
@@ -17,10 +18,10 @@ fn counted(len: usize, room: usize) -> usize
 }
 
 // The answer to a line.
-fn end_line(line: &[u8], len: usize) {
+fn end_line(line: &mut [u8], len: usize) {
     let from: usize = 0;
     let n = counted(len, line.len());
-    answer(&line[from..n]);
+    answer(&mut line[from..n]);
 }
 
 // One byte more.
@@ -73,7 +74,7 @@ fn take_chunks(chunk: &mut [u8], line: &mut [u8]) -> usize {
 }
 
 // All lines; a last one without a newline counts. The line's room comes as an array by its type, so that no proof counts its bytes.
-fn take_lines(line: &mut [u8; 1048577]) {
+fn take_lines(line: &mut [u8; room::LINE]) {
     let mut chunk = [0u8; 65536];
     let last = take_chunks(&mut chunk, line);
     if last > 0 {
@@ -81,8 +82,7 @@ fn take_lines(line: &mut [u8; 1048577]) {
     }
 }
 
-// A `check_worst` line with 4,200 marks and as many curves has some 950,000 bytes.
 pub fn run() {
-    let mut line = [0u8; 1048577];
+    let mut line = room::line();
     take_lines(&mut line);
 }

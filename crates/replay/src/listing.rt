@@ -1,4 +1,4 @@
-// Cases of the list checker. The line says how many marks and how many curves it carries, and is bad where it carries another number of them.
+// Cases of the list checker. The line says how many marks and how many curves it carries, and is bad where it carries another number of them, or more than 21,000 of either.
 ghost use Prim.Native.Nat.{_≤_};
 use crate::cursor::NOWHERE;
 use crate::cursor::front;
@@ -9,6 +9,7 @@ use crate::cursor::take_float;
 use crate::cursor::take_some;
 use crate::print::print_accepted;
 use crate::print::print_refused;
+use crate::room;
 use checker::Checked;
 use checker::Fault;
 use checker::Place;
@@ -18,11 +19,6 @@ use form::RECORD_NUMBERS;
 use form::width;
 use libc::STDOUT_FILENO;
 use ring::Outline;
-
-// More marks than this are bad; more curves than this do not fit on a line.
-const MOST_MARKS: u64 = 4200;
-
-const MOST_CURVES: u64 = 8192;
 
 const MOST_FIRST: u64 = 0xffff_ffff;
 
@@ -146,7 +142,7 @@ fn say_list(
     worsts: &[u32],
     params: &[f64],
 )
-    requires { ⌜ k ≤ 8192 ⌝ }
+    requires { ⌜ k ≤ 21000 ⌝ }
 {
     match form {
         Form::Eight => say_checked(checked_eight(
@@ -171,7 +167,7 @@ fn say_list(
     }
 }
 
-// A list after its marks, with `times` parameters: `at` is the place before the number of its curves.
+// A list after its marks, with `times` parameters: `at` is the place before the number of its curves, which go into this room.
 fn list_case(
     outline: Outline,
     form: Form,
@@ -180,22 +176,14 @@ fn list_case(
     tolerance: f64,
     times: usize,
     marks: &[f64],
+    curves: &mut [f64],
 ) -> bool {
-    let mut firsts = [0u32; 8192];
-    let mut worsts = [0u32; 8192];
-    let mut curves = [0.0; 73728];
-    let mut params = [0.0; 4201];
-    let count = take_count(line, at, MOST_CURVES);
+    let mut firsts = room::indices();
+    let mut worsts = room::indices();
+    let mut params = room::params();
+    let count = take_count(line, at, room::MOST_MARKS);
     let k = count.x as usize;
-    let then = take_curves(
-        form,
-        line,
-        count.then,
-        k,
-        &mut firsts,
-        &mut worsts,
-        &mut curves,
-    );
+    let then = take_curves(form, line, count.then, k, &mut firsts, &mut worsts, curves);
     if take_some(line, then, times, &mut params) != line.len() {
         return false;
     }
@@ -206,7 +194,7 @@ fn list_case(
         tolerance,
         k,
         times,
-        &curves,
+        curves,
         &firsts,
         &worsts,
         &params,
@@ -216,7 +204,7 @@ fn list_case(
 
 // How many parameters a list of n marks has: a ring comes back to its first mark.
 fn params_of(outline: Outline, n: usize) -> usize
-    requires { ⌜ n ≤ 4200 ⌝ }
+    requires { ⌜ n ≤ 21000 ⌝ }
 {
     match outline {
         Outline::Open => n,
@@ -225,10 +213,16 @@ fn params_of(outline: Outline, n: usize) -> usize
 }
 
 // check TOL N X0 Y0 .. K F0 C8 F1 C8 .. T0 .. T(N-1), and check_ring with one parameter more; check_worst and check_worst_ring with F0 W0 C9 for F0 C8
-pub fn check_case(outline: Outline, form: Form, line: &[u8], at: usize) -> bool {
-    let mut marks = [0.0; 8400];
+pub fn check_case(
+    outline: Outline,
+    form: Form,
+    line: &[u8],
+    at: usize,
+    curves: &mut [f64],
+) -> bool {
+    let mut marks = room::marks();
     let tolerance = take_float(line, at);
-    let count = take_count(line, tolerance.then, MOST_MARKS);
+    let count = take_count(line, tolerance.then, room::MOST_MARKS);
     let n = count.x as usize;
     let then = take_some(line, count.then, 2 * n, &mut marks);
     list_case(
@@ -239,5 +233,6 @@ pub fn check_case(outline: Outline, form: Form, line: &[u8], at: usize) -> bool 
         tolerance.x,
         params_of(outline, n),
         front(&marks, 2 * n),
+        curves,
     )
 }

@@ -16,7 +16,9 @@
 //     blocks N                                                               into how many blocks a joined fit cuts N marks
 //     size N                                                                 of how many marks a block is, where an outline has N
 //     export OPEN K C8 .., export RING K C8 ..                               K curves as path data
-//     import TEXT                                                            path data, all behind the first blank; at most 65,536 curves
+//     import TEXT                                                            path data, all behind the first blank
+//
+// A line has at most 4,600,000 bytes, 21,000 marks (and curves beside them), or 23,625 curves of path data: more are BAD, and a text that draws more is refused for room.
 //
 // An accepted case answers 0 and its numbers: the root; x y; a b c d; both halves; t; t and squared distance; for a fit K, then for each curve its
 // first mark, its worst mark and nine numbers, then every parameter; the distance; the count; the size; the path data; K, OPEN or CLOSED and eight
@@ -30,6 +32,7 @@ mod listing;
 mod outline;
 mod paths;
 mod print;
+mod room;
 mod single;
 
 fn main() {

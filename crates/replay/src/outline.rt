@@ -1,4 +1,4 @@
-// Cases of an outline: the five fits. Up to 4,200 marks are handed on, so that the fits' own refusal of more than 4,096 shows.
+// Cases of an outline: the five fits. A line of more marks than there is room for is bad; they are fewer than the fits take, but for the direct fit.
 use crate::cursor::front;
 use crate::cursor::front_marks;
 use crate::cursor::take_float;
@@ -7,6 +7,7 @@ use crate::cursor::take_some;
 use crate::print::print_accepted;
 use crate::print::print_floats;
 use crate::print::print_refused;
+use crate::room;
 use cut::Fitted;
 use form::RECORD_NUMBERS;
 use plane::Point;
@@ -97,17 +98,16 @@ fn print_fit(k: usize, curves: &[f64], firsts: &[u32], worsts: &[u32], params: &
     print_floats(params);
 }
 
-// A fit's answer.
-fn say_fit(fit: Fit, marks: &[f64], tolerance: f64) {
-    let mut curves = [0.0; 36864];
-    let mut firsts = [0u32; 4096];
-    let mut worsts = [0u32; 4096];
-    let mut params = [0.0; 4097];
+// A fit's answer, its curves in this room.
+fn say_fit(fit: Fit, marks: &[f64], tolerance: f64, curves: &mut [f64]) {
+    let mut firsts = room::indices();
+    let mut worsts = room::indices();
+    let mut params = room::params();
     let fitted = fit_by(
         fit,
         marks,
         tolerance,
-        &mut curves,
+        curves,
         &mut firsts,
         &mut worsts,
         &mut params,
@@ -115,7 +115,7 @@ fn say_fit(fit: Fit, marks: &[f64], tolerance: f64) {
     match fitted {
         Fitted::Curves(k) => print_fit(
             k,
-            &curves,
+            curves,
             &firsts,
             &worsts,
             front(&params, params_of(fit, marks)),
@@ -125,28 +125,28 @@ fn say_fit(fit: Fit, marks: &[f64], tolerance: f64) {
 }
 
 // A fit of the marks up to the line's end.
-fn fit_case(fit: Fit, tolerance: f64, line: &[u8], at: usize) -> bool {
-    let mut marks = [0.0; 8400];
+fn fit_case(fit: Fit, tolerance: f64, line: &[u8], at: usize, curves: &mut [f64]) -> bool {
+    let mut marks = room::marks();
     let m = numbers_left(line, at);
     if take_some(line, at, m, &mut marks) != line.len() {
         return false;
     }
-    say_fit(fit, front(&marks, m), tolerance);
+    say_fit(fit, front(&marks, m), tolerance, curves);
     true
 }
 
 // direct TOL SX SY EX EY X0 Y0 ..
-pub fn direct_case(line: &[u8], at: usize) -> bool {
+pub fn direct_case(line: &[u8], at: usize, curves: &mut [f64]) -> bool {
     let tolerance = take_float(line, at);
     let start = take_point(line, tolerance.then);
     let end = take_point(line, start.then);
     let from = start.p;
     let to = end.p;
-    fit_case(Fit::Direct(from, to), tolerance.x, line, end.then)
+    fit_case(Fit::Direct(from, to), tolerance.x, line, end.then, curves)
 }
 
 // source, loop, joined, ring TOL X0 Y0 ..
-pub fn blocks_case(fit: Fit, line: &[u8], at: usize) -> bool {
+pub fn blocks_case(fit: Fit, line: &[u8], at: usize, curves: &mut [f64]) -> bool {
     let tolerance = take_float(line, at);
-    fit_case(fit, tolerance.x, line, tolerance.then)
+    fit_case(fit, tolerance.x, line, tolerance.then, curves)
 }

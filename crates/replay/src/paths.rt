@@ -1,5 +1,4 @@
-// Cases of path data: curves to a text, and a text to curves. There is room for all the curves that a line can hold. A text may draw more than the stack has room for,
-// and is refused for room then.
+// Cases of path data: curves to a text, and a text to curves. A text may draw more curves than there is room for, and is refused for room then.
 use crate::cursor::NOWHERE;
 use crate::cursor::front;
 use crate::cursor::take_count;
@@ -7,6 +6,7 @@ use crate::cursor::take_some;
 use crate::print::print_accepted;
 use crate::print::print_floats;
 use crate::print::print_refused;
+use crate::room;
 use bytes::scan;
 use check::same;
 use export::export_path;
@@ -16,23 +16,6 @@ use import::Imported;
 use import::import_path;
 use libc::STDOUT_FILENO;
 use lines::Listed;
-
-const MOST_CURVES: u64 = 8192;
-
-// Room for the text of so many curves. An array that is made where it is used is long in every goal.
-fn text_room() -> [u8; 753697] {
-    [0; 753697]
-}
-
-// Room for their numbers; and for a text of 32,768 bytes, of which a curve takes four at least.
-fn curve_room() -> [f64; 65536] {
-    [0.0; 65536]
-}
-
-// Room for the numbers of 65,536 curves, for longer texts.
-fn large_room() -> [f64; 524288] {
-    [0.0; 524288]
-}
 
 // Whether a ring is meant, with the place behind the word.
 struct Course {
@@ -83,34 +66,32 @@ fn say_text(text: &[u8], n: usize) {
     }
 }
 
-// What export says of the first k curves.
-fn say_exported(ring: bool, k: usize, curves: &[f64]) {
-    let mut text = text_room();
-    match export_path(Form::Eight, curves, k, ring, &mut text) {
-        Listed::Bytes(n) => say_text(&text, n),
+// What export says of k curves. The text goes where their line stood, for it is shorter: a curve takes 92 bytes of it at most, and 136 of the line.
+fn say_exported(ring: bool, k: usize, curves: &[f64], line: &mut [u8]) {
+    match export_path(Form::Eight, curves, k, ring, line) {
+        Listed::Bytes(n) => say_text(line, n),
         Listed::Refused(q) => print_refused(q),
     }
 }
 
 // export OPEN|RING K C8 ..
-pub fn export_case(line: &[u8], at: usize) -> bool {
-    let mut curves = curve_room();
+pub fn export_case(line: &mut [u8], at: usize, curves: &mut [f64]) -> bool {
     let course = take_course(line, at);
-    let count = take_count(line, course.then, MOST_CURVES);
+    let count = take_count(line, course.then, room::MOST_CURVES);
     let k = count.x as usize;
-    if take_some(line, count.then, CURVE_NUMBERS * k, &mut curves) != line.len() {
+    if take_some(line, count.then, CURVE_NUMBERS * k, curves) != line.len() {
         return false;
     }
-    say_exported(course.ring, k, front(&curves, CURVE_NUMBERS * k));
+    say_exported(course.ring, k, front(curves, CURVE_NUMBERS * k), line);
     true
 }
 
-// How many numbers so many curves have; no room has more than 524,288.
-fn numbers_of(count: usize) -> usize {
-    if count > 65536 {
-        return 524288;
+// The numbers of so many curves, or all where there are fewer.
+fn first_curves(curves: &[f64], count: usize) -> &[f64] {
+    if count > curves.len() / CURVE_NUMBERS {
+        return curves;
     }
-    CURVE_NUMBERS * count
+    front(curves, CURVE_NUMBERS * count)
 }
 
 // What a text draws.
@@ -122,7 +103,7 @@ fn say_path(count: usize, closed: bool, curves: &[f64]) {
     } else {
         io::write_all(STDOUT_FILENO, b" OPEN");
     }
-    print_floats(front(curves, numbers_of(count)));
+    print_floats(first_curves(curves, count));
 }
 
 // What import says of a text, with this room.
@@ -133,26 +114,12 @@ fn say_imported(text: &[u8], curves: &mut [f64]) {
     }
 }
 
-fn import_short(text: &[u8]) {
-    let mut curves = curve_room();
-    say_imported(text, &mut curves);
-}
-
-fn import_long(text: &[u8]) {
-    let mut curves = large_room();
-    say_imported(text, &mut curves);
-}
-
 // import TEXT: all behind the first blank
-pub fn import_case(line: &[u8], at: usize) -> bool {
+pub fn import_case(line: &[u8], at: usize, curves: &mut [f64]) -> bool {
     if at >= line.len() {
         return false;
     }
     let from = at + 1;
-    if line.len() - from > 32768 {
-        import_long(&line[from..]);
-    } else {
-        import_short(&line[from..]);
-    }
+    say_imported(&line[from..], curves);
     true
 }

@@ -2,7 +2,7 @@
 use mathlib.Core.Path.{_≡_, refl, ap, ap₂, _∙_}
 use mathlib.Core.Bool.{Bool, true, false, cond}
 use mathlib.Core.List.{List, [], _∷_, append-nil}
-use Prim.Native.Nat.{ℕ, zero, suc, _-_, _/_, _%_, _<_, _≤_}
+use Prim.Native.Nat.{ℕ, zero, suc, _-_, _/_, _%_, _^_, _<_, _≤_}
 use native.Mathlib.Omega.{arith}
 use borrow.Author.Tests.{le-leb, eq-eqb}
 use lib.Dec.{leb}
@@ -20,8 +20,11 @@ use Rattle.form.specs.declared.Form.the-variants.{Nine}
 use Rattle.faults.proofs.Firsts.{Risen, span}
 use Rattle.sound.proofs.Under.{risen-of}
 use Rattle.accepted.proofs.Theorem.{Passing, blocks-passing}
+use Rattle.limits.specs.Limits.{mostMarks}
+use Rattle.house.specs.Limits.{fieldFor, markField}
 use Rattle.house.specs.Bytes.{allFit}
 use Rattle.house.specs.File.{File, bytesOf}
+use Rattle.house.proofs.Forms.{number-fits}
 use Rattle.house.proofs.Numbers.{fit-cons}
 use Rattle.grammar.proofs.Formed.{params-some, full, turning}
 use Rattle.grammar.proofs.Rooms.{Places, placing}
@@ -49,7 +52,7 @@ module _ (t : ℕ) {M : List ℕ} {k : ℕ} {P W : List ℕ} {C Q : List Float} 
   unfolding checked
   checked-at o =
       let f = r .few in
-      rw (eq-eqb (length M % 2) 0 (r .even), le-leb (length M / 2) 4096 (omega arith), placing places, turning {form = Nine} (full (r .some) (r .fewer)), r .fit, r .worst-fit)
+      rw (eq-eqb (length M % 2) 0 (r .even), le-leb (length M / 2) mostMarks (omega arith), placing places, turning {form = Nine} (full (r .some) (r .fewer)), r .fit, r .worst-fit)
 
 put-by : (b : Bool) (F : File) (O : List ℕ) {a : Answer ℕ} {O′ : List ℕ} → writing a O′ ≡ put (unless 4 b (ok F)) O → handed a O′ ≡ cond b (handed (ok (length (bytesOf F))) (written (bytesOf F) O)) (handed (refused 4) O)
 put-by true F O h = ap₂ handed (ap (λ (w : Writing). w .answer) h) (ap (λ (w : Writing). w .out) h)
@@ -78,36 +81,37 @@ module _ (t : ℕ) {M : List ℕ} {k : ℕ} {P W : List ℕ} {C Q : List Float} 
 
 -- ---- a joined fit leaves a list that is ready
 
-fits : (k : ℕ) (xs : List ℕ) → k ≤ length xs → ((j : ℕ) → j < k → getD xs j 0 < 65536) → allFit 2 (take k xs) ≡ true
+fits : (f k : ℕ) (xs : List ℕ) → k ≤ length xs → ((j : ℕ) → j < k → getD xs j 0 < 256 ^ f) → allFit f (take k xs) ≡ true
 unfolding allFit
-fits zero xs h f = refl
-fits (suc k) [] h f = absurd (omega arith)
-fits (suc k) (x ∷ xs) h f = fit-cons 2 x (take k xs) (f 0 (omega arith)) (fits k xs (omega arith) (λ j l. f (suc j) (omega arith)))
+fits f zero xs h each = refl
+fits f (suc k) [] h each = absurd (omega arith)
+fits f (suc k) (x ∷ xs) h each = fit-cons f x (take k xs) (each 0 (omega arith)) (fits f k xs (omega arith) (λ j l. each (suc j) (omega arith)))
 
 -- the curves of a joined fit are fewer than the marks, and their first marks and worst marks fit their field
 pub record Listing (M : List ℕ) (k : ℕ) (P W : List ℕ) : Type 0 where
   pub some : 0 < k
   pub fewer : k < length M / 2
-  pub fit : allFit 2 (take k P) ≡ true
-  pub worst-fit : allFit 2 (take k W) ≡ true
+  pub fit : allFit (markField (fieldFor (length M / 2))) (take k P) ≡ true
+  pub worst-fit : allFit (markField (fieldFor (length M / 2))) (take k W) ≡ true
 
 pub fit-listing : (M : List ℕ) (tol : Float) (k : ℕ) (C C′ : List Float) (P P′ W W′ : List ℕ) (Q Q′ : List Float) → ending (ok k) C′ P′ W′ Q′ ≡ fitOf Joined (floats M) tol C P W Q → Listing M k P′ W′
 unfolding over
 fit-listing M tol k C C′ P P′ W W′ Q Q′ h =
     let p : Passing Open (floats M) tol k C′ P′ W′ Q′ = blocks-passing (floats M) tol k C C′ P P′ W W′ Q Q′ Joined refl h in
-    let g = passed-for 4096 Open Nine k (floats M) tol (length C′) (length P′) (length W′) (length Q′) (p .taken) in
+    let g = passed-for mostMarks Open Nine k (floats M) tol (length C′) (length P′) (length W′) (length Q′) (p .taken) in
     let n : count (floats M) ≡ length M / 2 = rw (length-floats M) in
     let s = p .sound in
     let r : Risen (count (floats M)) k P′ = risen-of (count (floats M)) k P′ (s .some) (s .from-first) (s .two-or-more) in
     let most = g .most in
+    let f : ℕ = markField (fieldFor (length M / 2)) in
     record {
       some = r .some;
       fewer = omega (arith, r .few);
-      fit = fits k P′ (g .firsts) (λ j l. omega (arith, r .below j l));
-      worst-fit = fits k W′ (g .worsts) (λ j l.
+      fit = fits f k P′ (g .firsts) (λ j l. number-fits (length M / 2) _ (omega (arith, r .below j l)) (omega arith));
+      worst-fit = fits f k W′ (g .worsts) (λ j l.
           let below = s .worst-is refl j l .upto in
           let stops = span (count (floats M)) k P′ j r l .stops in
-          omega arith);
+          number-fits (length M / 2) _ (omega arith) (omega arith));
     }
 
 pub fit-ready : (M : List ℕ) (tol : Float) (k : ℕ) (C C′ : List Float) (P P′ W W′ : List ℕ) (Q Q′ : List Float) → length M % 2 ≡ 0 → length M ≤ 8192 → length P′ ≡ 4095 → length W′ ≡ 4095 → length C′ ≡ 36855 → length Q′ ≡ 4096

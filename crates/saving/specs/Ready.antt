@@ -5,6 +5,7 @@ use mathlib.Core.Bool.{true}
 use mathlib.Core.List.{List}
 use lib.ListN.{length, take}
 use lib.Ieee.{Float}
+use Rattle.house.specs.Limits.{fieldFor, markField}
 use Rattle.house.specs.Bytes.{allFit}
 
 -- marks and k curves that a file can hold, in slices with room for 4,096 marks
@@ -17,5 +18,5 @@ pub record Ready (M : List ℕ) (k : ℕ) (P W : List ℕ) (C Q : List Float) : 
   pub worsts : length W ≡ 4095
   pub curves : length C ≡ 36855
   pub params : length Q ≡ 4096
-  pub fit : allFit 2 (take k P) ≡ true
-  pub worst-fit : allFit 2 (take k W) ≡ true
+  pub fit : allFit (markField (fieldFor (length M / 2))) (take k P) ≡ true
+  pub worst-fit : allFit (markField (fieldFor (length M / 2))) (take k W) ≡ true

@@ -5,6 +5,7 @@ use mathlib.Core.Path.{_≡_, ap, _∙_}
 use mathlib.Core.List.{List}
 use lib.ListN.{length}
 use lib.Ieee.{Float}
+use Rattle.limits.specs.Limits.{mostMarks}
 use Rattle.marks.specs.Marks.{count, markAt}
 use Rattle.form.specs.declared.Form.{Form}
 use Rattle.ring.specs.Ring.{whole, Even}
@@ -29,5 +30,5 @@ sound-closes form ms tol k cs fs ws ps even s =
 
 pub ring-closes : RingCloses
 ring-closes form ms tol k cs fs ws ps h =
-    let g = passed-for 4096 Closed form k ms tol (length cs) (length fs) (length ws) (length ps) (judged Closed form ms tol k cs fs ws ps passed h .0) in
+    let g = passed-for mostMarks Closed form k ms tol (length cs) (length fs) (length ws) (length ps) (judged Closed form ms tol k cs fs ws ps passed h .0) in
     sound-closes form ms tol k cs fs ws ps (passed-even g) (passes-sound Closed form ms tol k cs fs ws ps h)

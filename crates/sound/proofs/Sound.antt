@@ -9,6 +9,7 @@ use lib.Dec.{eqb}
 use lib.Ieee.{Float, nan}
 use borrow.Author.Tests.{eqb-true, eq-eqb}
 use Rattle.float.specs.Answer.{ok, refused}
+use Rattle.limits.specs.Limits.{mostMarks}
 use Rattle.marks.specs.Marks.{count}
 use Rattle.form.specs.declared.Form.{Form}
 use Rattle.ring.specs.Ring.{whole}
@@ -79,7 +80,7 @@ module _ (form : Form) (ms : List Float) (tol : Float) (k : ℕ) (cs : List Floa
 -- the marks that an outline runs over
 module _ (o : Outline) (form : Form) (ms : List Float) (tol : Float) (k : ℕ) (cs : List Float) (fs ws : List ℕ) (ps : List Float) where
   abbrev gate : ℕ
-  gate = gateFor 4096 o form k ms tol (length cs) (length fs) (length ws) (length ps)
+  gate = gateFor mostMarks o form k ms tol (length cs) (length fs) (length ws) (length ps)
 
   abbrev checked : Verdict
   checked = listChecked form (whole o ms) tol k cs fs ws ps

@@ -27,17 +27,20 @@ use Rattle.sound.proofs.Sound.{sound-passes}
 use Rattle.accepted.proofs.Laid.{laid-many, laid-curves}
 use Rattle.accepted.proofs.Theorem.{Given, blocks-given, laid-sound}
 use Rattle.lines.specs.Lines.{twoLine}
+use Rattle.limits.specs.Limits.{mostMarks}
+use Rattle.house.specs.declared.sizes.Field.{Field}
+use Rattle.house.specs.Limits.{curveBytes}
 use Rattle.house.specs.File.{File, bytesOf, marksIn, curvesIn}
-use Rattle.house.proofs.Forms.{form-some}
+use Rattle.house.proofs.Forms.{small-field, form-some}
 use Rattle.float.proofs.Answers.{not-refused}
 use Rattle.grammar.proofs.Formed.{Formed, full, forming, params-some}
 use Rattle.grammar.proofs.Rooms.{size-some}
 use Rattle.grammar.proofs.Whole.{length-bytes}
 use Rattle.trips.proofs.RoundTrips.{file-bytes-file}
 use Rattle.writer.specs.Writer.{fileFor}
-use Rattle.desk.specs.Desk.{floats, patterns, zeros, noMarks, fileIn}
+use Rattle.desk.specs.Desk.{roomMarks, mostBytes, floats, patterns, zeros, noMarks, fileIn}
 use Rattle.desk.proofs.Numbers.{front, length-floats, length-patterns}
-use Rattle.desk.proofs.Opened.{few, roomy, file-formed}
+use Rattle.desk.proofs.Opened.{file-formed}
 use Rattle.verdict.specs.Verdict.{passedWord, listIn, verdictIn, fileLine, lineOf, judgementOf}
 use Rattle.saving.specs.Saving.{roomyFit, fileWith, savedFile}
 use Rattle.saving.proofs.Takes.{Listing, fit-listing}
@@ -78,7 +81,7 @@ module _ (ms : List Float) (tol : Float) (k : ℕ) (C C′ : List Float) (F F′
       let f = firsts-long in
       let w = worsts-long in
       sound-passes Open Nine ms tol k (d .cs) (firstsOf (d .bs)) (worstsOf (d .bs)) (d .ps)
-      (passes 4096 Open Nine k ms tol (length (d .cs)) (length (firstsOf (d .bs))) (length (worstsOf (d .bs))) (length (d .ps)) (record { even = g .even; two = g .two; most = g .most; curves = omega arith; firsts = omega arith; worsts = omega arith; params = omega arith; near = g .near; usable = g .usable }))
+      (passes mostMarks Open Nine k ms tol (length (d .cs)) (length (firstsOf (d .bs))) (length (worstsOf (d .bs))) (length (d .ps)) (record { even = g .even; two = g .two; most = g .most; curves = omega arith; firsts = omega arith; worsts = omega arith; params = omega arith; near = g .near; usable = g .usable }))
       sound
 
 -- ---- its file
@@ -122,7 +125,7 @@ module _ (t : ℕ) (M : List ℕ) (k : ℕ) (C C′ : List Float) (F F′ W W′
         front-patterns (d .ps) P (length M / 2) (d .params) (params-long ms tol k C C′ F F′ W W′ P P′ d ∙ half),
       )
 
-  module _ (n j : ℕ) (O : File) (o : Formed O n j) (in-tolerance : O .tolerance ≡ t) (in-marks : O .marks ≡ M) (few-marks : n ≤ 4096) (l : Listing M k F′ W′) where
+  module _ (n j : ℕ) (O : File) (o : Formed O n j) (in-tolerance : O .tolerance ≡ t) (in-marks : O .marks ≡ M) (few-marks : n ≤ roomMarks) (l : Listing M k F′ W′) where
     marks-long : length M ≡ 2 * n
     marks-long = sym (ap length in-marks) ∙ o .sized .marks
 
@@ -132,6 +135,7 @@ module _ (t : ℕ) (M : List ℕ) (k : ℕ) (C C′ : List Float) (F F′ W W′
         let h = half in
         let v = values in
         let less = l .fewer in
+        let e : length M / 2 ≡ n = omega arith in
         record {
           sized = record {
             marks = m;
@@ -145,8 +149,8 @@ module _ (t : ℕ) (M : List ℕ) (k : ℕ) (C C′ : List Float) (F F′ W W′
           fit = record {
             tolerance = rw (← in-tolerance) (o .fit .tolerance);
             marks = rw (← in-marks) (o .fit .marks);
-            firsts = rw (front (firstsOf (d .bs)) F k (d .firsts) (firsts-long ms tol k C C′ F F′ W W′ P P′ d)) at (l .fit);
-            worsts = rw (front (worstsOf (d .bs)) W k (d .worsts) (worsts-long ms tol k C C′ F F′ W W′ P P′ d)) at (l .worst-fit);
+            firsts = rw (e, front (firstsOf (d .bs)) F k (d .firsts) (firsts-long ms tol k C C′ F F′ W W′ P P′ d)) at (l .fit);
+            worsts = rw (e, front (worstsOf (d .bs)) W k (d .worsts) (worsts-long ms tol k C C′ F F′ W W′ P P′ d)) at (l .worst-fit);
             curves = bits-fit (v .0);
             params = bits-fit (v .1);
           };
@@ -156,13 +160,14 @@ module _ (t : ℕ) (M : List ℕ) (k : ℕ) (C C′ : List Float) (F F′ W W′
     count-marks = let m = marks-long in omega arith
 
     taken : fileIn (bytesOf G) ≡ ok G
+    unfolding fileIn
     taken =
         let s = length-bytes (whole-file .sized) ∙ size-some Nine n (l .some) in
         let less = l .fewer in
         let m = marks-long in
         let c = count-marks in
-        roomy (bytesOf G)
-        ∙ rw (le-leb (length (bytesOf G)) 434120 (omega arith), file-bytes-file G (forming whole-file)) (rw (le-leb (marksIn G) 4096 (omega arith)))
+        let z = ap (λ (f : Field). curveBytes Nine f * k) (small-field n few-marks) in
+        rw (le-leb (length (bytesOf G)) mostBytes (omega arith), file-bytes-file G (forming whole-file), le-leb (marksIn G) roomMarks (omega arith))
 
     list-passes : listIn G ≡ ok passed
     unfolding listIn

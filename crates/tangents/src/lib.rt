@@ -3,6 +3,7 @@ ghost use mathlib.Core.Path.{_≡_};
 ghost use Prim.Native.Nat.{_+_, _*_, _≤_};
 ghost use lib.ListN.{length};
 ghost use Rattle.float.specs.Answer.{outcome};
+ghost use Rattle.limits.specs.Limits.{mostNumbered};
 ghost use Rattle.marks.specs.Answers.{wayAnswer};
 ghost use Rattle.ring.specs.declared.Outline.the-variants as outline;
 ghost use Rattle.joints.specs.Joints.{Inner};
@@ -99,7 +100,7 @@ fn start_at(cutting: Cutting, n: usize, from: usize) -> usize
 // One past the second of the two marks that the end tangent of a block up to mark `to`, which is not in it, is taken from, where it meets none after it.
 fn end_at(cutting: Cutting, n: usize, to: usize) -> usize
     requires { ⌜ to ≤ n ⌝ }
-    requires { ⌜ n ≤ 65536 ⌝ }
+    requires { ⌜ n ≤ mostNumbered ⌝ }
     ensures { λ r. ⌜ r ≡ endAt cutting n to ⌝ }
 {
     match cutting {
@@ -131,7 +132,7 @@ fn meets(cutting: Cutting, a: usize, b: usize) -> bool
 // The tangent at the start of a block from mark `from`, where n marks are cut into blocks.
 fn start_of(cutting: Cutting, marks: &[f64], n: usize, from: usize) -> Way
     requires { ⌜ length (marksOf cutting (now marks)) ≡ 2 * n ⌝ }
-    requires { ⌜ (from + 2 ≤ n) × (n ≤ 65536) ⌝ }
+    requires { ⌜ (from + 2 ≤ n) × (n ≤ mostNumbered) ⌝ }
     ensures { λ r. ⌜ wayAnswer r ≡ outcome (startOf cutting (marksOf cutting (now (marks .entry))) n from) ⌝ }
 {
     if meets(cutting, 0, from) {
@@ -149,7 +150,7 @@ fn start_of(cutting: Cutting, marks: &[f64], n: usize, from: usize) -> Way
 // The tangent at the end of a block up to mark `to`, which is not in it.
 fn end_of(cutting: Cutting, marks: &[f64], n: usize, to: usize) -> Way
     requires { ⌜ length (marksOf cutting (now marks)) ≡ 2 * n ⌝ }
-    requires { ⌜ (2 ≤ to) × (to ≤ n) × (n ≤ 65536) ⌝ }
+    requires { ⌜ (2 ≤ to) × (to ≤ n) × (n ≤ mostNumbered) ⌝ }
     ensures { λ r. ⌜ wayAnswer r ≡ outcome (endOf cutting (marksOf cutting (now (marks .entry))) n to) ⌝ }
 {
     if meets(cutting, to, n) {
@@ -167,7 +168,7 @@ fn end_of(cutting: Cutting, marks: &[f64], n: usize, to: usize) -> Way
 // The tangents at the ends of a block.
 pub fn ways_of(cutting: Cutting, marks: &[f64], n: usize, from: usize, to: usize) -> Turn
     requires { ⌜ length (marksOf cutting (now marks)) ≡ 2 * n ⌝ }
-    requires { ⌜ (from + 2 ≤ to) × (to ≤ n) × (n ≤ 65536) ⌝ }
+    requires { ⌜ (from + 2 ≤ to) × (to ≤ n) × (n ≤ mostNumbered) ⌝ }
     ensures { λ r. ⌜ turnAnswer r ≡ outcome (waysOf cutting (marksOf cutting (now (marks .entry))) n from to) ⌝ }
 {
     let Way::Toward(start) = start_of(cutting, marks, n, from) else {

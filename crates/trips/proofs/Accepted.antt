@@ -8,6 +8,7 @@ use lib.Dec.{leb, eqb}
 use lib.ListN.{length}
 use Rattle.float.specs.Answer.{Answer, ok, refused}
 use Rattle.form.specs.declared.Form.{Form}
+use Rattle.limits.specs.Limits.{mostMarks}
 use Rattle.house.specs.Limits.{badlyFormed}
 use Rattle.house.specs.File.{File, Holds, bytesOf, marksIn, curvesIn, fewer}
 use Rattle.house.specs.Held.{fileOf}
@@ -37,7 +38,7 @@ module _ {b : List ℕ} where
 
 -- the file is small enough, and there is room for it
 pub record Taken (F : File) (M P W C Q : List ℕ) : Type 0 where
-  pub few : marksIn F ≤ 4096
+  pub few : marksIn F ≤ mostMarks
   pub marks : length (F .marks) ≤ length M
   pub places : Places (F .form) (marksIn F) (curvesIn F) (length P) (length W) (length C) (length Q)
 
@@ -45,7 +46,7 @@ pub read-accepts : {b M P W C Q : List ℕ} {F : File} → Holds b F → Taken F
     → readOf b M P W C Q ≡ outcome (ok (foundIn F)) (written (F .marks) M) (written (F .firsts) P) (written (F .worsts) W) (written (F .curves) C) (written (F .params) Q)
 read-accepts {b} {M} {P} {W} {C} {Q} {F} h t =
     reads M P W C Q h
-    ∙ simp (le-leb (marksIn F) 4096 (t .few), le-leb (length (F .marks)) (length M) (t .marks), placing (t .places))
+    ∙ simp (le-leb (marksIn F) mostMarks (t .few), le-leb (length (F .marks)) (length M) (t .marks), placing (t .places))
 
 pub record Accepted (b M P W C Q : List ℕ) (f : Found) (M′ P′ W′ C′ Q′ : List ℕ) : Type 0 where
   pub file : File
@@ -79,7 +80,7 @@ read-accepted {b} {M} {P} {W} {C} {Q} {f} {M′} {P′} {W′} {C′} {Q′} e =
 
     second : (F : File) → Holds b F → (a : Answer File) → within F (length M) (length P) (length W) (length C) (length Q) ≡ a → outcome (ok f) M′ P′ W′ C′ Q′ ≡ settled a M P W C Q → Accepted b M P W C Q f M′ P′ W′ C′ Q′
     second F h (ok G) w q =
-        let u = unless-ok 2 (leb (marksIn F) 4096) _ w in
+        let u = unless-ok 2 (leb (marksIn F) mostMarks) _ w in
         let v = unless-ok 4 (leb (length (F .marks)) (length M) && room (F .form) (marksIn F) (curvesIn F) (length P) (length W) (length C) (length Q)) (ok F) (u .1) in
         let r = split _ _ (v .0) in
         let g : F ≡ G = cc in
@@ -111,9 +112,9 @@ write-accepted {form} {t} {M} {k} {P} {W} {C} {Q} {O} {len} {O′} e = first (ch
     second : (G : File) → checked form t M k P W C Q (length O) ≡ ok G → writing (ok len) O′ ≡ put (ok G) O → Put form t M k P W C Q O len O′
     second G w q =
         let h3 = unless-ok 3 (eqb (length M % 2) 0) _ w in
-        let h2 = unless-ok 2 (leb n 4096) _ (h3 .1) in
+        let h2 = unless-ok 2 (leb n mostMarks) _ (h3 .1) in
         let h4 = unless-ok 4 (room form n k (length P) (length W) (length C) (length Q) && leb (length (bytesOf F)) (length O)) _ (h2 .1) in
-        let h9 = unless-ok 9 (fewer k n && marksFit form k P W) (ok F) (h4 .1) in
+        let h9 = unless-ok 9 (fewer k n && marksFit form n k P W) (ok F) (h4 .1) in
         let g : F ≡ G = cc in
         let p : writing (ok len) O′ ≡ put (ok F) O = rw g q in
         let a : ok len ≡ ok (length (bytesOf F)) = ap (λ (o : Writing). o .answer) p in

@@ -2,16 +2,17 @@
 use mathlib.Core.Path.{_≡_, refl, sym, ap, _∙_}
 use mathlib.Core.Bool.{true}
 use mathlib.Core.List.{List, [], _∷_, _++_}
-use Prim.Native.Nat.{ℕ, _+_, _*_, _<_, _^_}
+use Prim.Native.Nat.{ℕ, _+_, _*_, _/_, _<_, _^_}
 use native.Mathlib.Omega.{arith}
-use lib.ListN.{length, take, drop, length-append, length-drop}
+use lib.ListN.{length, take, drop, getD, length-append, length-drop}
 use lib.Seq.{take-at, drop-at}
 use Rattle.float.specs.Answer.{refused}
 use Rattle.form.specs.declared.Form.{Form}
 use Rattle.form.specs.Form.{width}
-use Rattle.house.specs.Limits.{badlyFormed, worstMarks, curveKind, bodyBytes}
+use Rattle.house.specs.declared.sizes.Field.{Field}
+use Rattle.house.specs.Limits.{badlyFormed, fieldFor, worstMarks, curveKind, bodyBytes}
 use Rattle.house.specs.Bytes.{num, le, les}
-use Rattle.house.specs.File.{Record, rec, framed, flat, File, bodyOf, curveRecords, fitRecords, recordsOf, wellFormed}
+use Rattle.house.specs.File.{Record, rec, framed, flat, File, bodyOf, curveRecords, fitRecords, recordsOf, fieldIn, marksIn, wellFormed}
 use Rattle.reader.specs.Reader.{settled, readOf}
 use Rattle.house.proofs.Forms.{body-few, worsts-each, kind-few}
 use Rattle.house.proofs.Numbers.{length-le}
@@ -66,13 +67,13 @@ append : {rs ss : List Record} → Framable rs → Framable ss → Framable (rs 
 append none g = g
 append (more h l f) g = more h l (append f g)
 
-curves-framable : (form : Form) (P W C : List ℕ) → length W ≡ worstMarks form * length P → length C ≡ width form * length P → Framable (curveRecords form P W C)
+curves-framable : (form : Form) (field : Field) (P W C : List ℕ) → length W ≡ worstMarks form * length P → length C ≡ width form * length P → Framable (curveRecords form field P W C)
 unfolding curveRecords
-curves-framable form [] W C hw hc = none
-curves-framable form (p ∷ P) W C hw hc =
-    let l : length (bodyOf form p W C) ≡ bodyBytes form = length-body form p W C (omega arith) (omega arith) in
-    more {r = rec (curveKind form) (bodyOf form p W C)} (omega (arith, kind-few form)) (omega (arith, l, body-few form))
-    (curves-framable form P (drop (worstMarks form) W) (drop (width form) C) (simp length-drop (omega arith)) (simp length-drop (omega arith)))
+curves-framable form field [] W C hw hc = none
+curves-framable form field (p ∷ P) W C hw hc =
+    let l : length (bodyOf form field p W C) ≡ bodyBytes form field = length-body form field p W C (omega arith) (omega arith) in
+    more {r = rec (curveKind form field) (bodyOf form field p W C)} (omega (arith, kind-few form field)) (omega (arith, l, body-few form field))
+    (curves-framable form field P (drop (worstMarks form) W) (drop (width form) C) (simp length-drop (omega arith)) (simp length-drop (omega arith)))
 
 pub framable : {F : File} {n k : ℕ} → Formed F n k → Framable (recordsOf F)
 unfolding recordsOf fitRecords
@@ -83,16 +84,36 @@ framable {F} {n} {k} f =
     s : Sized F n k
     s = f .sized
 
-    rest : (P : List ℕ) → length P ≡ k → Framable (fitRecords (F .form) P (F .worsts) (F .curves) (F .params))
+    rest : (P : List ℕ) → length P ≡ k → Framable (fitRecords (F .form) (fieldIn F) P (F .worsts) (F .curves) (F .params))
     rest [] h = none
     rest (p ∷ P) h =
         let some : 0 < k = omega arith in
         let q : length (F .params) ≡ n = s .params ∙ params-some n some in
         let w : length (F .worsts) ≡ worstMarks (F .form) * length (p ∷ P) = rw h (s .worsts ∙ worsts-each (F .form) k) in
         let c : length (F .curves) ≡ width (F .form) * length (p ∷ P) = rw h (s .curves) in
-        append (curves-framable (F .form) (p ∷ P) (F .worsts) (F .curves) w c) (more {r = rec 4 (les (F .params))} (omega arith) (omega (arith, length-les (F .params), f .few)) none)
+        append (curves-framable (F .form) (fieldIn F) (p ∷ P) (F .worsts) (F .curves) w c) (more {r = rec 4 (les (F .params))} (omega arith) (omega (arith, length-les (F .params), f .few)) none)
 
 -- ---- what is out of turn
 
 pub out-of-turn : {rs : List Record} → Framable rs → ((F : File) → wellFormed F ≡ true → recordsOf F ≡ rs → ⊥) → (M P W C Q : List ℕ) → readOf (flat rs) M P W C Q ≡ settled (refused badlyFormed) M P W C Q
 out-of-turn f never M P W C Q = refuses M P W C Q (λ F h. never F (h .formed) (one-cut (framable (formed F (h .formed))) f (h .bytes)))
+
+-- behind the marks stands a curve's kind, or nothing
+behind : (form : Form) (field : Field) (P W C Q : List ℕ) {kind : ℕ} {body : List ℕ} {rs : List Record} → fitRecords form field P W C Q ≡ rec kind body ∷ rs → kind ≡ curveKind form field
+unfolding fitRecords curveRecords
+behind form field [] W C Q {rs = rs} e = let z : 0 ≡ length (rec 0 [] ∷ rs) = ap length e in absurd (omega arith)
+behind form field (p ∷ P) W C Q e = sym (ap (λ (l : List Record). getD l 0 (rec 0 []) .kind) e)
+
+-- so a kind that does not suit the mark count is refused by 9
+pub unsuited : (t M body : List ℕ) (kind : ℕ) (rs : List Record) → Framable (rec 1 t ∷ (rec 2 (les M) ∷ (rec kind body ∷ rs)))
+    → ((form : Form) → kind ≡ curveKind form (fieldFor (length M / 2)) → ⊥) → (N P W C Q : List ℕ)
+    → readOf (flat (rec 1 t ∷ (rec 2 (les M) ∷ (rec kind body ∷ rs)))) N P W C Q ≡ settled (refused badlyFormed) N P W C Q
+unfolding recordsOf
+unsuited t M body kind rs f never =
+    out-of-turn f
+    (λ F h e.
+      let m : les (F .marks) ≡ les M = ap (λ (l : List Record). getD l 1 (rec 0 []) .body) e in
+      let l : 8 * length (F .marks) ≡ 8 * length M = sym (length-les (F .marks)) ∙ ap length m ∙ length-les M in
+      let n : marksIn F ≡ length M / 2 = omega arith in
+      let k : kind ≡ curveKind (F .form) (fieldIn F) = behind (F .form) (fieldIn F) (F .firsts) (F .worsts) (F .curves) (F .params) (ap (drop 2) e) in
+      never (F .form) (k ∙ ap (λ (x : ℕ). curveKind (F .form) (fieldFor x)) n))

@@ -1,7 +1,7 @@
 -- The round trips of 01: over the definition of the format, and of what the reader and the writer promise. Assumes nothing.
 use mathlib.Core.Path.{_≡_, refl, sym, ap, _∙_}
 use mathlib.Core.Bool.{true}
-use mathlib.Core.List.{List}
+use mathlib.Core.List.{List, _++_}
 use Prim.Native.Nat.{ℕ, _*_, _/_, _<_, _≤_, _^_}
 use native.Mathlib.Omega.{arith}
 use lib.ListN.{length, take, drop, length-append}
@@ -38,6 +38,10 @@ file-bytes-file F h = holds-file (record { formed = h; bytes = refl })
 -- and bytes that are read as a file are that file's bytes
 pub bytes-file-bytes : (b : List ℕ) (F : File) → fileOf b ≡ ok F → bytesOf F ≡ b
 bytes-file-bytes b F e = file-holds e .bytes
+
+-- so each file has one encoding: what is read from two byte strings as the same file is the same bytes
+pub one-encoding : (b c : List ℕ) (F : File) → fileOf b ≡ ok F → fileOf c ≡ ok F → b ≡ c
+one-encoding b c F e g = sym (bytes-file-bytes b F e) ∙ bytes-file-bytes c F g
 
 -- ---- of the promises
 
@@ -143,19 +147,40 @@ module _ {b M P W C Q : List ℕ} {F : File} (h : Holds b F) (s : Taken F M P W 
       } in
       rw em (rw bytes at (write-accepts (F .tolerance) O sound (rw bytes l)))
 
-pub read-then-written : (b M P W C Q O : List ℕ) (form : Form) (t n k : ℕ) (M′ P′ W′ C′ Q′ : List ℕ) (w : Wrote) (O′ : List ℕ)
+rewrites : (b M P W C Q O : List ℕ) (form : Form) (t n k : ℕ) (M′ P′ W′ C′ Q′ : List ℕ)
     → outcome (readAnswer (read.File form t n k)) M′ P′ W′ C′ Q′ ≡ readOf b M P W C Q
     → length b ≤ length O
-    → writing (writeAnswer w) O′ ≡ writeOf form t (take (2 * n) M′) k P′ W′ C′ Q′ O
-    → (writeAnswer w ≡ ok (length b)) × (O′ ≡ written b O)
-read-then-written b M P W C Q O form t n k M′ P′ W′ C′ Q′ w O′ e l q =
+    → writeOf form t (take (2 * n) M′) k P′ W′ C′ Q′ O ≡ writing (ok (length b)) (written b O)
+rewrites b M P W C Q O form t n k M′ P′ W′ C′ Q′ e l =
     let a = read-accepted e in
     let F : File = a .file in
     let eo : form ≡ F .form = ap (λ (f : Found). f .form) (a .answer) in
     let et : t ≡ F .tolerance = ap (λ (f : Found). f .tolerance) (a .answer) in
     let en : n ≡ marksIn F = ap (λ (f : Found). f .marks) (a .answer) in
     let ek : k ≡ curvesIn F = ap (λ (f : Found). f .curves) (a .answer) in
-    let z : writeOf form t (take (2 * n) M′) k P′ W′ C′ Q′ O ≡ writing (ok (length b)) (written b O) =
-    (λ i. writeOf (eo i) (et i) (take (2 * en i) (a .marks i)) (ek i) (a .firsts i) (a .worsts i) (a .curves i) (a .params i) O) ∙ rewritten (a .holds) (a .taken) O l in
-    let y = q ∙ z in
+    (λ i. writeOf (eo i) (et i) (take (2 * en i) (a .marks i)) (ek i) (a .firsts i) (a .worsts i) (a .curves i) (a .params i) O) ∙ rewritten (a .holds) (a .taken) O l
+
+pub read-then-written : (b M P W C Q O : List ℕ) (form : Form) (t n k : ℕ) (M′ P′ W′ C′ Q′ : List ℕ) (w : Wrote) (O′ : List ℕ)
+    → outcome (readAnswer (read.File form t n k)) M′ P′ W′ C′ Q′ ≡ readOf b M P W C Q
+    → length b ≤ length O
+    → writing (writeAnswer w) O′ ≡ writeOf form t (take (2 * n) M′) k P′ W′ C′ Q′ O
+    → (writeAnswer w ≡ ok (length b)) × (O′ ≡ written b O)
+read-then-written b M P W C Q O form t n k M′ P′ W′ C′ Q′ w O′ e l q =
+    let y = q ∙ rewrites b M P W C Q O form t n k M′ P′ W′ C′ Q′ e l in
     (ap (λ (o : Writing). o .answer) y, ap (λ (o : Writing). o .out) y)
+
+-- what two calls of the reader give alike, in answer and slices, they read from the same bytes: both are written again as they were
+pub read-alike : (b c M P W C Q N R X D S : List ℕ) (form : Form) (t n k : ℕ) (M′ P′ W′ C′ Q′ : List ℕ)
+    → outcome (readAnswer (read.File form t n k)) M′ P′ W′ C′ Q′ ≡ readOf b M P W C Q
+    → outcome (readAnswer (read.File form t n k)) M′ P′ W′ C′ Q′ ≡ readOf c N R X D S
+    → b ≡ c
+read-alike b c M P W C Q N R X D S form t n k M′ P′ W′ C′ Q′ e g =
+    let O : List ℕ = b ++ c in
+    let lb : length b ≤ length O = simp length-append (omega arith) in
+    let lc : length c ≤ length O = simp length-append (omega arith) in
+    let x = rewrites b M P W C Q O form t n k M′ P′ W′ C′ Q′ e lb in
+    let y = rewrites c N R X D S O form t n k M′ P′ W′ C′ Q′ g lc in
+    let z : writing (ok (length b)) (written b O) ≡ writing (ok (length c)) (written c O) = sym x ∙ y in
+    let a : ok (length b) ≡ ok (length c) = ap (λ (w : Writing). w .answer) z in
+    let l : length b ≡ length c = cc in
+    sym (front-written b O) ∙ ap (λ (x : ℕ). take x (written b O)) l ∙ ap (λ (w : Writing). take (length c) (w .out)) z ∙ front-written c O

@@ -8,6 +8,8 @@ use lib.ListN.{length, take}
 use Rattle.float.specs.Answer.{ok}
 use Rattle.form.specs.declared.Form.{Form}
 use Rattle.form.specs.Form.{worstsFor}
+use Rattle.limits.specs.Limits.{mostMarks}
+use Rattle.house.specs.Limits.{fieldFor, markField}
 use Rattle.house.specs.Bytes.{allFit}
 use Rattle.house.specs.File.{bytesOf, fewer}
 use Rattle.float.specs.Slices.{written}
@@ -17,11 +19,11 @@ use Rattle.grammar.proofs.Rooms.{Places, placing}
 -- the numbers and the slices make a file that the writer takes
 pub record Sound (form : Form) (M : List ℕ) (k : ℕ) (P W C Q : List ℕ) : Type 0 where
   pub even : length M % 2 ≡ 0
-  pub few : length M / 2 ≤ 4096
+  pub few : length M / 2 ≤ mostMarks
   pub places : Places form (length M / 2) k (length P) (length W) (length C) (length Q)
   pub fewer : fewer k (length M / 2) ≡ true
-  pub firsts : allFit 2 (take k P) ≡ true
-  pub worsts : allFit 2 (take (worstsFor form k) W) ≡ true
+  pub firsts : allFit (markField (fieldFor (length M / 2))) (take k P) ≡ true
+  pub worsts : allFit (markField (fieldFor (length M / 2))) (take (worstsFor form k) W) ≡ true
 
 pub write-accepts : (t : ℕ) (O : List ℕ) {form : Form} {M : List ℕ} {k : ℕ} {P W C Q : List ℕ} → Sound form M k P W C Q → length (bytesOf (fileFor form t M k P W C Q)) ≤ length O
     → writeOf form t M k P W C Q O ≡ writing (ok (length (bytesOf (fileFor form t M k P W C Q)))) (written (bytesOf (fileFor form t M k P W C Q)) O)
@@ -29,7 +31,7 @@ unfolding writeOf checked
 write-accepts t O {form} {M} {k} {P} {W} {C} {Q} s h =
     rw (
       eq-eqb (length M % 2) 0 (s .even),
-      le-leb (length M / 2) 4096 (s .few),
+      le-leb (length M / 2) mostMarks (s .few),
       placing (s .places),
       le-leb (length (bytesOf (fileFor form t M k P W C Q))) (length O) h,
       s .fewer,

@@ -7,7 +7,7 @@ use lib.ListN.{length, take, length-append}
 use lib.Seq.{length-take-le, sets}
 use Rattle.form.specs.declared.Form.{Form}
 use Rattle.form.specs.Form.{width, worstsFor}
-use Rattle.house.specs.Limits.{curveBytes}
+use Rattle.house.specs.Limits.{fieldFor, curveBytes}
 use Rattle.house.specs.Bytes.{le, les}
 use Rattle.house.specs.File.{File, rec, flat, curveRecords, bytesOf, formFor, paramsFor}
 use Rattle.float.specs.Slices.{written}
@@ -58,13 +58,13 @@ module _ {form : Form} {M : List ℕ} {k : ℕ} {P W C Q O : List ℕ} (t : ℕ)
   unfolding fileFor flat
   put-plain e =
       let none : length (take k P) ≡ 0 = length-take-le k P (r .firsts) ∙ e in
-      let z : bytesOf F ≡ start = bytes-are F ∙ rw (rest-none (formFor form k) (take k P) (take (worstsFor form k) W) (take (width form * k) C) (take (paramsFor n k) Q) none) in
+      let z : bytesOf F ≡ start = bytes-are F ∙ rw (rest-none (formFor form k) (fieldFor n) (take k P) (take (worstsFor form k) W) (take (width form * k) C) (take (paramsFor n k) Q) none) in
       rw (← z) (written-sets (bytesOf F) O whole)
 
   -- all four kinds, one behind the other
   module _ (some : 0 < k) where
     abbrev curves : List ℕ
-    curves = flat (curveRecords form (take k P) (take (worstsFor form k) W) (take (width form * k) C))
+    curves = flat (curveRecords form (fieldFor n) (take k P) (take (worstsFor form k) W) (take (width form * k) C))
 
     abbrev head : List ℕ
     head = le 4 (2 + 8 * n) ++ le 2 4
@@ -79,20 +79,20 @@ module _ {form : Form} {M : List ℕ} {k : ℕ} {P W C Q O : List ℕ} (t : ℕ)
     unfolding fileFor flat
     whole-is =
         let p : paramsFor n k ≡ n = params-some n some in
-        let e = rest-some form (take k P) (take (worstsFor form k) W) (take (width form * k) C) (take n Q) (rw length-firsts some) in
+        let e = rest-some form (fieldFor n) (take k P) (take (worstsFor form k) W) (take (width form * k) C) (take n Q) (rw length-firsts some) in
         bytes-are F ∙ rw (form-some form some, p, e) (simp (append-assoc, append-nil, length-params))
 
-    pub put-whole : sets (sets (sets (sets O 0 start) (20 + 16 * n) curves) (20 + 16 * n + curveBytes form * k) head) (20 + 16 * n + curveBytes form * k + 6) (les (take n Q)) ≡ written (bytesOf F) O
+    pub put-whole : sets (sets (sets (sets O 0 start) (20 + 16 * n) curves) (20 + 16 * n + curveBytes form (fieldFor n) * k) head) (20 + 16 * n + curveBytes form (fieldFor n) * k + 6) (les (take n Q)) ≡ written (bytesOf F) O
     unfolding flat
     put-whole =
         let a : length start ≡ 20 + 16 * n = simp (length-append, length-le, length-les) (omega (arith, even)) in
-        let c : length curves ≡ curveBytes form * k =
-        length-flat form (take k P) (take (worstsFor form k) W) (take (width form * k) C) (rw length-firsts (length-take-le (worstsFor form k) W (r .worsts) ∙ worsts-each form k)) (rw length-firsts (length-take-le (width form * k) C (r .curves)))
+        let c : length curves ≡ curveBytes form (fieldFor n) * k =
+        length-flat form (fieldFor n) (take k P) (take (worstsFor form k) W) (take (width form * k) C) (rw length-firsts (length-take-le (worstsFor form k) W (r .worsts) ∙ worsts-each form k)) (rw length-firsts (length-take-le (width form * k) C (r .curves)))
         ∙ rw length-firsts in
         let h : length head ≡ 6 = simp (length-append, length-le) in
         let p1 : 0 + length start ≡ 20 + 16 * n = omega arith in
-        let p2 : 0 + length (start ++ curves) ≡ 20 + 16 * n + curveBytes form * k = simp (length-append start curves, a, c) (omega arith) in
-        let p3 : 0 + length ((start ++ curves) ++ head) ≡ 20 + 16 * n + curveBytes form * k + 6 = simp (length-append (start ++ curves) head, length-append start curves, a, c, h) (omega arith) in
+        let p2 : 0 + length (start ++ curves) ≡ 20 + 16 * n + curveBytes form (fieldFor n) * k = simp (length-append start curves, a, c) (omega arith) in
+        let p3 : 0 + length ((start ++ curves) ++ head) ≡ 20 + 16 * n + curveBytes form (fieldFor n) * k + 6 = simp (length-append (start ++ curves) head, length-append start curves, a, c, h) (omega arith) in
         let s1 = sets-append start curves O 0 in
         let s2 = sets-append (start ++ curves) head O 0 in
         let s3 = sets-append ((start ++ curves) ++ head) (les (take n Q)) O 0 in

@@ -1,17 +1,20 @@
 -- Turns of the writer's loops, and records that are put one after another. Assumes nothing.
 use mathlib.Core.Path.{_≡_, refl, sym, _∙_}
-use mathlib.Core.Bool.{true, _&&_}
+use mathlib.Core.Bool.{true, false, _&&_}
 use mathlib.Core.List.{List, [], _∷_, _++_, append-assoc, append-nil}
 use Prim.Native.Nat.{ℕ, suc, _+_, _-_, _*_, _<_, _≤_, _^_}
 use native.Mathlib.Numerals.{add-one}
 use native.Mathlib.Omega.{arith}
+use borrow.Author.Tests.{ltb-true, lt-ltb}
 use lib.ListN.{length, take, drop, getD, length-append, length-take, length-drop}
 use lib.Seq.{drop-cons, take-add, take-suc, take-all, take-length, take-append-le, drop-append-le, length-take-le, getD-take, sets}
+use Rattle.float.proofs.Truth.{true-false}
 use Rattle.form.specs.declared.Form.{Form}
 use Rattle.form.specs.declared.Form.the-variants.{Eight, Nine}
 use Rattle.form.specs.Form.{width, worstsFor}
-use Rattle.house.specs.Limits.{worstMarks, besides, curveKind, bodyBytes, curveBytes}
-use Rattle.house.specs.Bytes.{le, rowBytes, les, allFit}
+use Rattle.house.specs.declared.sizes.Field.{Field}
+use Rattle.house.specs.Limits.{markField, worstMarks, besideBytes, curveKind, bodyBytes, curveBytes}
+use Rattle.house.specs.Bytes.{le, rowBytes, les, fits, allFit}
 use Rattle.house.specs.File.{rec, framed, flat, bodyOf, curveRecords, fewer}
 use Rattle.writer.specs.Writer.{marksFit}
 use Rattle.house.proofs.Forms.{worsts-each}
@@ -23,22 +26,22 @@ use Rattle.text.proofs.Stores.{sets-append}
 
 -- ---- mark numbers that fit: one more, and one that does not
 
-module _ (P : List ℕ) (k i : ℕ) (h : i < k) (l : k ≤ length P) where
-  pub fits-more : allFit 2 (take i P) ≡ true → getD P i 0 < 256 ^ 2 → allFit 2 (take (i + 1) P) ≡ true
+module _ (f : ℕ) (P : List ℕ) (k i : ℕ) (h : i < k) (l : k ≤ length P) where
+  pub fits-more : allFit f (take i P) ≡ true → fits f (getD P i 0) ≡ true → allFit f (take (i + 1) P) ≡ true
   unfolding allFit
-  fits-more f g =
+  fits-more all g =
       let e : take (i + 1) P ≡ take i P ++ (getD P i 0 ∷ []) = rw (add-one i) (take-suc P i 0 (omega arith)) in
-      rw e (fit-append 2 (take i P) (getD P i 0 ∷ []) f (fit-cons 2 (getD P i 0) [] g refl))
+      rw e (fit-append f (take i P) (getD P i 0 ∷ []) all (fit-cons f (getD P i 0) [] (ltb-true _ _ g) refl))
 
-  pub fits-stop : 256 ^ 2 ≤ getD P i 0 → allFit 2 (take k P) ≡ true → ⊥
-  fits-stop g f =
+  pub fits-stop : fits f (getD P i 0) ≡ false → allFit f (take k P) ≡ true → ⊥
+  fits-stop g all =
       let z : length (take k P) ≡ k = length-take-le k P l in
       let t : getD (take k P) i 0 ≡ getD P i 0 = getD-take k P i 0 h in
-      let s = fit-at 2 (take k P) i f (omega arith) in
-      omega arith
+      let s = fit-at f (take k P) i all (omega arith) in
+      true-false _ (lt-ltb (getD P i 0) (256 ^ f) (omega arith)) g
 
 -- without curves there is nothing to hold
-pub holds-none : (form : Form) (n k : ℕ) (P W : List ℕ) → k ≡ 0 → true ≡ fewer k n && marksFit form k P W
+pub holds-none : (form : Form) (n k : ℕ) (P W : List ℕ) → k ≡ 0 → true ≡ fewer k n && marksFit form n k P W
 unfolding allFit
 holds-none Eight n k P W e = rw e
 holds-none Nine n k P W e = rw e
@@ -46,36 +49,39 @@ holds-none Nine n k P W e = rw e
 -- ---- curves
 
 -- the mark numbers of one: its first mark alone, or its worst mark too
-pub beside-one : (l : List ℕ) (at : ℕ) (form : Form) (p i : ℕ) (W : List ℕ) → form ≡ Eight → sets l at (le 2 p) ≡ sets l at (le 2 p ++ rowBytes 2 (take (worstMarks form) (drop (worstsFor form i) W)))
+pub beside-one : (f : ℕ) (l : List ℕ) (at : ℕ) (form : Form) (p i : ℕ) (W : List ℕ) → form ≡ Eight → sets l at (le f p) ≡ sets l at (le f p ++ rowBytes f (take (worstMarks form) (drop (worstsFor form i) W)))
 unfolding rowBytes
-beside-one l at form p i W e = rw (e, append-nil)
+beside-one f l at form p i W e = rw (e, append-nil)
 
-pub beside-two : (l : List ℕ) (at : ℕ) (form : Form) (p i : ℕ) (W : List ℕ) → form ≡ Nine → i < length W
-    → sets (sets l at (le 2 p)) (at + 2) (le 2 (getD W i 0)) ≡ sets l at (le 2 p ++ rowBytes 2 (take (worstMarks form) (drop (worstsFor form i) W)))
+pub beside-two : (f : ℕ) (l : List ℕ) (at : ℕ) (form : Form) (p i : ℕ) (W : List ℕ) → form ≡ Nine → i < length W
+    → sets (sets l at (le f p)) (at + f) (le f (getD W i 0)) ≡ sets l at (le f p ++ rowBytes f (take (worstMarks form) (drop (worstsFor form i) W)))
 unfolding rowBytes
-beside-two l at form p i W e h = let d : drop i W ≡ getD W i 0 ∷ drop (suc i) W = drop-cons W i 0 h in put-both l at 2 2 p (getD W i 0) ∙ rw (e, d, append-nil)
+beside-two f l at form p i W e h = let d : drop i W ≡ getD W i 0 ∷ drop (suc i) W = drop-cons W i 0 h in put-both l at f f p (getD W i 0) ∙ rw (e, d, append-nil)
 
-module _ (form : Form) where
+module _ (form : Form) (field : Field) where
+  abbrev f : ℕ
+  f = markField field
+
   -- one record: head, mark numbers, numbers
   pub curve-put : (l : List ℕ) (at p : ℕ) (W C : List ℕ) → worstMarks form ≤ length W → width form ≤ length C
-      → sets (sets (sets l at (le 4 (2 + bodyBytes form) ++ le 2 (curveKind form))) (at + 6) (le 2 p ++ rowBytes 2 (take (worstMarks form) W))) (at + 6 + 2 * besides form) (les (take (width form) C))
-      ≡ sets l at (framed (rec (curveKind form) (bodyOf form p W C)))
+      → sets (sets (sets l at (le 4 (2 + bodyBytes form field) ++ le 2 (curveKind form field))) (at + 6) (le f p ++ rowBytes f (take (worstMarks form) W))) (at + 6 + besideBytes form field) (les (take (width form) C))
+      ≡ sets l at (framed (rec (curveKind form field) (bodyOf form field p W C)))
   curve-put l at p W C hw hc =
-      let hd : List ℕ = le 4 (2 + bodyBytes form) ++ le 2 (curveKind form) in
-      let ms : List ℕ = le 2 p ++ rowBytes 2 (take (worstMarks form) W) in
+      let hd : List ℕ = le 4 (2 + bodyBytes form field) ++ le 2 (curveKind form field) in
+      let ms : List ℕ = le f p ++ rowBytes f (take (worstMarks form) W) in
       let ns : List ℕ = les (take (width form) C) in
-      let z : length (bodyOf form p W C) ≡ bodyBytes form = length-body form p W C hw hc in
+      let z : length (bodyOf form field p W C) ≡ bodyBytes form field = length-body form field p W C hw hc in
       let lw : length (take (worstMarks form) W) ≡ worstMarks form = length-take-le (worstMarks form) W hw in
-      let spread : framed (rec (curveKind form) (bodyOf form p W C)) ≡ (hd ++ ms) ++ ns = rw z (simp append-assoc) in
+      let spread : framed (rec (curveKind form field) (bodyOf form field p W C)) ≡ (hd ++ ms) ++ ns = rw z (simp append-assoc) in
       let s1 = sets-append hd ms l at in
       let s2 = sets-append (hd ++ ms) ns l at in
       let p1 : at + length hd ≡ at + 6 = simp (length-append, length-le) in
-      let p2 : at + length (hd ++ ms) ≡ at + 6 + 2 * besides form = simp (length-append, length-le, length-bytes, lw) (omega arith) in
+      let p2 : at + length (hd ++ ms) ≡ at + 6 + besideBytes form field = simp (length-append, length-le, length-bytes, lw) (omega arith) in
       sym (rw spread (s2 ∙ rw (p2, s1, p1)))
 
   -- one record more
   curves-snoc : (P W C w c : List ℕ) (p : ℕ) → length W ≡ worstMarks form * length P → length C ≡ width form * length P
-      → flat (curveRecords form (P ++ (p ∷ [])) (W ++ w) (C ++ c)) ≡ flat (curveRecords form P W C) ++ framed (rec (curveKind form) (bodyOf form p w c))
+      → flat (curveRecords form field (P ++ (p ∷ [])) (W ++ w) (C ++ c)) ≡ flat (curveRecords form field P W C) ++ framed (rec (curveKind form field) (bodyOf form field p w c))
   unfolding flat curveRecords
   curves-snoc [] W C w c p hw hc =
       let eW : W ≡ [] = empty W (omega arith) in
@@ -88,14 +94,14 @@ module _ (form : Form) where
       let dc : drop (width form) (C ++ c) ≡ drop (width form) C ++ c = drop-append-le (width form) C c (omega arith) in
       let i = curves-snoc P (drop (worstMarks form) W) (drop (width form) C) w c p (simp length-drop (omega arith)) (simp length-drop (omega arith)) in
       rw (tw, dw, tc, dc, i)
-      (sym (append-assoc (framed (rec (curveKind form) (bodyOf form x W C))) (flat (curveRecords form P (drop (worstMarks form) W) (drop (width form) C))) (framed (rec (curveKind form) (bodyOf form p w c)))))
+      (sym (append-assoc (framed (rec (curveKind form field) (bodyOf form field x W C))) (flat (curveRecords form field P (drop (worstMarks form) W) (drop (width form) C))) (framed (rec (curveKind form field) (bodyOf form field p w c)))))
 
   pub curves-put : (l P W C : List ℕ) (at i : ℕ) → i < length P → worstsFor form (i + 1) ≤ length W → width form * (i + 1) ≤ length C
-      → sets (sets l at (flat (curveRecords form (take i P) (take (worstsFor form i) W) (take (width form * i) C)))) (at + curveBytes form * i)
-      (framed (rec (curveKind form) (bodyOf form (getD P i 0) (drop (worstsFor form i) W) (drop (width form * i) C))))
-      ≡ sets l at (flat (curveRecords form (take (i + 1) P) (take (worstsFor form (i + 1)) W) (take (width form * (i + 1)) C)))
+      → sets (sets l at (flat (curveRecords form field (take i P) (take (worstsFor form i) W) (take (width form * i) C)))) (at + curveBytes form field * i)
+      (framed (rec (curveKind form field) (bodyOf form field (getD P i 0) (drop (worstsFor form i) W) (drop (width form * i) C))))
+      ≡ sets l at (flat (curveRecords form field (take (i + 1) P) (take (worstsFor form (i + 1)) W) (take (width form * (i + 1)) C)))
   curves-put l P W C at i h hw hc =
-      let rs : List ℕ = flat (curveRecords form (take i P) (take (worstsFor form i) W) (take (width form * i) C)) in
+      let rs : List ℕ = flat (curveRecords form field (take i P) (take (worstsFor form i) W) (take (width form * i) C)) in
       let p : ℕ = getD P i 0 in
       let w : List ℕ = take (worstMarks form) (drop (worstsFor form i) W) in
       let c : List ℕ = take (width form) (drop (width form * i) C) in
@@ -104,14 +110,14 @@ module _ (form : Form) where
       let lp : length (take i P) ≡ i = length-take-le i P (omega arith) in
       let lw : length (take (worstsFor form i) W) ≡ worstMarks form * length (take i P) = rw lp (length-take-le (worstsFor form i) W (omega arith) ∙ worsts-each form i) in
       let lc : length (take (width form * i) C) ≡ width form * length (take i P) = rw lp (length-take-le (width form * i) C (omega arith)) in
-      let lr : length rs ≡ curveBytes form * i = length-flat form (take i P) (take (worstsFor form i) W) (take (width form * i) C) lw lc ∙ rw lp in
+      let lr : length rs ≡ curveBytes form field * i = length-flat form field (take i P) (take (worstsFor form i) W) (take (width form * i) C) lw lc ∙ rw lp in
       let tp : take (i + 1) P ≡ take i P ++ (p ∷ []) = rw (add-one i, take-suc P i 0) in
       let tw : take (worstsFor form (i + 1)) W ≡ take (worstsFor form i) W ++ w = rw (← ew, take-add) in
       let tc : take (width form * (i + 1)) C ≡ take (width form * i) C ++ c = rw (← ec, take-add) in
       let sw : take (worstMarks form) w ≡ w = take-all (worstMarks form) w (simp length-take (omega arith)) in
       let sc : take (width form) c ≡ c = take-all (width form) c (simp length-take (omega arith)) in
-      let fr : List ℕ = framed (rec (curveKind form) (bodyOf form p (drop (worstsFor form i) W) (drop (width form * i) C))) in
-      let all : flat (curveRecords form (take (i + 1) P) (take (worstsFor form (i + 1)) W) (take (width form * (i + 1)) C)) ≡ rs ++ fr =
+      let fr : List ℕ = framed (rec (curveKind form field) (bodyOf form field p (drop (worstsFor form i) W) (drop (width form * i) C))) in
+      let all : flat (curveRecords form field (take (i + 1) P) (take (worstsFor form (i + 1)) W) (take (width form * (i + 1)) C)) ≡ rs ++ fr =
       rw (tp, tw, tc) (curves-snoc (take i P) (take (worstsFor form i) W) (take (width form * i) C) w c p lw lc ∙ rw (sw, sc)) in
       let s = sets-append rs fr l at in
       sym (rw all (s ∙ rw lr))

@@ -7,6 +7,7 @@ use borrow.Author.Tests.{le-leb, lt-leb, eq-eqb, ne-eqb}
 use lib.ListN.{length}
 use Rattle.float.specs.Answer.{ok, refused}
 use Rattle.form.specs.declared.Form.{Form}
+use Rattle.limits.specs.Limits.{mostMarks}
 use Rattle.house.specs.File.{File, bytesOf, fewer}
 use Rattle.float.specs.Slices.{written}
 use Rattle.house.specs.Slices.{room}
@@ -43,21 +44,21 @@ module _ (w : Call) where
   roomed = room (w .form) marked (w .count) (length (w .firsts)) (length (w .worsts)) (length (w .curves)) (length (w .params))
 
   abbrev holdable : Bool
-  holdable = fewer (w .count) marked && marksFit (w .form) (w .count) (w .firsts) (w .worsts)
+  holdable = fewer (w .count) marked && marksFit (w .form) marked (w .count) (w .firsts) (w .worsts)
 
   pub write-odd : (length (w .marks) % 2 ≡ 0 → ⊥) → writing (refused 3) (w .out) ≡ answers
   unfolding writeOf checked
   write-odd h = rw (ne-eqb (length (w .marks) % 2) 0 h)
 
   module _ (even : length (w .marks) % 2 ≡ 0) where
-    pub write-many : 4096 < marked → writing (refused 2) (w .out) ≡ answers
+    pub write-many : mostMarks < marked → writing (refused 2) (w .out) ≡ answers
     unfolding writeOf checked
-    write-many h = rw (eq-eqb (length (w .marks) % 2) 0 even, lt-leb marked 4096 h)
+    write-many h = rw (eq-eqb (length (w .marks) % 2) 0 even, lt-leb marked mostMarks h)
 
-    module _ (few : marked ≤ 4096) where
+    module _ (few : marked ≤ mostMarks) where
       pub write-short : roomed ≡ false → writing (refused 4) (w .out) ≡ answers
       unfolding writeOf checked
-      write-short h = rw (eq-eqb (length (w .marks) % 2) 0 even, le-leb marked 4096 few, h)
+      write-short h = rw (eq-eqb (length (w .marks) % 2) 0 even, le-leb marked mostMarks few, h)
 
       module _ (roomy : roomed ≡ true) where
         size-is : length (bytesOf file) ≡ sizeFor (w .form) marked (w .count)
@@ -65,12 +66,12 @@ module _ (w : Call) where
 
         pub write-small : length (w .out) < sizeFor (w .form) marked (w .count) → writing (refused 4) (w .out) ≡ answers
         unfolding writeOf checked
-        write-small h = rw (eq-eqb (length (w .marks) % 2) 0 even, le-leb marked 4096 few, roomy, size-is, lt-leb (sizeFor (w .form) marked (w .count)) (length (w .out)) h)
+        write-small h = rw (eq-eqb (length (w .marks) % 2) 0 even, le-leb marked mostMarks few, roomy, size-is, lt-leb (sizeFor (w .form) marked (w .count)) (length (w .out)) h)
 
         module _ (whole : sizeFor (w .form) marked (w .count) ≤ length (w .out)) where
           pub write-unfit : holdable ≡ false → writing (refused 9) (w .out) ≡ answers
           unfolding writeOf checked
-          write-unfit h = rw (eq-eqb (length (w .marks) % 2) 0 even, le-leb marked 4096 few, roomy, size-is, le-leb (sizeFor (w .form) marked (w .count)) (length (w .out)) whole, h)
+          write-unfit h = rw (eq-eqb (length (w .marks) % 2) 0 even, le-leb marked mostMarks few, roomy, size-is, le-leb (sizeFor (w .form) marked (w .count)) (length (w .out)) whole, h)
 
           pub write-done : holdable ≡ true → {s : ℕ} {O′ : List ℕ} → s ≡ sizeFor (w .form) marked (w .count) → O′ ≡ written (bytesOf file) (w .out) → writing (ok s) O′ ≡ answers
           write-done fit es eo =

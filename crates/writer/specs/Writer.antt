@@ -9,7 +9,8 @@ use Rattle.form.specs.declared.Form.{Form}
 use Rattle.form.specs.Form.{width, worstsFor}
 use Rattle.writer.specs.declared.Wrote.{Wrote}
 use Rattle.writer.specs.declared.Wrote.the-variants as wrote
-use Rattle.house.specs.Limits.{tooMany, oddMarks, noRoom, badlyFormed, mostMarks, markField, markNumbers}
+use Rattle.limits.specs.Limits.{mostMarks}
+use Rattle.house.specs.Limits.{tooMany, oddMarks, noRoom, badlyFormed, fieldFor, markField, markNumbers}
 use Rattle.house.specs.Bytes.{allFit}
 use Rattle.house.specs.File.{File, bytesOf, fewer, formFor, paramsFor}
 use Rattle.float.specs.Slices.{written}
@@ -27,9 +28,9 @@ fileFor form t M k P W C Q = record {
   params = take (paramsFor (length M / markNumbers) k) Q;
 }
 
--- whether the mark numbers fit their field
-abbrev pub marksFit : Form → ℕ → List ℕ → List ℕ → Bool
-marksFit form k P W = allFit markField (take k P) && allFit markField (take (worstsFor form k) W)
+-- whether the mark numbers of k curves fit the field that goes with n marks
+abbrev pub marksFit : Form → ℕ → ℕ → List ℕ → List ℕ → Bool
+marksFit form n k P W = allFit (markField (fieldFor n)) (take k P) && allFit (markField (fieldFor n)) (take (worstsFor form k) W)
 
 -- 3, 2, 4, 9, or the file: o is the room for bytes
 unfoldable pub checked : Form → ℕ → List ℕ → ℕ → List ℕ → List ℕ → List ℕ → List ℕ → ℕ → Answer File
@@ -37,7 +38,7 @@ checked form t M k P W C Q o =
     unless oddMarks (eqb (length M % markNumbers) 0)
     (unless tooMany (leb (length M / markNumbers) mostMarks)
     (unless noRoom (room form (length M / markNumbers) k (length P) (length W) (length C) (length Q) && leb (length (bytesOf (fileFor form t M k P W C Q))) o)
-    (unless badlyFormed (fewer k (length M / markNumbers) && marksFit form k P W)
+    (unless badlyFormed (fewer k (length M / markNumbers) && marksFit form (length M / markNumbers) k P W)
     (ok (fileFor form t M k P W C Q)))))
 
 -- the document's number and values for each case of the answer: `ok` is its number 0

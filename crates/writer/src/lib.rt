@@ -9,6 +9,7 @@ use form::Form;
 use house::sizes;
 use house::sizes::has_room;
 use house::sizes::size_for;
+use limits::MOST_MARKS;
 use records::can_hold;
 use records::put_file;
 ghost use mathlib.Core.Path.{_≡_};
@@ -38,7 +39,7 @@ pub fn write_file(
         return Wrote::Refused(ODD);
     }
     let n = marks.len() / sizes::MARK_NUMBERS;
-    if n > sizes::MOST_MARKS {
+    if n > MOST_MARKS {
         return Wrote::Refused(TOO_MANY);
     }
     if has_room(

@@ -4,9 +4,11 @@ use form::width;
 use form::worsts_for;
 use house::bytes::put_eight;
 use house::bytes::put_four;
+use house::bytes::put_mark;
 use house::bytes::put_two;
 use house::bytes::put_words;
 use house::sizes;
+use house::sizes::Field;
 ghost use mathlib.Core.Path.{_≡_};
 ghost use mathlib.Core.Bool.{_&&_};
 ghost use mathlib.Core.List.{_++_, _∷_, []};
@@ -14,27 +16,25 @@ ghost use Prim.Native.Nat.{_+_, _*_, _/_, _%_, _<_, _≤_};
 ghost use lib.ListN.{length, take, drop, getD};
 ghost use lib.Seq.{sets};
 ghost use Rattle.form.specs.Form.{width, worstsFor};
-ghost use Rattle.house.specs.Limits.{lengthField, kindField, markField, numberField, markNumbers, worstMarks, besides, headBytes, curveBytes, marksAt, toleranceKind, marksKind, curveKind};
+ghost use Rattle.house.specs.Limits.{lengthField, kindField, markField, numberField, markNumbers, worstMarks, besideBytes, headBytes, curveBytes, marksAt, toleranceKind, marksKind, curveKind};
 ghost use Rattle.house.specs.Bytes.{le, rowBytes, les, allFit};
 ghost use Rattle.house.specs.File.{rec, framed, flat, bodyOf, curveRecords, bytesOf, fewer};
 ghost use Rattle.house.specs.Layout.{Room};
 ghost use Rattle.float.specs.Slices.{written};
 ghost use Rattle.writer.specs.Writer.{fileFor, marksFit};
 
-// The first number that the field of a mark's number does not hold.
-const MARK_TOP: u32 = 65536;
-
 // Whether the first k mark numbers fit their field.
-fn marks_fit(marks: &[u32], k: usize) -> bool
+fn marks_fit(field: Field, marks: &[u32], k: usize) -> bool
     requires { ⌜ k ≤ length (now marks) ⌝ }
-    ensures { λ r. ⌜ r ≡ allFit markField (take k (now (marks .entry))) ⌝ }
+    ensures { λ r. ⌜ r ≡ allFit (markField field) (take k (now (marks .entry))) ⌝ }
 {
     let mut i = 0;
     while i < k {
-        if marks[i] >= MARK_TOP {
-            return false;
+        if sizes::mark_fits(field, marks[i] as u64) {
+            i += 1;
+            continue;
         }
-        i += 1;
+        return false;
     }
     true
 }
@@ -42,7 +42,7 @@ fn marks_fit(marks: &[u32], k: usize) -> bool
 // Whether a file can hold k curves, with these first and worst marks, beside n marks.
 pub fn can_hold(form: Form, n: usize, k: usize, firsts: &[u32], worsts: &[u32]) -> bool
     requires { ⌜ (k ≤ length (now firsts)) × (worstsFor form k ≤ length (now worsts)) ⌝ }
-    ensures { λ r. ⌜ r ≡ fewer k n && (marksFit form k (now (firsts .entry)) (now (worsts .entry))) ⌝ }
+    ensures { λ r. ⌜ r ≡ fewer k n && (marksFit form n k (now (firsts .entry)) (now (worsts .entry))) ⌝ }
 {
     if k == 0 {
         return true;
@@ -50,8 +50,9 @@ pub fn can_hold(form: Form, n: usize, k: usize, firsts: &[u32], worsts: &[u32]) 
     if n <= k {
         return false;
     }
-    if marks_fit(firsts, k) {
-        return marks_fit(worsts, worsts_for(form, k));
+    let field = sizes::field_for(n);
+    if marks_fit(field, firsts, k) {
+        return marks_fit(field, worsts, worsts_for(form, k));
     }
     false
 }
@@ -79,15 +80,23 @@ fn put_marks(out: &mut [u8], tolerance: u64, marks: &[u64])
 }
 
 // The mark numbers of curve i, at `at`: its first mark, and its worst mark where it is kept.
-fn put_beside(out: &mut [u8], at: usize, form: Form, firsts: &[u32], worsts: &[u32], i: usize)
-    requires { ⌜ (at + markField * besides form ≤ length (now out)) × ((i < length (now firsts)) × (worstsFor form (i + 1) ≤ length (now worsts))) ⌝ }
-    ensures { λ _. ⌜ now (out .exit) ≡ sets (now (out .entry)) at (le markField (getD (now (firsts .entry)) i 0) ++ rowBytes markField (take (worstMarks form) (drop (worstsFor form i) (now (worsts .entry))))) ⌝ }
+fn put_beside(
+    out: &mut [u8],
+    at: usize,
+    form: Form,
+    field: Field,
+    firsts: &[u32],
+    worsts: &[u32],
+    i: usize,
+)
+    requires { ⌜ (at + besideBytes form field ≤ length (now out)) × ((i < length (now firsts)) × (worstsFor form (i + 1) ≤ length (now worsts))) ⌝ }
+    ensures { λ _. ⌜ now (out .exit) ≡ sets (now (out .entry)) at (le (markField field) (getD (now (firsts .entry)) i 0) ++ rowBytes (markField field) (take (worstMarks form) (drop (worstsFor form i) (now (worsts .entry))))) ⌝ }
 {
-    put_two(out, at, firsts[i] as u64);
+    put_mark(out, at, field, firsts[i] as u64);
     let Form::Nine = form else {
         return;
     };
-    put_two(out, at + sizes::MARK_FIELD, worsts[i] as u64);
+    put_mark(out, at + sizes::mark_field(field), field, worsts[i] as u64);
 }
 
 // The record of curve i, at `at`.
@@ -95,19 +104,20 @@ fn put_curve(
     out: &mut [u8],
     at: usize,
     form: Form,
+    field: Field,
     firsts: &[u32],
     worsts: &[u32],
     curves: &[u64],
     i: usize,
 )
-    requires { ⌜ (at + curveBytes form ≤ length (now out)) × ((i < length (now firsts)) × ((worstsFor form (i + 1) ≤ length (now worsts)) × (width form * (i + 1) ≤ length (now curves)))) ⌝ }
-    ensures { λ _. ⌜ now (out .exit) ≡ sets (now (out .entry)) at (framed (rec (curveKind form) (bodyOf form (getD (now (firsts .entry)) i 0) (drop (worstsFor form i) (now (worsts .entry))) (drop (width form * i) (now (curves .entry)))))) ⌝ }
+    requires { ⌜ (at + curveBytes form field ≤ length (now out)) × ((i < length (now firsts)) × ((worstsFor form (i + 1) ≤ length (now worsts)) × (width form * (i + 1) ≤ length (now curves)))) ⌝ }
+    ensures { λ _. ⌜ now (out .exit) ≡ sets (now (out .entry)) at (framed (rec (curveKind form field) (bodyOf form field (getD (now (firsts .entry)) i 0) (drop (worstsFor form i) (now (worsts .entry))) (drop (width form * i) (now (curves .entry)))))) ⌝ }
 {
-    let size = sizes::KIND_FIELD + sizes::body_bytes(form);
-    put_head(out, at, size as u64, sizes::curve_kind(form));
+    let size = sizes::KIND_FIELD + sizes::body_bytes(form, field);
+    put_head(out, at, size as u64, sizes::curve_kind(form, field));
     let body = at + sizes::HEAD_BYTES;
-    put_beside(out, body, form, firsts, worsts, i);
-    let numbers = body + sizes::beside_bytes(form);
+    put_beside(out, body, form, field, firsts, worsts, i);
+    let numbers = body + sizes::beside_bytes(form, field);
     let n = width(form);
     let j = n * i;
     put_words(out, numbers, &curves[j..], n);
@@ -118,18 +128,19 @@ fn put_curves(
     out: &mut [u8],
     at: usize,
     form: Form,
+    field: Field,
     firsts: &[u32],
     worsts: &[u32],
     curves: &[u64],
     k: usize,
 )
-    requires { ⌜ (at + curveBytes form * k ≤ length (now out)) × ((k ≤ length (now firsts)) × ((worstsFor form k ≤ length (now worsts)) × (width form * k ≤ length (now curves)))) ⌝ }
-    ensures { λ _. ⌜ now (out .exit) ≡ sets (now (out .entry)) at (flat (curveRecords form (take k (now (firsts .entry))) (take (worstsFor form k) (now (worsts .entry))) (take (width form * k) (now (curves .entry))))) ⌝ }
+    requires { ⌜ (at + curveBytes form field * k ≤ length (now out)) × ((k ≤ length (now firsts)) × ((worstsFor form k ≤ length (now worsts)) × (width form * k ≤ length (now curves)))) ⌝ }
+    ensures { λ _. ⌜ now (out .exit) ≡ sets (now (out .entry)) at (flat (curveRecords form field (take k (now (firsts .entry))) (take (worstsFor form k) (now (worsts .entry))) (take (width form * k) (now (curves .entry))))) ⌝ }
 {
-    let step = sizes::HEAD_BYTES + sizes::body_bytes(form);
+    let step = sizes::HEAD_BYTES + sizes::body_bytes(form, field);
     let mut i = 0;
     while i < k {
-        put_curve(out, at + step * i, form, firsts, worsts, curves, i);
+        put_curve(out, at + step * i, form, field, firsts, worsts, curves, i);
         i += 1;
     }
 }
@@ -156,9 +167,11 @@ pub fn put_file(
     }
     let n = marks.len() / sizes::MARK_NUMBERS;
     let end = sizes::MARKS_AT + sizes::MARK_BYTES * n;
-    put_curves(out, end, form, firsts, worsts, curves, k);
-    let last = end + (sizes::HEAD_BYTES + sizes::body_bytes(form)) * k;
+    let field = sizes::field_for(n);
+    put_curves(out, end, form, field, firsts, worsts, curves, k);
+    let last = end + (sizes::HEAD_BYTES + sizes::body_bytes(form, field)) * k;
+    let numbers = last + sizes::HEAD_BYTES;
     let size = sizes::KIND_FIELD + sizes::NUMBER_FIELD * n;
     put_head(out, last, size as u64, sizes::PARAMS_KIND);
-    put_words(out, last + sizes::HEAD_BYTES, params, n);
+    put_words(out, numbers, params, n);
 }

@@ -6,6 +6,7 @@ use mathlib.Core.Path.{_≡_, sym, ap, _∙_}
 use mathlib.Core.List.{List}
 use lib.Ieee.{Float}
 use lib.ListN.{length, length-take}
+use Rattle.limits.specs.Limits.{mostMarks}
 use Rattle.marks.specs.Marks.{count}
 use Rattle.marks.specs.Block.{blockSize}
 use Rattle.ring.specs.Ring.{again}
@@ -31,15 +32,15 @@ outline c = outlineOf (first c .args .cutting)
 abbrev marks : tie.After-gate → List Float
 marks c = marksOf (first c .args .cutting) (first c .args .marks .now)
 
-abbrev tested : (c : tie.After-gate) → c .gate .result ≡ gateOf 4096 (outline c) (first c .args .marks .now) (first c .args .tolerance) (length (first c .args .curves .now)) (length (first c .args .firsts .now)) (length (first c .args .worsts .now)) (length (first c .args .params .now))
-tested c = of-outline 4096 _ (outline c) (first c .args .marks .now) (first c .args .tolerance) _ _ _ _ _ (c .before .outline-of .ensures) (c .gate .ensures)
+abbrev tested : (c : tie.After-gate) → c .gate .result ≡ gateOf mostMarks (outline c) (first c .args .marks .now) (first c .args .tolerance) (length (first c .args .curves .now)) (length (first c .args .firsts .now)) (length (first c .args .worsts .now)) (length (first c .args .params .now))
+tested c = of-outline mostMarks _ (outline c) (first c .args .marks .now) (first c .args .tolerance) (length (first c .args .curves .now)) (length (first c .args .firsts .now)) (length (first c .args .worsts .now)) (length (first c .args .params .now)) (c .gate .result) (c .before .outline-of .ensures) (c .gate .ensures)
 
 -- with n parameters
 abbrev entry : ℕ → tie.After-gate → Fit
-entry n c = record { n = n; R = blocksOf (first c .args .cutting) (marks c) (blockSize (count (marks c))) (first c .args .tolerance); C = first c .args .curves .now; F = first c .args .firsts .now; W = first c .args .worsts .now; P = first c .args .params .now; g = gateOf 4096 (outline c) (first c .args .marks .now) (first c .args .tolerance) (length (first c .args .curves .now)) (length (first c .args .firsts .now)) (length (first c .args .worsts .now)) (length (first c .args .params .now)); q = c .gate .result; tested = tested c }
+entry n c = record { n = n; R = blocksOf (first c .args .cutting) (marks c) (blockSize (count (marks c))) (first c .args .tolerance); C = first c .args .curves .now; F = first c .args .firsts .now; W = first c .args .worsts .now; P = first c .args .params .now; g = gateOf mostMarks (outline c) (first c .args .marks .now) (first c .args .tolerance) (length (first c .args .curves .now)) (length (first c .args .firsts .now)) (length (first c .args .worsts .now)) (length (first c .args .params .now)); q = c .gate .result; tested = tested c }
 
-abbrev through : (c : tie.Else1) → Passed 4096 (outline (c .before)) (first (c .before) .args .marks .now) (first (c .before) .args .tolerance) (length (first (c .before) .args .curves .now)) (length (first (c .before) .args .firsts .now)) (length (first (c .before) .args .worsts .now)) (length (first (c .before) .args .params .now))
-through c = passed 4096 (outline (c .before)) (first (c .before) .args .marks .now) (first (c .before) .args .tolerance) _ _ _ _ (sym (tested (c .before)) ∙ c .if1 .left)
+abbrev through : (c : tie.Else1) → Passed mostMarks (outline (c .before)) (first (c .before) .args .marks .now) (first (c .before) .args .tolerance) (length (first (c .before) .args .curves .now)) (length (first (c .before) .args .firsts .now)) (length (first (c .before) .args .worsts .now)) (length (first (c .before) .args .params .now))
+through c = passed mostMarks (outline (c .before)) (first (c .before) .args .marks .now) (first (c .before) .args .tolerance) _ _ _ _ (sym (tested (c .before)) ∙ c .if1 .left)
 
 -- the marks that count again, and all that are cut
 abbrev more : (c : tie.After-again) → c .again .result ≡ again (outline (c .before .before))
@@ -119,7 +120,7 @@ fit-blocks-requires : tie.Need-fit-blocks-requires
 fit-blocks-requires c κs =
     let a = c .before .before .before .before .before in
     let f = first (a .before .before) .args in
-    (of-count (marks (a .before .before)) (f .tolerance) (f .curves .now) (f .firsts .now) (f .worsts .now) (f .params .now) (again (outline (a .before .before)) + count (f .marks .now)) (many a) (omega (arith, more a)) (passed-ready 4096 (outline (a .before .before)) (f .marks .now) (f .tolerance) (f .curves .now) (f .firsts .now) (f .worsts .now) (f .params .now) (omega arith) (through (a .before))), size-within _ (c .before .before .before .before .max-points-to-fit .result) (c .before .before .before .before .max-points-to-fit .ensures))
+    (of-count (marks (a .before .before)) (f .tolerance) (f .curves .now) (f .firsts .now) (f .worsts .now) (f .params .now) (again (outline (a .before .before)) + count (f .marks .now)) (many a) (omega (arith, more a)) (passed-ready mostMarks (outline (a .before .before)) (f .marks .now) (f .tolerance) (f .curves .now) (f .firsts .now) (f .worsts .now) (f .params .now) (omega arith) (through (a .before))), size-within _ (c .before .before .before .before .max-points-to-fit .result) (c .before .before .before .before .max-points-to-fit .ensures))
 
 enum-known-out : tie.Need-enum-known-out
 enum-known-out c = search needs

@@ -7,10 +7,10 @@ use Rattle.house_cases.proofs.change_at.Statement.{statement}
 use Rattle.house_cases.proofs.change_at.Tie as tie
 
 abbrev Inv-loop : tie.InvT-loop
-Inv-loop file₀ at marks₀ firsts₀ worsts₀ curves₀ params₀ was t₀ d₀ file marks firsts worsts curves params t d = (d ≤ 256) × (length file ≡ length file₀) × (length marks ≡ length marks₀) × (length firsts ≡ length firsts₀) × (length worsts ≡ length worsts₀) × (length curves ≡ length curves₀) × (length params ≡ length params₀)
+Inv-loop file₀ at values marks₀ firsts₀ worsts₀ curves₀ params₀ was t₀ d₀ file marks firsts worsts curves params t d = (length file ≡ length file₀) × (length marks ≡ length marks₀) × (length firsts ≡ length firsts₀) × (length worsts ≡ length worsts₀) × (length curves ≡ length curves₀) × (length params ≡ length params₀)
 
 abbrev μ-loop : tie.MeasureT-loop
-μ-loop file₀ at marks₀ firsts₀ worsts₀ curves₀ params₀ was t₀ d₀ file marks firsts worsts curves params t d = 256 - d
+μ-loop file₀ at values marks₀ firsts₀ worsts₀ curves₀ params₀ was t₀ d₀ file marks firsts worsts curves params t d = values - d
 
 slice-read-was : tie.Need-slice-read-was Inv-loop μ-loop
 slice-read-was c = search needs
@@ -37,7 +37,7 @@ loop-less : tie.Need-loop-less Inv-loop μ-loop
 loop-less c = search needs
 
 loop-again : tie.Need-loop-again Inv-loop μ-loop
-loop-again c = (search needs, simp length-set (c .before .before .before .before .before .before .before .before .before .before .before .before .before .before .before .before .before .before .before .before .loop .inv .1), search needs, search needs, search needs, search needs, search needs)
+loop-again c = (simp length-set (c .before .before .before .before .before .before .before .before .before .before .before .before .before .before .before .before .before .before .before .before .loop .inv .0), search needs, search needs, search needs, search needs, search needs)
 
 slice-write-file-2 : tie.Need-slice-write-file-2 Inv-loop μ-loop
 slice-write-file-2 c = search needs

@@ -7,13 +7,16 @@ use Rattle.house_cases.proofs.changes.Statement.{statement}
 use Rattle.house_cases.proofs.changes.Tie as tie
 
 abbrev Inv-loop : tie.InvT-loop
-Inv-loop file₀ marks₀ firsts₀ worsts₀ curves₀ params₀ t₀ i₀ file marks firsts worsts curves params t i = (i ≤ length file) × (length file ≡ length file₀) × (length marks ≡ length marks₀) × (length firsts ≡ length firsts₀) × (length worsts ≡ length worsts₀) × (length curves ≡ length curves₀) × (length params ≡ length params₀)
+Inv-loop runs file₀ marks₀ firsts₀ worsts₀ curves₀ params₀ t₀ i₀ file marks firsts worsts curves params t i = (i ≤ length file) × (length file ≡ length file₀) × (length marks ≡ length marks₀) × (length firsts ≡ length firsts₀) × (length worsts ≡ length worsts₀) × (length curves ≡ length curves₀) × (length params ≡ length params₀)
 
 abbrev μ-loop : tie.MeasureT-loop
-μ-loop file₀ marks₀ firsts₀ worsts₀ curves₀ params₀ t₀ i₀ file marks firsts worsts curves params t i = length file - i
+μ-loop runs file₀ marks₀ firsts₀ worsts₀ curves₀ params₀ t₀ i₀ file marks firsts worsts curves params t i = length file - i
 
 loop-holds : tie.Need-loop-holds Inv-loop μ-loop
 loop-holds c = search needs
+
+values-at-requires : tie.Need-values-at-requires Inv-loop μ-loop
+values-at-requires c κs = search needs
 
 change-at-requires : tie.Need-change-at-requires Inv-loop μ-loop
 change-at-requires c κs = search needs
@@ -55,6 +58,7 @@ changes-spec =
     Inv-loop
     μ-loop
     loop-holds
+    values-at-requires
     change-at-requires
     add-i
     loop-less

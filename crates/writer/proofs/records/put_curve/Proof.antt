@@ -19,7 +19,7 @@ body-bytes-requires : tie.Need-body-bytes-requires
 body-bytes-requires c κs = search needs
 
 add-size : tie.Need-add-size
-add-size c = omega (arith, body-few (c .before .before .before .before .before .args .form), c .body-bytes .ensures)
+add-size c = omega (arith, body-few (c .before .before .before .before .before .args .form) (c .before .before .before .before .before .args .field), c .body-bytes .ensures)
 
 curve-kind-requires : tie.Need-curve-kind-requires
 curve-kind-requires c κs = search needs
@@ -64,32 +64,13 @@ same-length : tie.Need-same-length
 same-length c = search needs
 
 returns : tie.Need-returns
-returns c =
+returns c = 
     let s = c .before .before .before .before .before .before .before .before .before .before .before .before .before .before .before .before .before .before .before .before .before in
     let a = s .args in
     let w : worstMarks (a .form) ≤ length (drop (worstsFor (a .form) (a .i)) (a .worsts .now)) = simp length-drop (omega (arith, worsts-each (a .form) (a .i), worsts-each (a .form) (a .i + 1), s .pre .1 .1 .0)) in
     let n : width (a .form) ≤ length (drop (width (a .form) * a .i) (a .curves .now)) = simp length-drop (omega (arith, s .pre .1 .1 .1)) in
     c .before .before .put-words .ensures
-    ∙ rw (c .before .before .before .before .before .before .before .before .before .put-beside .ensures, c .before .before .before .before .before .before .before .before .before .before .before .before .before .put-head .ensures, c .before .before .before .before .before .before .before .before .before .before .before .before .before .before .before .before .body-bytes .ensures, c .before .before .before .before .before .before .before .before .before .before .before .before .before .before .curve-kind .ensures, c .before .before .before .before .before .before .beside-bytes .ensures, c .before .before .before .before .before .width .ensures, some-of (width (a .form)) (a .curves .now) (width (a .form) * a .i)) (curve-put (a .form) (a .out .now) (a .at) _ _ _ w n)
+    ∙ rw (c .before .before .before .before .before .before .before .before .before .put-beside .ensures, c .before .before .before .before .before .before .before .before .before .before .before .before .before .put-head .ensures, c .before .before .before .before .before .before .before .before .before .before .before .before .before .before .before .before .body-bytes .ensures, c .before .before .before .before .before .before .before .before .before .before .before .before .before .before .curve-kind .ensures, c .before .before .before .before .before .before .beside-bytes .ensures, c .before .before .before .before .before .width .ensures, some-of (width (a .form)) (a .curves .now) (width (a .form) * a .i)) (curve-put (a .form) (a .field) (a .out .now) (a .at) _ _ _ w n)
 
 pub put-curve-spec : {M : Type 1} → statement M
-put-curve-spec =
-    tie.close
-    (tie.spec
-    body-bytes-requires
-    add-size
-    curve-kind-requires
-    put-head-requires
-    add-body
-    put-beside-requires
-    beside-bytes-requires
-    add-numbers
-    width-requires
-    mul-j
-    mul-put-words
-    sub-put-words
-    part-put-words-start
-    part-put-words-end
-    put-words-requires
-    same-length
-    returns)
+put-curve-spec = tie.close (tie.spec body-bytes-requires add-size curve-kind-requires put-head-requires add-body put-beside-requires beside-bytes-requires add-numbers width-requires mul-j mul-put-words sub-put-words part-put-words-start part-put-words-end put-words-requires same-length returns)

@@ -1,0 +1,53 @@
+// The room of a line and of its case. All of it is on the stack, of which a shell gives 8 MB: so there is as much as leaves one of them free. Each array is made by a function of its
+// own, for one that is made where it is used is long in every goal.
+
+// The most marks of a line, and the most curves of a list that is checked. A ring has as many curves as marks, and a parameter more.
+const MOST: usize = 21000;
+
+pub const MOST_MARKS: u64 = MOST as u64;
+
+// How many bytes a line may have, and one more, by which too long a line is seen. A `check_worst_ring` line of the most marks and curves has 4,536,062.
+pub const LINE: usize = 4600001;
+
+const MARKS: usize = 2 * MOST;
+
+const PARAMS: usize = MOST + 1;
+
+// The numbers of the curves: records of nine, or more curves of eight.
+const CURVES: usize = 9 * MOST;
+
+pub const MOST_CURVES: u64 = (CURVES / 8) as u64;
+
+// A line of at most 8,192 bytes is short. It has no more than 240 marks, of 34 bytes each, and a text there draws fewer than 2,048 curves, of four bytes each.
+const SHORT: usize = 8192;
+
+const SHORT_CURVES: usize = 8 * 2048;
+
+pub fn line() -> [u8; LINE] {
+    [0; LINE]
+}
+
+pub fn marks() -> [f64; MARKS] {
+    [0.0; MARKS]
+}
+
+pub fn indices() -> [u32; MOST] {
+    [0; MOST]
+}
+
+pub fn params() -> [f64; PARAMS] {
+    [0.0; PARAMS]
+}
+
+pub fn curves() -> [f64; CURVES] {
+    [0.0; CURVES]
+}
+
+pub fn is_short(line: &[u8]) -> bool {
+    line.len() <= SHORT
+}
+
+// There are many short lines, and this is cleared for each.
+pub fn short_curves() -> [f64; SHORT_CURVES] {
+    [0.0; SHORT_CURVES]
+}
