@@ -194,6 +194,26 @@ def dart():
     return house(0.5, grid(marks))
 
 
+def mainsail():
+    """A whole mainsail at the table's full rate: up the luff, down the leech with its five battens, and back along the foot; 6,000 marks off by some 0.05 mm, more than the bench's programs take."""
+    hand = random.Random(8)
+
+    def luff(u):
+        return 90 * math.sin(math.pi * u ** 0.87), 13200 * u
+
+    def head(u):
+        return 180 * u, 13200 - 12 * math.sin(math.pi * u)
+
+    def leech(u):
+        roach = 620 * math.sin(math.pi * u ** 0.9) + 8 * math.sin(6 * math.pi * u) ** 2
+        return 180 + 4500 * u + roach, 13188 - 13060 * u
+
+    def foot(u):
+        return 4680 - 4680 * u, 128 - 128 * u - 160 * math.sin(math.pi * u) ** 1.3
+    shape = chain((13, luff), (0.2, head), (13, leech), (4.6, foot))
+    return house(0.6, grid(shake(even(shape, 6000, 240000), 0.05, hand)))
+
+
 def lost():
     """A foot tape whose puck lost the table at mark 11."""
     marks = grid([(80.0 * k, 40 * math.sin(0.28 * k)) for k in range(24)])
@@ -228,7 +248,7 @@ def settle(make, write):
 def main(words):
     if words not in ([], ['--write']):
         raise Stop('usage: tools/make_examples.py [--write]')
-    well = [settle(make, bool(words)) for make in (cover, luff, window, hood, genoa, dart, tender, lost, rested)]
+    well = [settle(make, bool(words)) for make in (cover, luff, window, hood, genoa, dart, tender, mainsail, lost, rested)]
     return 0 if all(well) else 1
 
 
