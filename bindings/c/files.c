@@ -348,7 +348,7 @@ static void bad_kinds(void) {
     for (size_t k = 0; k < COUNT(all_kinds); k++) {
         bool wide = is_wide(all_kinds[k]);
         size_t size = compose_some(composed, all_kinds[k], BENCH_MARKS, 2);
-        /* A kind that suits is judged, and its second first mark is beyond the last mark. */
+        /* A kind that suits is judged: its first curve does not start on mark 0. */
         expect_line("4,096 marks", wes_judge_file, composed, size, wide ? "REFUSED 9\n" : "FAULT A 0 0\n");
         if (wide) expect_line("4,096 marks", wes_save_fit, composed, size, "REFUSED 9\n");
         size = compose_some(composed, all_kinds[k], BENCH_MARKS + 1, 2);
