@@ -233,6 +233,15 @@ fn joined_and_ring_fits_give_what_the_rust_gives_and_are_sound() {
 
 // ---- house files
 
+/// examples/mainsail.house, of which flo_curves makes 99 curves.
+#[test]
+fn the_example_is_fitted() {
+    let house = read_file(include_bytes!("../../../examples/mainsail.house")).unwrap();
+    let fit = fit_joined(&house.marks, house.tolerance).unwrap();
+    assert_eq!((house.marks.len(), fit.len()), (6000, 99));
+    assert_eq!(House::with_fit(house.tolerance, &house.marks, &fit).check(), Ok(Verdict::Sound));
+}
+
 #[test]
 fn files_are_written_read_and_checked() {
     for line in lines(&["nine", "eight", "closed"]) {
