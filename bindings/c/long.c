@@ -76,13 +76,16 @@ static const struct {
 } shapes[] = {{"round", draw_steady},  {"traced", draw_traced}, {"rested", draw_rested},
               {"spiral", draw_spiral}, {"shaken", draw_shaken}, {"scribble", draw_scribble}};
 
+static bool is(const char *word, const char *other) { return strlen(word) == strlen(other) && memcmp(word, other, strlen(word)) == 0; }
+
+/* Draws the outline of a shape, if there is one of that name. */
 static bool draw(const char *name, size_t n) {
     dice = 1;
-    for (size_t i = 0; i < COUNT(shapes); i++)
-        if (strlen(shapes[i].name) == strlen(name) && memcmp(shapes[i].name, name, strlen(name)) == 0) {
-            shapes[i].draw(n);
-            return true;
-        }
+    for (size_t i = 0; i < COUNT(shapes); i++) {
+        if (!is(name, shapes[i].name)) continue;
+        shapes[i].draw(n);
+        return true;
+    }
     return false;
 }
 
@@ -133,8 +136,6 @@ static bool take_line(Line *l, const char *text, const char *end) {
     l->answer = (uint32_t)number_of(l->words[4], 10), l->count = number_of(l->words[5], 10), l->digest = number_of(l->words[6], 16);
     return l->n <= MOST_MARKS;
 }
-
-static bool is(const char *word, const char *other) { return strlen(word) == strlen(other) && memcmp(word, other, strlen(word)) == 0; }
 
 /* ---- Fits */
 

@@ -1,4 +1,5 @@
 // A line, answered by the kind that its first word names.
+use crate::kind::EXPORT;
 use crate::kind::SINGLE_KINDS;
 use crate::kind::kind_of;
 use crate::listing;
@@ -30,8 +31,8 @@ fn single_case(kind: usize, line: &[u8], end: usize) -> bool {
     }
 }
 
-// The same of the other kinds. They have this room for curves in turn, since what each had for itself might lie on the stack together.
-fn case_in(kind: usize, line: &mut [u8], end: usize, curves: &mut [f64]) -> bool {
+// The same of kinds that have room for curves.
+fn large_case(kind: usize, line: &[u8], end: usize, curves: &mut [f64]) -> bool {
     match kind {
         12 => outline::direct_case(line, end, curves),
         13 => outline::blocks_case(Fit::Source, line, end, curves),
@@ -42,10 +43,17 @@ fn case_in(kind: usize, line: &mut [u8], end: usize, curves: &mut [f64]) -> bool
         18 => listing::check_case(Outline::Closed, Form::Eight, line, end, curves),
         19 => listing::check_case(Outline::Open, Form::Nine, line, end, curves),
         20 => listing::check_case(Outline::Closed, Form::Nine, line, end, curves),
-        21 => paths::export_case(line, end, curves),
-        22 => paths::import_case(line, end, curves),
+        21 => paths::import_case(line, end, curves),
         _ => false,
     }
+}
+
+// And with `export`, which writes over its line. One room serves all these kinds: rooms of their own might lie on the stack together, where the compiler makes one function of several.
+fn case_in(kind: usize, line: &mut [u8], end: usize, curves: &mut [f64]) -> bool {
+    if kind == EXPORT {
+        return paths::export_case(line, end, curves);
+    }
+    large_case(kind, line, end, curves)
 }
 
 fn short_case(kind: usize, line: &mut [u8], end: usize) -> bool {

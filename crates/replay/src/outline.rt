@@ -1,4 +1,4 @@
-// Cases of an outline: the five fits. A line of more marks than there is room for is bad; they are fewer than the fits take, but for the direct fit.
+// Cases of an outline: the five fits. A line of more than 21,000 marks is bad. That is fewer than the fits by blocks take, so only the direct fit's own limit shows.
 use crate::cursor::front;
 use crate::cursor::front_marks;
 use crate::cursor::take_float;

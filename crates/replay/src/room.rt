@@ -1,12 +1,13 @@
-// The room of a line and of its case. All of it is on the stack, of which a shell gives 8 MB: so there is as much as leaves one of them free. Each array is made by a function of its
-// own, for one that is made where it is used is long in every goal.
+// The room of a line and of its case. All of it is on the stack, of which a shell gives 8 MB, and about one of them is to stay free. Each array is made by a function of its own: one
+// that is made where it is used is long in every goal.
 
 // The most marks of a line, and the most curves of a list that is checked. A ring has as many curves as marks, and a parameter more.
 const MOST: usize = 21000;
 
 pub const MOST_MARKS: u64 = MOST as u64;
 
-// How many bytes a line may have, and one more, by which too long a line is seen. A `check_worst_ring` line of the most marks and curves has 4,536,062.
+// How many bytes a line may have, and one more, by which too long a line is seen. A `check_worst_ring` line of the most marks and curves, each with mark numbers of
+// five digits, has 4,536,062.
 pub const LINE: usize = 4600001;
 
 const MARKS: usize = 2 * MOST;

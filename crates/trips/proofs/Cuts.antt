@@ -112,8 +112,8 @@ unfolding recordsOf
 unsuited t M body kind rs f never =
     out-of-turn f
     (λ F h e.
-      let m : les (F .marks) ≡ les M = ap (λ (l : List Record). getD l 1 (rec 0 []) .body) e in
-      let l : 8 * length (F .marks) ≡ 8 * length M = sym (length-les (F .marks)) ∙ ap length m ∙ length-les M in
-      let n : marksIn F ≡ length M / 2 = omega arith in
-      let k : kind ≡ curveKind (F .form) (fieldIn F) = behind (F .form) (fieldIn F) (F .firsts) (F .worsts) (F .curves) (F .params) (ap (drop 2) e) in
-      never (F .form) (k ∙ ap (λ (x : ℕ). curveKind (F .form) (fieldFor x)) n))
+    let m : les (F .marks) ≡ les M = ap (λ (l : List Record). getD l 1 (rec 0 []) .body) e in
+    let l : 8 * length (F .marks) ≡ 8 * length M = sym (length-les (F .marks)) ∙ ap length m ∙ length-les M in
+    let n : marksIn F ≡ length M / 2 = omega arith in
+    let k : kind ≡ curveKind (F .form) (fieldIn F) = behind (F .form) (fieldIn F) (F .firsts) (F .worsts) (F .curves) (F .params) (ap (drop 2) e) in
+    never (F .form) (k ∙ ap (λ (x : ℕ). curveKind (F .form) (fieldFor x)) n))

@@ -20,6 +20,7 @@ use Rattle.float.specs.Slices.{written}
 use Rattle.house.specs.Slices.{room}
 use Rattle.reader.specs.Reader.{Found, Outcome, outcome, readAnswer, readOf}
 use Rattle.writer.specs.Writer.{fileFor, Writing, writing, writeAnswer, writeOf}
+use Rattle.trips.specs.Trips.{OneEncoding}
 use Rattle.house.proofs.Forms.{form-some, worsts-formed, width-formed, suits-formed}
 use Rattle.house.proofs.Numbers.{fit-take}
 use Rattle.grammar.proofs.Formed.{Turn, plain, full, Formed, formed, turn, turning, forming}
@@ -39,9 +40,9 @@ file-bytes-file F h = holds-file (record { formed = h; bytes = refl })
 pub bytes-file-bytes : (b : List ℕ) (F : File) → fileOf b ≡ ok F → bytesOf F ≡ b
 bytes-file-bytes b F e = file-holds e .bytes
 
--- so each file has one encoding: what is read from two byte strings as the same file is the same bytes
-pub one-encoding : (b c : List ℕ) (F : File) → fileOf b ≡ ok F → fileOf c ≡ ok F → b ≡ c
-one-encoding b c F e g = sym (bytes-file-bytes b F e) ∙ bytes-file-bytes c F g
+-- so what is read from two byte strings as the same file is the same bytes
+pub file-alike : (b c : List ℕ) (F : File) → fileOf b ≡ ok F → fileOf c ≡ ok F → b ≡ c
+file-alike b c F e g = sym (bytes-file-bytes b F e) ∙ bytes-file-bytes c F g
 
 -- ---- of the promises
 
@@ -169,12 +170,9 @@ read-then-written b M P W C Q O form t n k M′ P′ W′ C′ Q′ w O′ e l q
     let y = q ∙ rewrites b M P W C Q O form t n k M′ P′ W′ C′ Q′ e l in
     (ap (λ (o : Writing). o .answer) y, ap (λ (o : Writing). o .out) y)
 
--- what two calls of the reader give alike, in answer and slices, they read from the same bytes: both are written again as they were
-pub read-alike : (b c M P W C Q N R X D S : List ℕ) (form : Form) (t n k : ℕ) (M′ P′ W′ C′ Q′ : List ℕ)
-    → outcome (readAnswer (read.File form t n k)) M′ P′ W′ C′ Q′ ≡ readOf b M P W C Q
-    → outcome (readAnswer (read.File form t n k)) M′ P′ W′ C′ Q′ ≡ readOf c N R X D S
-    → b ≡ c
-read-alike b c M P W C Q N R X D S form t n k M′ P′ W′ C′ Q′ e g =
+-- each outline has one encoding: what is read alike is written again alike, and that is what was read
+pub one-encoding : OneEncoding
+one-encoding b c M P W C Q N R X D S form t n k M′ P′ W′ C′ Q′ e g =
     let O : List ℕ = b ++ c in
     let lb : length b ≤ length O = simp length-append (omega arith) in
     let lc : length c ≤ length O = simp length-append (omega arith) in

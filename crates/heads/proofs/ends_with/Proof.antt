@@ -77,13 +77,13 @@ has-head-requires : tie.Need-has-head-requires
 has-head-requires c κs = omega (arith, curves (c .before .before .before .before .before .before))
 
 returns-4 : tie.Need-returns-4
-returns-4 c = 
+returns-4 c =
     let a = c .before .before .before .before .before .before .before .before .before .before .args in
     c .has-head .ensures
     ∙ ends-by (a .b .now) (a .form) (a .n) (a .k) (body (c .before .before .before .before .before .before .before)) (kind (c .before .before .before)) (omega arith) (omega arith) (omega arith) (sym (c .before .before .records-lead .ensures) ∙ c .before .if4 .taken)
 
 returns-5 : tie.Need-returns-5
-returns-5 c = 
+returns-5 c =
     let a = c .before .before .before .before .before .before .before .before .before .args in
     sym
     (not-so _ (λ h. true-false _ (leads-by (a .form) (fieldFor (a .n)) (a .k) _ (body (c .before .before .before .before .before .before)) (kind (c .before .before)) (ended (a .b .now) (a .form) (a .n) (a .k) h .heads)) (sym (c .before .records-lead .ensures) ∙ c .if4 .left)))

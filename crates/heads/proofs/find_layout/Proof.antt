@@ -97,7 +97,7 @@ ends-with-requires : tie.Need-ends-with-requires
 ends-with-requires c κs = omega (arith, under c)
 
 returns-4 : tie.Need-returns-4
-returns-4 c = 
+returns-4 c =
     let b = c .before .before .before .before .before .before .before .before .before .before .before .before .before .args .b .now in
     counted b (bytes (c .before .before .before .before .before .before .before .before .before .before .before .before)) (full (begun (c .before .before .before .before .before .before .before .before)) (ended b (c .before .before .before .form-of .result) (c .before .before .before .before .before .before .before .before .before .before .four .result / 16) _ (sym (c .before .ends-with .ensures) ∙ c .if5 .taken)))
 

@@ -38,7 +38,7 @@ worsts-for-requires : tie.Need-worsts-for-requires
 worsts-for-requires c κs = search needs
 
 copy-marks-requires-2 : tie.Need-copy-marks-requires-2
-copy-marks-requires-2 c κs = 
+copy-marks-requires-2 c κs =
     let s = c .before .before .before .before .before .before .before .before .before .before .before .before in
     let w : c .before .worsts-for .result ≤ s .args .k = omega (arith, worsts-few (s .args .form) (s .args .k), c .before .worsts-for .ensures) in
     (omega (arith, bytes (c .before .before .before .before .before .before .before), s .pre .0, mul-le-mul-left (6 + c .before .before .before .before .before .before .before .body-bytes .result) w), (omega (arith, beside-within (s .args .form) (s .args .field), c .before .before .mark-field .ensures, c .before .before .before .before .before .before .before .body-bytes .ensures), omega (arith, c .before .worsts-for .ensures, s .pre .1 .1 .0)))
@@ -53,7 +53,7 @@ width-requires : tie.Need-width-requires
 width-requires c κs = search needs
 
 copy-rows-requires : tie.Need-copy-rows-requires
-copy-rows-requires c κs = 
+copy-rows-requires c κs =
     let s = c .before .before .before .before .before .before .before .before .before .before .before .before .before .before .before .before .before .before in
     (omega (arith, bytes (c .before .before .before .before .before .before .before .before .before .before .before .before .before), s .pre .0), (omega (arith, c .before .before .before .before .before .before .before .before .before .before .before .before .before .body-bytes .ensures, c .before .before .beside-bytes .ensures, c .before .width .ensures), omega (arith, numbers (c .before), s .pre .1 .1 .1)))
 
@@ -67,7 +67,7 @@ same-length-3 : tie.Need-same-length-3
 same-length-3 c = search needs
 
 returns : tie.Need-returns
-returns c = 
+returns c =
     let a = c .before .before .before .before .before .before .before .before .before .before .before .before .before .before .before .before .before .before .before .before .before .args in
     let d = drop (a .at) (a .b .now) in
     let r = c .before .before .before .before .before .before .before .before .before .before .before .before .before .before .before .before .body-bytes .ensures in (

@@ -83,7 +83,7 @@ same-length-6 : tie.Need-same-length-6
 same-length-6 c = search needs
 
 returns-2 : tie.Need-returns-2
-returns-2 c = 
+returns-2 c =
     let s = rw (c .before .before .before .before .before .before .before .before .before .before .before .before .before .before .before .field-for .ensures) at (c .before .before .before .before .before .before .before .before .before .before .before .copy-curves .ensures) in
     let a = c .before .before .before .before .before .before .before .before .before .before .before .before .before .before .before .before .before .before .before .before .before .before .before .before .before .before .before .args in
     record {

@@ -41,19 +41,19 @@ loop-less : tie.Need-loop-less Inv-loop μ-loop
 loop-less c = omega arith
 
 loop-again : tie.Need-loop-again Inv-loop μ-loop
-loop-again c = 
+loop-again c =
     let l = c .before .before .before .before .loop in
     let a = c .before .before .before .before .before .before .args in
     (omega arith, fits-more (markField (a .field)) (a .marks .now) (a .k) (l .i) (omega arith) (omega arith) (l .inv .1) (sym (c .before .mark-fits .ensures) ∙ c .if1 .taken))
 
 returns : tie.Need-returns Inv-loop μ-loop
-returns c = 
+returns c =
     let l = c .before .before .before .before .loop in
     let a = c .before .before .before .before .before .before .args in
     sym (not-so _ (fits-stop (markField (a .field)) (a .marks .now) (a .k) (l .i) (omega arith) (omega arith) (sym (c .before .mark-fits .ensures) ∙ c .if1 .left)))
 
 returns-2 : tie.Need-returns-2 Inv-loop μ-loop
-returns-2 c = 
+returns-2 c =
     let l = c .before .loop in
     let a = c .before .before .before .args in
     let e : l .i ≡ a .k = omega arith in

@@ -63,7 +63,7 @@ same-length-2 : tie.Need-same-length-2
 same-length-2 c = search needs
 
 returns-2 : tie.Need-returns-2
-returns-2 c = 
+returns-2 c =
     let a = c .before .before .before .before .before .before .before .before .before .before .before .before .before .before .before .before .args in
     c .before .before .put-mark2 .ensures ∙ rw (c .before .before .before .before .before .before .before .before .before .before .put-mark .ensures, c .before .before .before .before .mark-field .ensures) (beside-two (markField (a .field)) (a .out .now) (a .at) (a .form) _ (a .i) (a .worsts .now) (c .before .before .before .before .before .before .enum-told .given .1) (kept (c .before .before .before .before .before .before)))
 

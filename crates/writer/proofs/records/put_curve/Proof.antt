@@ -64,7 +64,7 @@ same-length : tie.Need-same-length
 same-length c = search needs
 
 returns : tie.Need-returns
-returns c = 
+returns c =
     let s = c .before .before .before .before .before .before .before .before .before .before .before .before .before .before .before .before .before .before .before .before .before in
     let a = s .args in
     let w : worstMarks (a .form) ≤ length (drop (worstsFor (a .form) (a .i)) (a .worsts .now)) = simp length-drop (omega (arith, worsts-each (a .form) (a .i), worsts-each (a .form) (a .i + 1), s .pre .1 .1 .0)) in

@@ -41,7 +41,7 @@ add-put-curve : tie.Need-add-put-curve Inv-loop μ-loop
 add-put-curve c = omega (arith, inside (c .before))
 
 put-curve-requires : tie.Need-put-curve-requires Inv-loop μ-loop
-put-curve-requires c κs = 
+put-curve-requires c κs =
     let s = c .before .before .before .before .before .before .before .before in
     let i = c .before .before .loop .i in (
       omega (arith, inside (c .before), c .before .before .before .body-bytes .ensures, c .before .before .loop .inv .1 .1, s .pre .0),
@@ -61,7 +61,7 @@ loop-less : tie.Need-loop-less Inv-loop μ-loop
 loop-less c = omega arith
 
 loop-again : tie.Need-loop-again Inv-loop μ-loop
-loop-again c = 
+loop-again c =
     let l = c .before .before .before .before .before .loop in
     let s = c .before .before .before .before .before .before .before .before .before .before .before in
     let a = s .args in
@@ -77,7 +77,7 @@ same-length : tie.Need-same-length Inv-loop μ-loop
 same-length c = c .before .loop .inv .1 .1
 
 returns : tie.Need-returns Inv-loop μ-loop
-returns c = 
+returns c =
     let l = c .before .loop in
     let a = c .before .before .before .before .before .before .before .args in
     let e : l .i ≡ a .k = omega arith in

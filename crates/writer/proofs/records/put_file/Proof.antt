@@ -75,7 +75,7 @@ same-length-2 : tie.Need-same-length-2
 same-length-2 c = search needs
 
 returns-2 : tie.Need-returns-2
-returns-2 c = 
+returns-2 c =
     let s = c .before .before .before .before .before .before .before .before .before .before .before .before .before .before .before .before .before .before .before .before .before .before .before .before .before in
     c .before .before .put-words .ensures
     ∙ rw (c .before .before .before .before .before .before .put-head .ensures, c .before .before .before .before .before .before .before .before .before .before .before .put-curves .ensures, c .before .before .before .before .before .before .before .before .before .before .before .before .before .before .before .before .before .put-marks .ensures, body (c .before .before .before .before .before .before .before .before), c .before .before .before .before .before .before .before .before .before .before .before .before .before .field-for .ensures) (put-whole (s .args .tolerance) (s .pre .0) (s .pre .1) (some (c .before .before .before .before .before .before .before .before .before .before .before .before .before .before)))
