@@ -384,12 +384,12 @@ def hold_roundings(rust):
 def make(rust):
     before = kept.read_stdin(NAME).decode('latin-1').split('\n')
     wrong = list(bad())
-    end = answered(long_lines(), rust) + LAST
+    end = long_lines() + LAST
     rows = cases(kept.without(before, wrong + [line for line, _ in end]))
     hold(wrong, rust)
     hold_alike(rows, CHECKS, 'checkers', rust)
     hold_alike(rows, paths.KINDS, 'readers and writers of path data', rust)
     hold_roundings(rust)
-    found = mixed(answered(rows, rust), [(line, 'BAD') for line in wrong]) + end
+    found = mixed(answered(rows, rust), [(line, 'BAD') for line in wrong]) + answered(end, rust)
     stdin = '\n'.join(line for line, _ in found).encode('latin-1')
     return kept.Made(NAME, stdin, ''.join(said + '\n' for _, said in found), len(found), len(before), kept.tally(said for _, said in found))
