@@ -1,6 +1,6 @@
 -- What a file that was opened tells, and one that was refused. Assumes nothing.
 use mathlib.Core.Path.{_≡_, refl, sym, ap, _∙_}
-use mathlib.Core.Bool.{Bool, true, false, _&&_}
+use mathlib.Core.Bool.{Bool, true, false}
 use mathlib.Core.List.{List, _∷_, []}
 use Prim.Native.Nat.{ℕ, _*_, _<_, _≤_}
 use native.Mathlib.Omega.{arith}
@@ -17,7 +17,6 @@ use Rattle.form.specs.declared.Form.the-variants.{Eight, Nine}
 use Rattle.limits.specs.Limits.{mostMarks}
 use Rattle.house.specs.File.{File, Holds, marksIn, curvesIn, paramsFor}
 use Rattle.house.specs.Held.{candidate, isFile, fileOf}
-use Rattle.house.specs.Slices.{room}
 use Rattle.reader.specs.declared.Read.{Read}
 use Rattle.reader.specs.declared.Read.the-variants as read
 use Rattle.reader.proofs.Read.{the-type}

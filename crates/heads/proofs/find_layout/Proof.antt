@@ -7,8 +7,8 @@ use lib.ListN.{length}
 use Rattle.float.proofs.Truth.{true-false}
 use Rattle.house.specs.declared.sizes.Field.{Field}
 use Rattle.house.specs.Limits.{fieldFor, bodyBytes, curveBytes}
-use Rattle.house.specs.Bytes.{num, allFit}
-use Rattle.house.specs.Held.{marksHeld, formOf, formHeld, curvesHeld}
+use Rattle.house.specs.Bytes.{allFit}
+use Rattle.house.specs.Held.{marksHeld, formHeld, curvesHeld}
 use Rattle.house.proofs.Forms.{body-few, records-under}
 use Rattle.house.proofs.Numbers.{fit-each}
 use Rattle.grammar.proofs.Laid.{Started, plain, full, started, starting, ended, ending, laid-started, laid-ended}

@@ -1,6 +1,6 @@
 -- `house_cases::change_at` ends and stays within bounds. The lent slices keep their lengths. Assumes nothing.
 use mathlib.Core.Path.{_≡_}
-use Prim.Native.Nat.{_-_, _≤_}
+use Prim.Native.Nat.{_-_}
 use lib.ListN.{length, length-set}
 use borrow.Author.Needs.{needs}
 use Rattle.house_cases.proofs.change_at.Statement.{statement}

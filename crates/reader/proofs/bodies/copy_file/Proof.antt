@@ -5,7 +5,7 @@ use native.Mathlib.Omega.{arith}
 use Rattle.house.specs.declared.sizes.Field.{Field}
 use Rattle.house.specs.Limits.{fieldFor, bodyBytes, curveBytes}
 use Rattle.house.specs.Bytes.{row}
-use Rattle.house.specs.Held.{inEach, firstsOf, worstsOf, curvesOf}
+use Rattle.house.specs.Held.{inEach}
 use Rattle.house.proofs.Forms.{body-few}
 use Rattle.grammar.proofs.Rooms.{room-start, room-whole, room-params}
 use Rattle.reader.proofs.Turns.{params-by}

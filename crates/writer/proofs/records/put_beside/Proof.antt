@@ -1,10 +1,10 @@
 -- `writer::records::put_beside` meets its contract. Assumes nothing.
-use mathlib.Core.Path.{_≡_, ap, _∙_}
-use Prim.Native.Nat.{ℕ, _+_, _*_, _<_, _≤_}
+use mathlib.Core.Path.{_∙_}
+use Prim.Native.Nat.{_+_, _<_, _≤_}
 use native.Mathlib.Omega.{arith}
 use lib.ListN.{length}
 use Rattle.house.specs.Limits.{markField}
-use Rattle.house.proofs.Forms.{field-few, field-within}
+use Rattle.house.proofs.Forms.{field-within}
 use Rattle.writer.proofs.Turns.{beside-one, beside-two}
 use borrow.Author.Needs.{needs}
 use Rattle.writer.proofs.records.put_beside.Statement.{statement}
