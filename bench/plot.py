@@ -82,7 +82,7 @@ def panels(rows):
     yield 'the port alone: flo_curves has no such calls', by_the_port(others), sizes(others)
     if even:
         yield f'{BOTH[0]}: the same 100,000 marks, in shorter outlines', by_both(even, BOTH[0]), sizes(even)
-        yield 'the port alone: the same 100,000 marks, in shorter outlines', by_the_port(even), sizes(even)
+        yield 'the port alone: the same marks, in shorter outlines', by_the_port(even), sizes(even)
 
 
 def grid(x, y, marks, costs, left, top):
