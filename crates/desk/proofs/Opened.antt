@@ -36,7 +36,7 @@ unfolding fileIn
 too-long b h = rw (lt-leb (length b) mostBytes h)
 
 -- a file of at most 4,096 marks
-abbrev pub few : File → Answer File
+abbrev few : File → Answer File
 few F = unless 2 (leb (marksIn F) roomMarks) (ok F)
 
 -- a list of up to 4,095 curves, in either form

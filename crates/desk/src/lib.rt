@@ -105,8 +105,8 @@ fn crowded(q: u32) -> u32
     q
 }
 
-// Takes a file apart into slices with that room. One of more marks is too many here, though the reader knows it; one that is longer than any of so many marks is
-// not looked at.
+// Takes a file apart into slices with that room. One of more marks is too many here, also where the reader would take it; one that is longer than any of so many
+// marks is badly formed, unread.
 pub fn open_file(
     file: &[u8],
     marks: &mut [u64],

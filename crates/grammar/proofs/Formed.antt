@@ -70,7 +70,7 @@ pub record Formed (F : File) (n k : ℕ) : Type 0 where
   pub fit : Fit F (fieldFor n)
 
 -- so many marks, and so their field
-pub marks-are : {F : File} {n k : ℕ} → Sized F n k → marksIn F ≡ n
+marks-are : {F : File} {n k : ℕ} → Sized F n k → marksIn F ≡ n
 marks-are s = rw (s .marks) (omega arith)
 
 pub field-is : {F : File} {n k : ℕ} → Sized F n k → fieldIn F ≡ fieldFor n

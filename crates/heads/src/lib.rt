@@ -1,5 +1,5 @@
-// How a house file is laid out. Three things settle where everything stands: the length of kind 2 gives the marks, and they the bytes of a mark number; the kind of the record behind
-// them how curves are stored, and the length of the whole how many there are. So the heads are tested at fixed places.
+// How a house file is laid out. Three things settle where everything stands: the length of kind 2 gives the marks, and they the bytes of a mark number; the kind
+// of the record behind them gives how curves are stored, and the length of the whole how many there are. So the heads are tested at fixed places.
 use form::Form;
 use house::bytes::four;
 use house::bytes::two;

@@ -11,7 +11,7 @@ ghost use Rattle.house.specs.Layout.{sizeFor};
 ghost use Rattle.house.specs.Held.{formOf, paramsAt};
 ghost use Rattle.house.specs.Slices.{room};
 
-// The most marks of a file whose mark numbers have two bytes. Above it the fields that held them for years are too small.
+// The most marks of a file whose mark numbers have two bytes. Once no file had more, so none that is there already changes its bytes.
 const MOST_SMALL: usize = 4096;
 
 // The bytes of a record's length.
