@@ -22,14 +22,14 @@ use Rattle.grammar.proofs.Laid.{Started, Laid, plain, full}
 use Rattle.grammar.proofs.Whole.{bytes-are, rest-none, rest-some, length-records}
 
 -- kinds 1 and 2, read off
-record Fronted (b : List ℕ) (n t : ℕ) (M r : List ℕ) : Type 0 where
-  starts : Started b n
-  tolerance : num 8 b 6 ≡ t
-  marks : words (2 * n) (drop 20 b) ≡ M
-  behind : drop (20 + 16 * n) b ≡ r
-  size : length b ≡ 20 + 16 * n + length r
+pub record Fronted (b : List ℕ) (n t : ℕ) (M r : List ℕ) : Type 0 where
+  pub starts : Started b n
+  pub tolerance : num 8 b 6 ≡ t
+  pub marks : words (2 * n) (drop 20 b) ≡ M
+  pub behind : drop (20 + 16 * n) b ≡ r
+  pub size : length b ≡ 20 + 16 * n + length r
 
-fronted : (n t : ℕ) (M r : List ℕ) → 2 + 16 * n < 256 ^ 4 → t < 256 ^ 8 → allFit 8 M ≡ true → length M ≡ 2 * n
+pub fronted : (n t : ℕ) (M r : List ℕ) → 2 + 16 * n < 256 ^ 4 → t < 256 ^ 8 → allFit 8 M ≡ true → length M ≡ 2 * n
     → Fronted (framed (rec 1 (le 8 t)) ++ (framed (rec 2 (les M)) ++ r)) n t M r
 fronted n t M r hn ht g l =
     let A : List ℕ = framed (rec 2 (les M)) ++ r in
@@ -59,6 +59,22 @@ fronted n t M r hn ht g l =
       behind = de;
       size = sz;
     }
+
+-- kind 4 at the end, read off
+pub params-back : (b : List ℕ) (at n : ℕ) (Q : List ℕ) → length Q ≡ n → allFit 8 Q ≡ true → 2 + 8 * n < 256 ^ 4 → drop at b ≡ framed (rec 4 (les Q)) → Head b at (2 + 8 * n) 4 × (words n (drop (at + 6) b) ≡ Q)
+params-back b at n Q l g few e =
+    let zp : length (les Q) ≡ 8 * n = length-les Q ∙ rw l in
+    let z4 : 2 + length (les Q) ≡ 2 + 8 * n = ap (λ (x : ℕ). 2 + x) zp in
+    let last : List ℕ = framed (rec 4 (les Q)) in
+    let en : last ++ [] ≡ last = append-nil last in
+    let k4 : 4 < 256 ^ 2 = omega arith in
+    let f4 : Head last 0 (2 + 8 * n) 4 = rw en at (framed-head 4 (2 + 8 * n) (les Q) [] z4 few k4) in
+    let b4 : drop 6 last ≡ les Q ++ [] = rw en at (framed-body 4 (2 + 8 * n) (les Q) [] z4 few k4) in
+    let j4 : drop 4 (drop at b) ≡ drop (at + 4) b = drop-drop 4 at b in
+    let j6 : drop 6 (drop at b) ≡ drop (at + 6) b = drop-drop 6 at b in
+    let dp : drop (at + 6) b ≡ les Q ++ [] = sym j6 ∙ rw e b4 in
+    let w : words n (les Q ++ []) ≡ Q = rw l at (row-back 8 Q [] g) in
+    (record { size-is = rw e (f4 .size-is); kind-is = rw (← j4, e) (f4 .kind-is) }, rw dp w)
 
 -- where bytes are laid out for n marks and k curves, and hold the file there
 pub record Read-back (b : List ℕ) (F : File) (n k : ℕ) : Type 0 where
@@ -100,25 +116,15 @@ module _ (F : File) (b : List ℕ) (n : ℕ) (f : Fronted b n (F .tolerance) (F 
       let o : Opened (F .form) (fieldFor n) k (d ++ last) (F .firsts) (F .worsts) (F .curves) =
       rw (s .firsts) at (opened (F .form) (fieldFor n) (F .firsts) (F .worsts) (F .curves) last (g .firsts) (g .worsts) (g .curves) hw hc) in
       let ld : length d ≡ S * k = length-records (fieldFor n) s in
-      let zp : length (les (F .params)) ≡ 8 * n = length-les (F .params) ∙ rw ep in
-      let z4 : 2 + length (les (F .params)) ≡ 2 + 8 * n = ap (λ (x : ℕ). 2 + x) zp in
-      let ll : length last ≡ 6 + 8 * n = length-framed 4 (les (F .params)) ∙ rw zp in
+      let ll : length last ≡ 6 + 8 * n = length-framed 4 (les (F .params)) ∙ rw (length-les (F .params), ep) in
       let lr : length (rest F) ≡ S * k + (6 + 8 * n) = rw (er, length-append, ld, ll) in
       let sz : length b ≡ 20 + 16 * n + S * k + 6 + 8 * n = omega (arith, f .size) in
       let j : drop (S * k) (drop (20 + 16 * n) b) ≡ drop (20 + 16 * n + S * k) b = drop-drop (S * k) (20 + 16 * n) b in
       let dl : drop (20 + 16 * n + S * k) b ≡ last = sym j ∙ rw et (drop-at d last (S * k) ld) in
-      let en : last ++ [] ≡ last = append-nil last in
-      let h4 : 2 + 8 * n < 256 ^ 4 = omega arith in
-      let k4 : 4 < 256 ^ 2 = omega arith in
-      let f4 : Head last 0 (2 + 8 * n) 4 = rw en at (framed-head 4 (2 + 8 * n) (les (F .params)) [] z4 h4 k4) in
-      let b4 : drop 6 last ≡ les (F .params) ++ [] = rw en at (framed-body 4 (2 + 8 * n) (les (F .params)) [] z4 h4 k4) in
-      let j4 : drop 4 (drop (20 + 16 * n + S * k) b) ≡ drop (20 + 16 * n + S * k + 4) b = drop-drop 4 (20 + 16 * n + S * k) b in
-      let j6 : drop 6 (drop (20 + 16 * n + S * k) b) ≡ drop (20 + 16 * n + S * k + 6) b = drop-drop 6 (20 + 16 * n + S * k) b in
-      let dp : drop (20 + 16 * n + S * k + 6) b ≡ les (F .params) ++ [] = sym j6 ∙ rw dl b4 in
-      let w : words n (les (F .params) ++ []) ≡ F .params = rw ep at (row-back 8 (F .params) [] (g .params)) in
+      let q = params-back b (20 + 16 * n + S * k) n (F .params) ep (g .params) (omega arith) dl in
       record {
-        laid = full (f .starts) (record { size = sz; some = some; few = few; heads = rw et (o .heads); head4 = record { size-is = rw dl (f4 .size-is); kind-is = rw (← j4, dl) (f4 .kind-is) } });
-        file = same-file b n k F (f .tolerance) (f .marks) (rw et (o .firsts)) (rw et (o .worsts)) (rw et (o .curves)) (rw (eq, dp) w);
+        laid = full (f .starts) (record { size = sz; some = some; few = few; heads = rw et (o .heads); head4 = q .0 });
+        file = same-file b n k F (f .tolerance) (f .marks) (rw et (o .firsts)) (rw et (o .worsts)) (rw et (o .curves)) (rw eq (q .1));
       }
 
 -- the law

@@ -16,7 +16,7 @@ use Rattle.grammar.proofs.Laid.{Laid, laid-marks, laid-form, laid-curve
 use Rattle.grammar.proofs.Held.{held}
 use Rattle.grammar.proofs.Back.{Read-back, back}
 
-same-out : (xs ys : List ℕ) → same xs ys ≡ true → xs ≡ ys
+pub same-out : (xs ys : List ℕ) → same xs ys ≡ true → xs ≡ ys
 unfolding same
 same-out [] [] h = refl
 same-out [] (y ∷ ys) h = never h
@@ -27,7 +27,7 @@ same-out (x ∷ xs) (y ∷ ys) h =
     let t : xs ≡ ys = same-out xs ys (s .1) in
     rw (e, t)
 
-same-in : (xs : List ℕ) → same xs xs ≡ true
+pub same-in : (xs : List ℕ) → same xs xs ≡ true
 unfolding same
 same-in [] = refl
 same-in (x ∷ xs) = both _ _ (eq-eqb x x refl) (same-in xs)

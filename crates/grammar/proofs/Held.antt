@@ -40,15 +40,15 @@ module _ (b : List ℕ) (g : allFit 1 b ≡ true) where
     params = fit-row 8 (paramsFor n k) (drop (20 + 16 * n + curveBytes form (fieldFor n) * k + 6) b) (fit-drop 1 (20 + 16 * n + curveBytes form (fieldFor n) * k + 6) b g);
   }
 
-  few-at : {n : ℕ} → Started b n → 2 + 16 * n < 256 ^ 4
+  pub few-at : {n : ℕ} → Started b n → 2 + 16 * n < 256 ^ 4
   few-at s = omega (arith, s .head2 .size-is, fit-num 4 14 b g)
 
   -- a head at p is the head of what is left there
-  head-at : (p : ℕ) {size kind : ℕ} → Head b p size kind → Head (drop p b) 0 size kind
+  pub head-at : (p : ℕ) {size kind : ℕ} → Head b p size kind → Head (drop p b) 0 size kind
   head-at p h = record { size-is = h .size-is; kind-is = rw (drop-drop 4 p b) (h .kind-is) }
 
   -- kinds 1 and 2, and what follows
-  start-held : (n : ℕ) (r : List ℕ) → Started b n → 20 + 16 * n ≤ length b → r ≡ drop (20 + 16 * n) b
+  pub start-held : (n : ℕ) (r : List ℕ) → Started b n → 20 + 16 * n ≤ length b → r ≡ drop (20 + 16 * n) b
       → framed (rec 1 (le 8 (num 8 b 6))) ++ (framed (rec 2 (les (words (2 * n) (drop 20 b)))) ++ r) ≡ b
   start-held n r s h er =
       let m : List ℕ = words (2 * n) (drop 20 b) in
@@ -63,6 +63,18 @@ module _ (b : List ℕ) (g : allFit 1 b ≡ true) where
       let b1 : le 8 (num 8 b 6) ++ drop 14 b ≡ drop 6 b = rw (← j14) (le-front (drop 6 b) 8 (num 8 b 6) (fit-drop 1 6 b g) (simp length-drop (omega arith)) refl) in
       let z1 : 2 + length (le 8 (num 8 b 6)) ≡ 10 = simp length-le in
       rw r2 (framed-front b 1 10 (le 8 (num 8 b 6)) (drop 14 b) g (omega arith) z1 (s .head1) b1)
+
+  -- kind 4, at the end
+  pub params-held : (last n : ℕ) → length b ≡ last + 6 + 8 * n → Head b last (2 + 8 * n) 4 → framed (rec 4 (les (words n (drop (last + 6) b)))) ≡ drop last b
+  params-held last n size head =
+      let t : List ℕ = drop (last + 6) b in
+      let none : drop (8 * n) t ≡ [] = drop-of-length-le t {i = 8 * n} (simp length-drop (omega arith)) in
+      let b4 : les (words n t) ++ [] ≡ t = rw (← none) (row-front 8 n t (fit-drop 1 (last + 6) b g) (simp length-drop (omega arith))) in
+      let j6 : drop 6 (drop last b) ≡ t = drop-drop 6 last b in
+      let z : 2 + length (les (words n t)) ≡ 2 + 8 * n = ap (λ (x : ℕ). 2 + x) (length-les (words n t) ∙ rw length-words) in
+      let r4 : framed (rec 4 (les (words n t))) ++ [] ≡ drop last b =
+      framed-front (drop last b) 4 (2 + 8 * n) (les (words n t)) [] (fit-drop 1 last b g) (simp length-drop (omega arith)) z (head-at last head) (b4 ∙ sym j6) in
+      sym (append-nil (framed (rec 4 (les (words n t))))) ∙ r4
 
   module _ (form : Form) (n k : ℕ) where
     -- what follows the marks
@@ -80,14 +92,8 @@ module _ (b : List ℕ) (g : allFit 1 b ≡ true) where
         let d : List ℕ = drop at b in
         let t : List ℕ = drop (last + 6) b in
         let eq : paramsFor n k ≡ n = params-some n (f .some) in
-        let none : drop (8 * n) t ≡ [] = drop-of-length-le t {i = 8 * n} (simp length-drop (omega (arith, f .size))) in
-        let b4 : les (words n t) ++ [] ≡ t = rw (← none) (row-front 8 n t (fit-drop 1 (last + 6) b g) (simp length-drop (omega (arith, f .size)))) in
-        let j6 : drop 6 (drop last b) ≡ t = drop-drop 6 last b in
-        let z : 2 + length (les (words n t)) ≡ 2 + 8 * n = ap (λ (x : ℕ). 2 + x) (length-les (words n t) ∙ rw length-words) in
-        let r4 : framed (rec 4 (les (words n t))) ++ [] ≡ drop last b =
-        framed-front (drop last b) 4 (2 + 8 * n) (les (words n t)) [] (fit-drop 1 last b g) (simp length-drop (omega (arith, f .size))) z (head-at last (f .head4)) (b4 ∙ sym j6) in
         let jl : drop (S * k) d ≡ drop last b = drop-drop (S * k) at b in
-        let r : framed (rec 4 (les (words n t))) ≡ drop (S * k) d = sym (append-nil (framed (rec 4 (les (words n t))))) ∙ r4 ∙ sym jl in
+        let r : framed (rec 4 (les (words n t))) ≡ drop (S * k) d = params-held last n (f .size) (f .head4) ∙ sym jl in
         let i : flat (curveRecords form (fieldFor n) (firstsOf form (fieldFor n) k d) (worstsOf form (fieldFor n) k d) (curvesOf form (fieldFor n) k d)) ++ drop (S * k) d ≡ d =
         curves-front form (fieldFor n) k d (fit-drop 1 at b g) (simp length-drop (omega (arith, f .size))) (f .heads) in
         rw (eq, rest-some form (fieldFor n) (firstsOf form (fieldFor n) k d) (worstsOf form (fieldFor n) k d) (curvesOf form (fieldFor n) k d) (words n t) (rw (length-firsts form (fieldFor n) k d) (f .some)), r) i

@@ -42,7 +42,7 @@ length-records field {F} {n} {k} s =
     length-flat (F .form) field (F .firsts) (F .worsts) (F .curves) w c ∙ rw (s .firsts)
 
 -- how many bytes there are, by the lengths of the lists alone
-length-start : (t n : ℕ) (M r : List ℕ) → length M ≡ 2 * n → length (framed (rec 1 (le 8 t)) ++ (framed (rec 2 (les M)) ++ r)) ≡ 20 + 16 * n + length r
+pub length-start : (t n : ℕ) (M r : List ℕ) → length M ≡ 2 * n → length (framed (rec 1 (le 8 t)) ++ (framed (rec 2 (les M)) ++ r)) ≡ 20 + 16 * n + length r
 length-start t n M r h = simp (length-append, length-le, length-les, h) (omega arith)
 
 pub length-bytes : {F : File} {n k : ℕ} → Sized F n k → length (bytesOf F) ≡ sizeFor (F .form) n k

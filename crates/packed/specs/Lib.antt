@@ -1,3 +1,4 @@
 pub mod Each
 pub mod Packed
 pub mod Unpacked
+pub mod Layout
