@@ -14,11 +14,11 @@ use Rattle.float.proofs.Truth.{and-left}
 use Rattle.form.specs.declared.Form.{Form}
 use Rattle.faults.specs.Tests.{curveAt, same}
 use Rattle.text.specs.Put.{Put}
-use Rattle.lines.specs.Handed.{handed}
+use Rattle.lines.specs.Handed.{handed, overTo}
 use Rattle.lines.proofs.Handed.{over-short, over-whole}
 use Rattle.path.specs.Text.{pathText}
 use Rattle.path.specs.Range.{noRoom, notFinite, tooLarge, notJoined, every}
-use Rattle.export.specs.Export.{wholeIn, joined, meets, exportText, overTo, exportOf}
+use Rattle.export.specs.Export.{wholeIn, joined, meets, exportText, exportOf}
 use Rattle.path_text.specs.Writable.{Writable}
 use Rattle.export.specs.Tests.{passes}
 use Rattle.export.specs.declared.Test.{Test}

@@ -5,12 +5,12 @@ use mathlib.Core.List.{List}
 use lib.Dec.{ltb, leb}
 use lib.ListN.{length}
 use lib.Ieee.{Float}
-use Rattle.float.specs.Answer.{Answer, ok, refused, unless}
+use Rattle.float.specs.Answer.{Answer, ok, unless}
 use Rattle.plane.specs.declared.Curve.{Curve}
 use Rattle.form.specs.Form.{width}
 use Rattle.form.specs.declared.Form.{Form}
 use Rattle.faults.specs.Tests.{curveAt, curveFinite, same}
-use Rattle.lines.specs.Handed.{Handed, handed, handOver}
+use Rattle.lines.specs.Handed.{Handed, overTo}
 use Rattle.path.specs.Range.{noRoom, notFinite, tooLarge, notJoined, curveWithin, every}
 use Rattle.path.specs.Text.{pathText}
 
@@ -35,11 +35,6 @@ exportText form C k ring =
     (unless tooLarge (every h (λ i. curveWithin (f i)))
     (unless notJoined (meets ring k h f)
     (unless noRoom (leb k h) (ok (pathText ring k f)))))
-
--- a text is handed over whole, and a refusal leaves the bytes as they were
-abbrev pub overTo : List ℕ → Answer (List ℕ) → Handed
-overTo O (ok t) = handOver t O
-overTo O (refused q) = handed (refused q) O
 
 unfoldable pub exportOf : Form → List Float → ℕ → Bool → List ℕ → Handed
 exportOf form C k ring O = overTo O (exportText form C k ring)

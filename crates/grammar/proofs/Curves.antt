@@ -1,7 +1,7 @@
 -- Laws of the records of curves: read off, and put together. Assumes nothing.
 use mathlib.Core.Path.{_≡_, refl, sym, ap, _∙_}
 use mathlib.Core.Bool.{true}
-use mathlib.Core.List.{List, [], _∷_, _++_, append-assoc}
+use mathlib.Core.List.{List, [], _∷_, _++_, append-assoc, append-nil}
 use Prim.Native.Nat.{ℕ, zero, suc, _+_, _*_, _<_, _≤_, _^_}
 use native.Mathlib.Nat.{mul-zero}
 use native.Mathlib.Omega.{arith}
@@ -41,6 +41,15 @@ module _ (f n p bytes : ℕ) where
   unfolding inEach allFit
   fit-each zero b g = refl
   fit-each (suc k) b g = fit-append f (row f n (drop p b)) (inEach f n p bytes k (drop bytes b)) (fit-row f n (drop p b) (fit-drop 1 p b g)) (fit-each k (drop bytes b) (fit-drop 1 bytes b g))
+
+-- one more record
+pub each-suc : (f n p step i : ℕ) (b : List ℕ) → inEach f n p step (suc i) b ≡ inEach f n p step i b ++ row f n (drop (step * i + p) b)
+unfolding inEach
+each-suc f n p step zero b = let e : p ≡ step * 0 + p = omega arith in append-nil (row f n (drop p b)) ∙ ap (λ (x : ℕ). row f n (drop x b)) e
+each-suc f n p step (suc i) b =
+    let e : step + (step * i + p) ≡ step * suc i + p = omega arith in
+    let t : inEach f n p step (suc i) (drop step b) ≡ inEach f n p step i (drop step b) ++ row f n (drop (step * suc i + p) b) = each-suc f n p step i (drop step b) ∙ rw (drop-drop, e) in
+    ap (λ (l : List ℕ). row f n (drop p b) ++ l) t ∙ sym (append-assoc (row f n (drop p b)) (inEach f n p step i (drop step b)) (row f n (drop (step * suc i + p) b)))
 
 module _ (form : Form) (field : Field) where
   -- the bytes of a mark number

@@ -31,3 +31,8 @@ handed a O = record { answer = a; out = O }
 -- a text fills the first places; where they are too few, 4, and they stay
 unfoldable pub handOver : List ℕ → List ℕ → Handed
 handOver t O = cond (leb (length t) (length O)) (handed (ok (length t)) (written t O)) (handed (refused 4) O)
+
+-- a text is handed over whole, and a refusal leaves the bytes as they were
+abbrev pub overTo : List ℕ → Answer (List ℕ) → Handed
+overTo O (ok t) = handOver t O
+overTo O (refused q) = handed (refused q) O

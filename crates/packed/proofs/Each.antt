@@ -9,8 +9,10 @@ use borrow.Author.Tests.{ltb-true, ltb-false}
 use lib.Dec.{ltb}
 use lib.ListN.{length, take, drop, length-append}
 use lib.Seq.{take-add, drop-drop, drop-at}
-use Rattle.house.specs.Bytes.{allFit}
+use Rattle.house.specs.Bytes.{row, allFit}
+use Rattle.house.specs.Held.{inEach}
 use Rattle.house.proofs.Numbers.{fit-append}
+use Rattle.grammar.proofs.Curves.{each-suc}
 use Rattle.packed.specs.Each.{each}
 
 -- alike piece by piece
@@ -71,3 +73,9 @@ module _ (e : ℕ) (g : ℕ → List ℕ) where
           let w : drop e (drop (e * k) (each k g ++ (g k ++ r))) ≡ drop (e * suc k) (each k g ++ (g k ++ r)) = rw (drop-drop, x) in
           let v : drop (e * suc k) (each k g ++ (g k ++ r)) ≡ r = sym w ∙ rw y (drop-at (g k) r e (h k (omega arith))) in
           rw (s, y, v)
+
+-- what stands in each record, piece by piece
+pub in-each : (f n p step k : ℕ) (b : List ℕ) → inEach f n p step k b ≡ each k (λ (i : ℕ). row f n (drop (step * i + p) b))
+unfolding inEach each
+in-each f n p step zero b = refl
+in-each f n p step (suc k) b = each-suc f n p step k b ∙ rw (in-each f n p step k b)

@@ -16,7 +16,7 @@ use Rattle.fit.specs.Fit.{Ending, ending, fitOf}
 use Rattle.text.specs.Put.{Put}
 use Rattle.text.proofs.Stores.{next}
 use Rattle.lines.specs.Lines.{newline}
-use Rattle.lines.specs.Handed.{Handed, handed, listedAnswer}
+use Rattle.lines.specs.Handed.{Handed, handed, listedAnswer, overTo}
 use Rattle.lines.specs.declared.Listed.{Listed}
 use Rattle.lines.specs.declared.Listed.the-variants.{Bytes, Refused}
 use Rattle.lines.proofs.Listed.{the-type}
@@ -25,7 +25,7 @@ use Rattle.house.specs.Bytes.{num, words}
 use Rattle.house.specs.Held.{fileAt}
 use Rattle.desk.specs.Desk.{zeros, noMarks, floats}
 use Rattle.file_fit.proofs.Turns.{floats-front}
-use Rattle.export.specs.Export.{exportText, exportOf, overTo}
+use Rattle.export.specs.Export.{exportText, exportOf}
 use Rattle.float.proofs.Answers.{not-refused}
 use Rattle.export.proofs.Exported.{exported-short}
 use Rattle.path_file.specs.PathFile.{cuttingFor, ringFit, lineOf}

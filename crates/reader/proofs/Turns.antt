@@ -16,18 +16,9 @@ use Rattle.house.specs.File.{paramsFor}
 use Rattle.house.specs.Held.{inEach, firstsOf, worstsOf, curvesOf, paramsAt}
 use Rattle.float.specs.Slices.{written}
 use Rattle.house.proofs.Rows.{length-words}
-use Rattle.grammar.proofs.Curves.{row-one, length-each}
+use Rattle.grammar.proofs.Curves.{row-one, length-each, each-suc}
 use Rattle.grammar.proofs.Formed.{params-some}
 use Rattle.house.proofs.Turns.{front-suc}
-
--- one more record
-each-suc : (f n p step i : ℕ) (b : List ℕ) → inEach f n p step (suc i) b ≡ inEach f n p step i b ++ row f n (drop (step * i + p) b)
-unfolding inEach
-each-suc f n p step zero b = let e : p ≡ step * 0 + p = omega arith in append-nil (row f n (drop p b)) ∙ ap (λ (x : ℕ). row f n (drop x b)) e
-each-suc f n p step (suc i) b =
-    let e : step + (step * i + p) ≡ step * suc i + p = omega arith in
-    let t : inEach f n p step (suc i) (drop step b) ≡ inEach f n p step i (drop step b) ++ row f n (drop (step * suc i + p) b) = each-suc f n p step i (drop step b) ∙ rw (drop-drop, e) in
-    ap (λ (l : List ℕ). row f n (drop p b) ++ l) t ∙ sym (append-assoc (row f n (drop p b)) (inEach f n p step i (drop step b)) (row f n (drop (step * suc i + p) b)))
 
 module _ (b : List ℕ) (at p step : ℕ) where
   each-next : (f n i : ℕ) → inEach f n p step (i + 1) (drop at b) ≡ inEach f n p step i (drop at b) ++ row f n (drop (at + step * i + p) b)
