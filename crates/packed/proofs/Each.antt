@@ -1,14 +1,14 @@
 -- Laws of lists put together of pieces. Assumes nothing.
 use mathlib.Core.Path.{_≡_, refl, sym, ap, _∙_}
 use mathlib.Core.Bool.{Bool, true, false}
-use mathlib.Core.List.{List, [], _++_, append-assoc}
+use mathlib.Core.List.{List, [], _++_, append-assoc, append-nil}
 use Prim.Native.Nat.{ℕ, zero, suc, _+_, _*_, _<_, _≤_}
 use native.Mathlib.Nat.{mul-zero}
 use native.Mathlib.Omega.{arith}
 use borrow.Author.Tests.{ltb-true, ltb-false}
 use lib.Dec.{ltb}
-use lib.ListN.{length, take, drop, length-append}
-use lib.Seq.{take-add, drop-drop, drop-at}
+use lib.ListN.{length, take, drop, length-append, length-drop}
+use lib.Seq.{take-add, drop-drop, drop-at, take-append-le, drop-append-le}
 use Rattle.house.specs.Bytes.{row, allFit}
 use Rattle.house.specs.Held.{inEach}
 use Rattle.house.proofs.Numbers.{fit-append}
@@ -73,6 +73,20 @@ module _ (e : ℕ) (g : ℕ → List ℕ) where
           let w : drop e (drop (e * k) (each k g ++ (g k ++ r))) ≡ drop (e * suc k) (each k g ++ (g k ++ r)) = rw (drop-drop, x) in
           let v : drop (e * suc k) (each k g ++ (g k ++ r)) ≡ r = sym w ∙ rw y (drop-at (g k) r e (h k (omega arith))) in
           rw (s, y, v)
+
+  -- a part of piece i, from its start or from place p on
+  module _ (k i : ℕ) (h : (j : ℕ) → j < k → length (g j) ≡ e) (l : i < k) where
+    whole-at : drop (e * i) (each k g) ≡ g i ++ drop (e * suc i) (each k g)
+    whole-at = rw append-nil at (each-at k i [] h l)
+
+    pub each-front : (m : ℕ) → m ≤ e → take m (drop (e * i) (each k g)) ≡ take m (g i)
+    each-front m n = rw whole-at (take-append-le m (g i) (drop (e * suc i) (each k g)) (omega (arith, h i l)))
+
+    pub each-part : (p m : ℕ) → p + m ≤ e → take m (drop (e * i + p) (each k g)) ≡ take m (drop p (g i))
+    each-part p m n =
+        let a : drop p (drop (e * i) (each k g)) ≡ drop (e * i + p) (each k g) = drop-drop p (e * i) (each k g) in
+        let c : drop p (g i ++ drop (e * suc i) (each k g)) ≡ drop p (g i) ++ drop (e * suc i) (each k g) = drop-append-le p (g i) (drop (e * suc i) (each k g)) (omega (arith, h i l)) in
+        rw (← a, whole-at, c) (take-append-le m (drop p (g i)) (drop (e * suc i) (each k g)) (simp length-drop (omega (arith, h i l))))
 
 -- what stands in each record, piece by piece
 pub in-each : (f n p step k : ℕ) (b : List ℕ) → inEach f n p step k b ≡ each k (λ (i : ℕ). row f n (drop (step * i + p) b))

@@ -1,10 +1,12 @@
 -- How long a packed file is, by the lengths of the file's lists alone. Assumes nothing.
 use mathlib.Core.Path.{_≡_, refl, _∙_}
+use mathlib.Core.Bool.{true}
 use mathlib.Core.List.{List, [], _++_, append-nil}
-use Prim.Native.Nat.{ℕ, zero, suc, _+_, _*_, _/_, _<_, _≤_}
+use Prim.Native.Nat.{ℕ, zero, suc, _+_, _*_, _/_, _<_, _≤_, _^_}
+use native.Mathlib.Nat.{mul-zero}
 use native.Mathlib.Omega.{arith}
-use borrow.Author.Tests.{eq-eqb, ne-eqb}
-use lib.ListN.{length, take, drop, length-append, length-drop}
+use borrow.Author.Tests.{eq-eqb, ne-eqb, lt-ltb}
+use lib.ListN.{length, take, drop, length-append, length-take, length-drop}
 use lib.Seq.{length-take-le}
 use Rattle.form.specs.declared.Form.{Form}
 use Rattle.form.specs.declared.Form.the-variants.{Eight, Nine}
@@ -19,7 +21,7 @@ use Rattle.grammar.proofs.Records.{length-framed}
 use Rattle.grammar.proofs.Formed.{Sized, params-some}
 use Rattle.grammar.proofs.Whole.{length-start}
 use Rattle.packed.specs.Each.{each}
-use Rattle.packed.specs.Packed.{restNumbers, entryBytes, startAt, endAt, restAt, worstAt, entryOf, packedBody, packedRest, packedRecords, packedBytes}
+use Rattle.packed.specs.Packed.{restNumbers, entryBytes, startAt, endAt, restAt, worstAt, entryOf, packedBody, packedRest, packedRecords, packedBytes, short}
 use Rattle.packed.specs.Unpacked.{entryAt}
 use Rattle.packed.specs.Layout.{packedSize}
 use Rattle.packed.proofs.Each.{each-length}
@@ -95,6 +97,13 @@ module _ {F : File} {n k : ℕ} (s : Sized F n k) where
   body-length h =
       let a : length (startAt F 0) ≡ 2 = start-length 0 h in
       simp (length-append, length-le, length-bytes, a, entries-length) (omega arith)
+
+  pub short-none : k ≡ 0 → short F ≡ true
+  short-none e =
+      let a : length (startAt F 0) ≤ 2 = simp length-take (omega arith) in
+      let z : entryBytes (F .form) * k ≡ 0 = rw e (mul-zero (entryBytes (F .form))) in
+      let l : 2 + length (packedBody F) < 256 ^ 4 = simp (length-append, length-le, length-bytes, entries-length) (omega arith) in
+      lt-ltb _ _ l
 
   pub packed-none : k ≡ 0 → flat (packedRest F) ≡ []
   unfolding flat
