@@ -23,7 +23,7 @@ pub enum Layout {
 }
 
 // Whether the record at `at` has this length and this kind.
-fn has_head(b: &[u8], at: usize, size: u64, kind: u64) -> bool
+pub fn has_head(b: &[u8], at: usize, size: u64, kind: u64) -> bool
     requires { ⌜ at + headBytes ≤ length (now b) ⌝ }
     ensures { λ r. ⌜ r ≡ headAt (now (b .entry)) at size kind ⌝ }
 {
@@ -34,7 +34,7 @@ fn has_head(b: &[u8], at: usize, size: u64, kind: u64) -> bool
 }
 
 // Whether kinds 1 and 2 begin as they should for n marks.
-fn starts_with(b: &[u8], n: usize) -> bool
+pub fn starts_with(b: &[u8], n: usize) -> bool
     requires { ⌜ (marksAt ≤ length (now b)) × (kindField + markBytes * n < 2 ^ 64) ⌝ }
     ensures { λ r. ⌜ r ≡ startsWith (now (b .entry)) n ⌝ }
 {

@@ -99,7 +99,7 @@ module _ (b : List ℕ) (p : ℕ) where
       let e : length (take j (drop p b)) ≡ j = length-take-le j (drop p b) (simp length-drop (omega arith)) in
       rw (take-add, val-append, drop-drop, e)
 
-  num-one : p < length b → num 1 b p ≡ getD b p 0
+  pub num-one : p < length b → num 1 b p ≡ getD b p 0
   unfolding val
   num-one h = rw (drop-cons b p 0) (omega arith)
 

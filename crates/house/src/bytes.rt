@@ -10,7 +10,7 @@ ghost use Rattle.house.specs.Bytes.{num, words, le, les};
 ghost use Rattle.float.specs.Slices.{written};
 
 // A byte as a number.
-fn wide(x: u8) -> u64
+pub fn wide(x: u8) -> u64
     ensures { λ r. ⌜ (r ≡ x) × (r < 256) ⌝ }
 {
     x as u64

@@ -76,17 +76,17 @@ module _ (e : ℕ) (g : ℕ → List ℕ) where
 
   -- a part of piece i, from its start or from place p on
   module _ (k i : ℕ) (h : (j : ℕ) → j < k → length (g j) ≡ e) (l : i < k) where
-    whole-at : drop (e * i) (each k g) ≡ g i ++ drop (e * suc i) (each k g)
-    whole-at = rw append-nil at (each-at k i [] h l)
+    pub each-whole : drop (e * i) (each k g) ≡ g i ++ drop (e * suc i) (each k g)
+    each-whole = rw append-nil at (each-at k i [] h l)
 
     pub each-front : (m : ℕ) → m ≤ e → take m (drop (e * i) (each k g)) ≡ take m (g i)
-    each-front m n = rw whole-at (take-append-le m (g i) (drop (e * suc i) (each k g)) (omega (arith, h i l)))
+    each-front m n = rw each-whole (take-append-le m (g i) (drop (e * suc i) (each k g)) (omega (arith, h i l)))
 
     pub each-part : (p m : ℕ) → p + m ≤ e → take m (drop (e * i + p) (each k g)) ≡ take m (drop p (g i))
     each-part p m n =
         let a : drop p (drop (e * i) (each k g)) ≡ drop (e * i + p) (each k g) = drop-drop p (e * i) (each k g) in
         let c : drop p (g i ++ drop (e * suc i) (each k g)) ≡ drop p (g i) ++ drop (e * suc i) (each k g) = drop-append-le p (g i) (drop (e * suc i) (each k g)) (omega (arith, h i l)) in
-        rw (← a, whole-at, c) (take-append-le m (drop p (g i)) (drop (e * suc i) (each k g)) (simp length-drop (omega (arith, h i l))))
+        rw (← a, each-whole, c) (take-append-le m (drop p (g i)) (drop (e * suc i) (each k g)) (simp length-drop (omega (arith, h i l))))
 
 -- what stands in each record, piece by piece
 pub in-each : (f n p step k : ℕ) (b : List ℕ) → inEach f n p step k b ≡ each k (λ (i : ℕ). row f n (drop (step * i + p) b))
