@@ -55,10 +55,6 @@ unfolding inEach
 worsts-as Eight f p step k b = sym (none-each f p step k b)
 worsts-as Nine f p step k b = refl
 
-pub worsts-few : (form : Form) (k : ℕ) → worstsFor form k ≤ k
-worsts-few Eight k = omega arith
-worsts-few Nine k = omega arith
-
 -- ---- what is copied, with sizes as they were worked out
 
 module _ (form : Form) (field : Field) (k : ℕ) (d : List ℕ) {r : ℕ} (er : r ≡ bodyBytes form field) where
