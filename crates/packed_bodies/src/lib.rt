@@ -51,7 +51,12 @@ fn copy_curve(b: &[u8], form: Form, n: usize, i: usize, out: &mut [u64])
 {
     copy_words(b, packed::start_place(form, n, i), sizes::MARK_NUMBERS, out);
     let at = packed::entry_at(form, n, i) + packed::PACKED_MARK;
-    copy_words(b, at, packed::rest_numbers(form), &mut out[sizes::MARK_NUMBERS..]);
+    copy_words(
+        b,
+        at,
+        packed::rest_numbers(form),
+        &mut out[sizes::MARK_NUMBERS..],
+    );
 }
 
 // The numbers of k curves, into the first places.
