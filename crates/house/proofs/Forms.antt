@@ -108,6 +108,10 @@ pub worsts-each : (form : Form) (k : ℕ) → worstsFor form k ≡ worstMarks fo
 worsts-each Eight k = omega arith
 worsts-each Nine k = omega arith
 
+pub worsts-few : (form : Form) (k : ℕ) → worstsFor form k ≤ k
+worsts-few Eight k = omega arith
+worsts-few Nine k = omega arith
+
 pub worsts-within : (form : Form) (k i : ℕ) → i < k → worstsFor form (i + 1) ≤ worstsFor form k
 worsts-within Eight k i h = omega arith
 worsts-within Nine k i h = omega arith

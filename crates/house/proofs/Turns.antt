@@ -1,11 +1,12 @@
 -- Turns of the loops that read and write rows, and bytes that are put one after another. Assumes nothing.
 use mathlib.Core.Path.{_≡_, sym, ap, _∙_}
-use mathlib.Core.List.{List, [], _∷_, _++_, append-nil}
-use Prim.Native.Nat.{ℕ, _+_, _*_, _/_, _%_, _<_}
+use mathlib.Core.List.{List, [], _∷_, _++_, append-assoc, append-nil}
+use Prim.Native.Nat.{ℕ, _+_, _-_, _*_, _/_, _%_, _<_, _≤_}
 use native.Mathlib.Numerals.{add-one}
 use native.Mathlib.Omega.{arith}
-use lib.ListN.{length, take, drop, set, getD}
-use lib.Seq.{drop-drop, drop-cons, set-at, append-snoc, take-suc, length-take-le, sets}
+use lib.ListN.{length, take, drop, set, getD, length-append, length-drop, drop-of-length-le}
+use lib.Seq.{drop-drop, drop-cons, set-at, append-snoc, take-suc, take-at, drop-at, take-all, length-take-le, sets}
+use Rattle.float.specs.Slices.{written}
 use Rattle.text.proofs.Stores.{sets-append}
 use Rattle.house.specs.Bytes.{num, le, rowBytes, words, les}
 use Rattle.house.proofs.Numbers.{length-le}
@@ -14,6 +15,27 @@ use Rattle.house.proofs.Rows.{length-words, length-les, words-suc, byte
 -- a store that makes a front one longer
 pub front-suc : {A : Type 0} (d : A) (xs l : List A) (x : A) (i : ℕ) → length xs ≡ i → i < length l → set (xs ++ drop i l) i x ≡ (xs ++ (x ∷ [])) ++ drop (i + 1) l
 front-suc d xs l x i e h = rw (drop-cons l i d, set-at xs _ _ x i, append-snoc, add-one)
+
+-- what holds of a slice after some turns: xs stands in front
+pub record Front (xs l out : List ℕ) (n : ℕ) : Type 0 where
+  pub whole : out ≡ xs ++ drop n l
+  pub same : length out ≡ length l
+
+-- a front replaced keeps the length
+pub same-front : (xs l r : List ℕ) (n : ℕ) → r ≡ xs ++ drop n l → length xs ≡ n → n ≤ length l → Front xs l r n
+same-front xs l r n e x h = record { whole = e; same = ap length e ∙ simp (length-append, length-drop, x) (omega arith) }
+
+-- the front as it is, and ys behind it, where the part from there on was lent
+pub front-part : (xs ys l m last : List ℕ) (n : ℕ) → m ≡ xs ++ drop n l → length xs ≡ n → n ≤ length m → last ≡ written ys (take (length m - n) (drop n m))
+    → take n m ++ (last ++ drop (length m - n) (drop n m)) ≡ (xs ++ ys) ++ drop (n + length ys) l
+front-part xs ys l m last n e z h s =
+    let g : length (drop n m) ≤ length m - n = simp length-drop (omega arith) in
+    let a : take (length m - n) (drop n m) ≡ drop n m = take-all (length m - n) (drop n m) g in
+    let b : drop (length m - n) (drop n m) ≡ [] = drop-of-length-le (drop n m) {i = length m - n} g in
+    let t : take n m ≡ xs = rw e (take-at xs (drop n l) n z) in
+    let d : drop n m ≡ drop n l = rw e (drop-at xs (drop n l) n z) in
+    let s′ : last ≡ ys ++ drop (length ys) (drop n m) = s ∙ rw a in
+    rw (b, append-nil, s′) (simp (t, d, drop-drop, append-assoc))
 
 -- one more number read
 pub words-turn : (b : List ℕ) (at : ℕ) (l : List ℕ) (i : ℕ) → i < length l

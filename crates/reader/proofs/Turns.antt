@@ -1,11 +1,11 @@
 -- Turns of the loops that copy what stands in each record. Assumes nothing.
 use mathlib.Core.Path.{_≡_, refl, sym, ap, _∙_}
-use mathlib.Core.List.{List, [], _∷_, _++_, append-assoc, append-nil}
+use mathlib.Core.List.{List, [], _∷_, _++_}
 use Prim.Native.Nat.{ℕ, zero, suc, _+_, _-_, _*_, _<_, _≤_}
 use native.Mathlib.Numerals.{add-one}
 use native.Mathlib.Omega.{arith}
-use lib.ListN.{length, take, drop, set, length-append, length-drop, drop-of-length-le}
-use lib.Seq.{drop-drop, take-at, drop-at, take-all}
+use lib.ListN.{length, take, drop, set}
+use lib.Seq.{drop-drop}
 use Rattle.form.specs.declared.Form.{Form}
 use Rattle.form.specs.declared.Form.the-variants.{Eight, Nine}
 use Rattle.form.specs.Form.{width, worstsFor}
@@ -18,7 +18,7 @@ use Rattle.float.specs.Slices.{written}
 use Rattle.house.proofs.Rows.{length-words}
 use Rattle.grammar.proofs.Curves.{row-one, length-each, each-suc}
 use Rattle.grammar.proofs.Formed.{params-some}
-use Rattle.house.proofs.Turns.{front-suc}
+use Rattle.house.proofs.Turns.{front-suc, front-part}
 
 module _ (b : List ℕ) (at p step : ℕ) where
   each-next : (f n i : ℕ) → inEach f n p step (i + 1) (drop at b) ≡ inEach f n p step i (drop at b) ++ row f n (drop (at + step * i + p) b)
@@ -34,35 +34,14 @@ module _ (b : List ℕ) (at p step : ℕ) where
       let e : inEach f 1 p step (i + 1) (drop at b) ≡ inEach f 1 p step i (drop at b) ++ (num f b (at + step * i + p) ∷ []) = each-next f 1 i ∙ rw row-one in
       front-suc 0 (inEach f 1 p step i (drop at b)) l (num f b (at + step * i + p)) i z h ∙ ap (λ (r : List ℕ). r ++ drop (i + 1) l) (sym e)
 
-  -- the front as it is, and n numbers more
-  rows-turn : (n : ℕ) (l m : List ℕ) (i : ℕ) → m ≡ inEach 8 n p step i (drop at b) ++ drop (n * i) l
-      → take (n * i) m ++ written (words n (drop (at + step * i + p) b)) (drop (n * i) m) ≡ inEach 8 n p step (i + 1) (drop at b) ++ drop (n * (i + 1)) l
-  rows-turn n l m i e =
-      let q : n * i + n ≡ n * (i + 1) = omega arith in
-      let z : length (inEach 8 n p step i (drop at b)) ≡ n * i = length-each 8 n p step i (drop at b) in
-      let t : take (n * i) m ≡ inEach 8 n p step i (drop at b) = rw e (take-at (inEach 8 n p step i (drop at b)) (drop (n * i) l) (n * i) z) in
-      let d : drop (n * i) m ≡ drop (n * i) l = rw e (drop-at (inEach 8 n p step i (drop at b)) (drop (n * i) l) (n * i) z) in
-      simp (t, d, each-next 8 n i, length-words, drop-drop, q, append-assoc)
-
-  -- the same where the part was lent: all from n * i on
+  -- n numbers more, where the part from n * i on was lent
   pub rows-put : (n : ℕ) (l m last : List ℕ) (i : ℕ) → m ≡ inEach 8 n p step i (drop at b) ++ drop (n * i) l → n * i ≤ length m
       → last ≡ written (words n (drop (at + step * i + p) b)) (take (length m - n * i) (drop (n * i) m))
       → take (n * i) m ++ (last ++ drop (length m - n * i) (drop (n * i) m)) ≡ inEach 8 n p step (i + 1) (drop at b) ++ drop (n * (i + 1)) l
   rows-put n l m last i e h s =
-      let g : length (drop (n * i) m) ≤ length m - n * i = simp length-drop (omega arith) in
-      let t : take (length m - n * i) (drop (n * i) m) ≡ drop (n * i) m = take-all (length m - n * i) (drop (n * i) m) g in
-      let d : drop (length m - n * i) (drop (n * i) m) ≡ [] = drop-of-length-le (drop (n * i) m) {i = length m - n * i} g in
-      let s′ : last ≡ written (words n (drop (at + step * i + p) b)) (drop (n * i) m) = s ∙ rw t in
-      rw (d, append-nil, s′) (rows-turn n l m i e)
-
--- what holds of a slice after some turns: xs stands in front
-pub record Front (xs l out : List ℕ) (n : ℕ) : Type 0 where
-  pub whole : out ≡ xs ++ drop n l
-  pub same : length out ≡ length l
-
--- a front replaced keeps the length
-pub same-front : (xs l r : List ℕ) (n : ℕ) → r ≡ xs ++ drop n l → length xs ≡ n → n ≤ length l → Front xs l r n
-same-front xs l r n e x h = record { whole = e; same = ap length e ∙ simp (length-append, length-drop, x) (omega arith) }
+      let q : n * i + n ≡ n * (i + 1) = omega arith in
+      front-part (inEach 8 n p step i (drop at b)) (words n (drop (at + step * i + p) b)) l m last (n * i) e (length-each 8 n p step i (drop at b)) h s
+      ∙ rw (each-next 8 n i, length-words, q)
 
 -- ---- worst marks: one in each record, or none
 
@@ -75,10 +54,6 @@ worsts-as : (form : Form) (f p step k : ℕ) (b : List ℕ) → inEach f 1 p ste
 unfolding inEach
 worsts-as Eight f p step k b = sym (none-each f p step k b)
 worsts-as Nine f p step k b = refl
-
-pub worsts-few : (form : Form) (k : ℕ) → worstsFor form k ≤ k
-worsts-few Eight k = omega arith
-worsts-few Nine k = omega arith
 
 -- ---- what is copied, with sizes as they were worked out
 

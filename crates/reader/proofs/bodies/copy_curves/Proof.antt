@@ -6,8 +6,8 @@ use native.Mathlib.Omega.{arith}
 use lib.ListN.{drop}
 use Rattle.form.specs.Form.{width}
 use Rattle.house.specs.Limits.{curveBytes}
-use Rattle.house.proofs.Forms.{field-few, body-few, beside-within, beside-few}
-use Rattle.reader.proofs.Turns.{worsts-few, firsts-by, worsts-by, curves-by}
+use Rattle.house.proofs.Forms.{field-few, body-few, beside-within, beside-few, worsts-few}
+use Rattle.reader.proofs.Turns.{firsts-by, worsts-by, curves-by}
 use borrow.Author.Needs.{needs}
 use Rattle.reader.proofs.bodies.copy_curves.Statement.{statement}
 use Rattle.reader.proofs.bodies.copy_curves.Tie as tie

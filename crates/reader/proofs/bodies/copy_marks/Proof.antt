@@ -8,7 +8,8 @@ use Rattle.house.specs.Limits.{markField}
 use Rattle.house.specs.Held.{inEach}
 use Rattle.house.proofs.Forms.{within}
 use Rattle.grammar.proofs.Curves.{length-each}
-use Rattle.reader.proofs.Turns.{Front, same-front, marks-turn}
+use Rattle.house.proofs.Turns.{Front, same-front}
+use Rattle.reader.proofs.Turns.{marks-turn}
 use Rattle.reader.proofs.bodies.copy_marks.Statement.{statement}
 use Rattle.reader.proofs.bodies.copy_marks.Tie as tie
 

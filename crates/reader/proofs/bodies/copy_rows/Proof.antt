@@ -7,7 +7,8 @@ use lib.ListN.{length, drop, length-take, length-drop}
 use Rattle.house.specs.Held.{inEach}
 use Rattle.house.proofs.Forms.{within}
 use Rattle.grammar.proofs.Curves.{length-each}
-use Rattle.reader.proofs.Turns.{Front, same-front, rows-put}
+use Rattle.house.proofs.Turns.{Front, same-front}
+use Rattle.reader.proofs.Turns.{rows-put}
 use Rattle.reader.proofs.bodies.copy_rows.Statement.{statement}
 use Rattle.reader.proofs.bodies.copy_rows.Tie as tie
 
