@@ -24,6 +24,12 @@ each-same (suc k) f g h =
     let b : f k ≡ g k = h k (omega arith) in
     rw (a, b)
 
+-- the first piece by itself
+pub each-first : (k : ℕ) (g : ℕ → List ℕ) → each (suc k) g ≡ g 0 ++ each k (λ (i : ℕ). g (suc i))
+unfolding each
+each-first zero g = sym (append-nil (g 0))
+each-first (suc k) g = rw (each-first k g) (append-assoc (g 0) (each k (λ (i : ℕ). g (suc i))) (g (suc k)))
+
 -- numbers that fit their field
 pub each-fit : (f k : ℕ) (g : ℕ → List ℕ) → ((i : ℕ) → i < k → allFit f (g i) ≡ true) → allFit f (each k g) ≡ true
 unfolding each allFit

@@ -10,6 +10,7 @@ use lib.Dec.{ltb}
 use lib.ListN.{length, take, drop, getD, length-append, List·getD-append}
 use lib.Seq.{drop-drop, take-at, drop-at, take-all, take-take, drop-cons, getD-append-seam}
 use Rattle.form.specs.declared.Form.{Form}
+use Rattle.form.specs.declared.Form.the-variants.{Eight, Nine}
 use Rattle.form.specs.Form.{width, worstsFor}
 use Rattle.house.specs.Limits.{worstMarks}
 use Rattle.house.specs.Bytes.{val, num, row, words, allFit}
@@ -21,7 +22,7 @@ use Rattle.grammar.proofs.Curves.{row-one}
 use Rattle.grammar.proofs.Formed.{Sized}
 use Rattle.packed.specs.Each.{each}
 use Rattle.packed.specs.Packed.{restNumbers, startAt, endAt, restAt, worstAt, markAt}
-use Rattle.packed.specs.Unpacked.{entryAt, firstPlace, startPlace, restPlace, worstPlace, firstsIn, packedAt}
+use Rattle.packed.specs.Unpacked.{entryAt, firstPlace, startPlace, restPlace, worstPlace, firstsIn, worstsIn, packedAt}
 use Rattle.packed.proofs.Each.{each-length, each-fit, each-at, each-front, each-part}
 use Rattle.packed.proofs.Sizes.{rest-is, rest-long}
 
@@ -47,6 +48,22 @@ part-of zero m r l h = take-take m r l (omega arith)
 part-of (suc p) m zero l h = absurd (omega arith)
 part-of (suc p) m (suc r) [] h = refl
 part-of (suc p) m (suc r) (x ∷ l) h = part-of p m r l (omega arith)
+
+-- ---- mark numbers, at places that go by the curve
+
+abbrev pub mark : List ℕ → (ℕ → ℕ) → ℕ → List ℕ
+mark b place i = row 4 1 (drop (place i) b)
+
+-- worst marks: one for each curve, or none
+pub none-each : (b : List ℕ) (place : ℕ → ℕ) (k : ℕ) → each k (λ (i : ℕ). row 4 0 (drop (place i) b)) ≡ []
+unfolding each row
+none-each b place zero = refl
+none-each b place (suc k) = rw (none-each b place k)
+
+pub worsts-as : (b : List ℕ) (form : Form) (n k : ℕ) → each (worstsFor form k) (mark b (worstPlace form n)) ≡ worstsIn b form n k
+unfolding each
+worsts-as b Eight n k = sym (none-each b (worstPlace Eight n) k)
+worsts-as b Nine n k = refl
 
 module _ (b : List ℕ) (form : Form) (n k : ℕ) where
   abbrev X : File

@@ -50,6 +50,11 @@ pub rest-long : (form : Form) → 6 ≤ restNumbers form
 rest-long Eight = omega arith
 rest-long Nine = omega arith
 
+-- the numbers of a curve are within it
+pub rest-within : (form : Form) → 4 + 8 * restNumbers form ≤ entryBytes form
+rest-within Eight = omega arith
+rest-within Nine = omega arith
+
 -- curves, by what is left of a division
 pub entries-of : (form : Form) (k x : ℕ) → x ≡ entryBytes form * k → x / entryBytes form ≡ k
 entries-of Eight k x e = omega arith

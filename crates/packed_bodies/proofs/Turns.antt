@@ -22,6 +22,7 @@ use Rattle.packed.specs.Packed.{restNumbers, entryBytes}
 use Rattle.packed.specs.Unpacked.{entryAt, startPlace, restPlace, worstPlace, worstsIn, numbersIn}
 use Rattle.packed.proofs.Each.{each-length}
 use Rattle.packed.proofs.Sizes.{rest-is}
+use Rattle.packed.proofs.Pieces.{mark, worsts-as}
 
 -- a curve is within those of which it is one
 pub inside : (form : Form) (n k i : ℕ) → i < k → entryAt form n i + entryBytes form ≤ entryAt form n k
@@ -40,36 +41,23 @@ each-next g i = rw (add-one i)
 -- ---- mark numbers, at places that go by the curve
 
 module _ (b : List ℕ) (place : ℕ → ℕ) where
-  abbrev pub mark : ℕ → List ℕ
-  mark i = row 4 1 (drop (place i) b)
-
-  marks-length : (i : ℕ) → length (each i mark) ≡ i
-  marks-length i = each-length 1 mark i (λ j s. length-row 4 1 (drop (place j) b)) ∙ omega arith
+  marks-length : (i : ℕ) → length (each i (mark b place)) ≡ i
+  marks-length i = each-length 1 (mark b place) i (λ j s. length-row 4 1 (drop (place j) b)) ∙ omega arith
 
   -- one more
-  pub marks-turn : (l m : List ℕ) (i : ℕ) {p x : ℕ} → x ≡ num 4 b p → p ≡ place i → i < length l → Front (each i mark) l m i → Front (each (i + 1) mark) l (set m i x) (i + 1)
+  pub marks-turn : (l m : List ℕ) (i : ℕ) {p x : ℕ} → x ≡ num 4 b p → p ≡ place i → i < length l → Front (each i (mark b place)) l m i → Front (each (i + 1) (mark b place)) l (set m i x) (i + 1)
   marks-turn l m i {p} {x} is at h f =
       let v : x ≡ num 4 b (place i) = is ∙ rw at in
-      let e : each (i + 1) mark ≡ each i mark ++ (num 4 b (place i) ∷ []) = each-next mark i ∙ rw row-one in
-      let w : set m i x ≡ each (i + 1) mark ++ drop (i + 1) l =
-      rw (f .whole, v) (front-suc 0 (each i mark) l (num 4 b (place i)) i (marks-length i) h ∙ ap (λ (r : List ℕ). r ++ drop (i + 1) l) (sym e)) in
-      same-front (each (i + 1) mark) l (set m i x) (i + 1) w (marks-length (i + 1)) (omega arith)
+      let e : each (i + 1) (mark b place) ≡ each i (mark b place) ++ (num 4 b (place i) ∷ []) = each-next (mark b place) i ∙ rw row-one in
+      let w : set m i x ≡ each (i + 1) (mark b place) ++ drop (i + 1) l =
+      rw (f .whole, v) (front-suc 0 (each i (mark b place)) l (num 4 b (place i)) i (marks-length i) h ∙ ap (λ (r : List ℕ). r ++ drop (i + 1) l) (sym e)) in
+      same-front (each (i + 1) (mark b place)) l (set m i x) (i + 1) w (marks-length (i + 1)) (omega arith)
 
   -- all of them
-  pub marks-all : (l m : List ℕ) (i k : ℕ) → i ≡ k → Front (each i mark) l m i → m ≡ written (each k mark) l
+  pub marks-all : (l m : List ℕ) (i k : ℕ) → i ≡ k → Front (each i (mark b place)) l m i → m ≡ written (each k (mark b place)) l
   marks-all l m i k q f = rw (marks-length k) (rw q at (f .whole))
 
 -- ---- worst marks: one for each curve, or none
-
-none-each : (b : List ℕ) (place : ℕ → ℕ) (k : ℕ) → each k (λ (i : ℕ). row 4 0 (drop (place i) b)) ≡ []
-unfolding each row
-none-each b place zero = refl
-none-each b place (suc k) = rw (none-each b place k)
-
-worsts-as : (b : List ℕ) (form : Form) (n k : ℕ) → each (worstsFor form k) (mark b (worstPlace form n)) ≡ worstsIn b form n k
-unfolding each
-worsts-as b Eight n k = sym (none-each b (worstPlace Eight n) k)
-worsts-as b Nine n k = refl
 
 -- all that are kept
 pub worsts-all : (b : List ℕ) (form : Form) (n k : ℕ) (l m : List ℕ) (i : ℕ) → i ≡ worstsFor form k → Front (each i (mark b (worstPlace form n))) l m i → m ≡ written (worstsIn b form n k) l
@@ -83,11 +71,6 @@ worst-at form n i at many = omega arith
 pub worst-within : (form : Form) (k i : ℕ) → i < worstsFor form k → 4 + 8 * restNumbers form + 4 ≤ entryBytes form
 worst-within Eight k i h = absurd (omega arith)
 worst-within Nine k i h = omega arith
-
--- and so are the numbers before it
-pub rest-within : (form : Form) → 4 + 8 * restNumbers form ≤ entryBytes form
-rest-within Eight = omega arith
-rest-within Nine = omega arith
 
 -- ---- the numbers of curves
 

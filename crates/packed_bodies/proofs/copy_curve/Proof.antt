@@ -4,8 +4,8 @@ use Prim.Native.Nat.{ℕ, _+_}
 use native.Mathlib.Omega.{arith}
 use lib.ListN.{length-take, length-drop}
 use Rattle.packed.proofs.Places.{start-before}
-use Rattle.packed.proofs.Sizes.{rest-is}
-use Rattle.packed_bodies.proofs.Turns.{rest-within, curve-is}
+use Rattle.packed.proofs.Sizes.{rest-is, rest-within}
+use Rattle.packed_bodies.proofs.Turns.{curve-is}
 use borrow.Author.Needs.{needs}
 use Rattle.packed_bodies.proofs.copy_curve.Statement.{statement}
 use Rattle.packed_bodies.proofs.copy_curve.Tie as tie

@@ -8,7 +8,8 @@ use Rattle.packed.specs.Each.{each}
 use Rattle.packed.specs.Packed.{restNumbers}
 use Rattle.packed.specs.Unpacked.{entryAt, worstPlace}
 use Rattle.packed.proofs.Sizes.{rest-few}
-use Rattle.packed_bodies.proofs.Turns.{inside, front-none, mark, marks-turn, worst-at, worst-within, worsts-all}
+use Rattle.packed.proofs.Pieces.{mark}
+use Rattle.packed_bodies.proofs.Turns.{inside, front-none, marks-turn, worst-at, worst-within, worsts-all}
 use borrow.Author.Needs.{needs}
 use Rattle.packed_bodies.proofs.copy_worsts.Statement.{statement}
 use Rattle.packed_bodies.proofs.copy_worsts.Tie as tie
