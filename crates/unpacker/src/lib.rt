@@ -14,7 +14,7 @@ ghost use Rattle.packed.specs.Packed.{packedBytes};
 ghost use Rattle.packed.specs.Unpacked.{packedAt};
 
 // Packed bytes of n marks and k curves, unpacked into the first bytes of `out`, which stay as they are where they are too few. A file without curves stays as it is.
-pub fn unpack_counted(file: &[u8], form: Form, n: usize, k: usize, out: &mut [u8]) -> Listed
+fn unpack_counted(file: &[u8], form: Form, n: usize, k: usize, out: &mut [u8]) -> Listed
     requires { ⌜ packedBytes (packedAt (now file) form n k) ≡ now file ⌝ }
     ensures { λ r. ⌜ handed (listedAnswer r) (now (out .exit)) ≡ handOver (bytesOf (packedAt (now (file .entry)) form n k)) (now (out .entry)) ⌝ }
 {
