@@ -61,7 +61,8 @@ fn put_curve(file: &[u8], form: Form, field: Field, n: usize, i: usize, out: &mu
     put_head(out, at, size as u64, sizes::curve_kind(form, field));
     let body = at + sizes::HEAD_BYTES;
     put_beside(file, form, field, n, i, out, body);
-    put_numbers(file, form, n, i, out, body + sizes::beside_bytes(form, field));
+    let numbers = body + sizes::beside_bytes(form, field);
+    put_numbers(file, form, n, i, out, numbers);
 }
 
 // The records of the first k curves, at `at`.

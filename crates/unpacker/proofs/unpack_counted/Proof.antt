@@ -40,7 +40,7 @@ same-length-2 : tie.Need-same-length-2
 same-length-2 c = search needs
 
 returns-3 : tie.Need-returns-3
-returns-3 c = 
+returns-3 c =
     let a = c .before .before .before .before .before .before .before .before .before .args in
     let t = bytesOf (packedAt (a .file .now) (a .form) (a .n) (a .k)) in
     let h : length t ≤ length (a .out .now) = omega (arith, length-unpacked (a .file .now) (a .form) (a .n) (a .k), c .before .before .before .before .before .size-for .ensures) in

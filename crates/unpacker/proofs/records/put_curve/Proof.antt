@@ -26,8 +26,8 @@ put-beside-requires c κs = search needs
 beside-bytes-requires : tie.Need-beside-bytes-requires
 beside-bytes-requires c κs = search needs
 
-add-put-numbers : tie.Need-add-put-numbers
-add-put-numbers c = search needs
+add-numbers : tie.Need-add-numbers
+add-numbers c = search needs
 
 put-numbers-requires : tie.Need-put-numbers-requires
 put-numbers-requires c κs = search needs
@@ -36,7 +36,7 @@ same-length : tie.Need-same-length
 same-length c = search needs
 
 returns : tie.Need-returns
-returns c = let a = c .before .before .before .before .before .before .before .before .before .before .before .before .before .before .before .before .before .args in c .before .before .put-numbers .ensures ∙ rw (c .before .before .before .before .before .before .before .put-beside .ensures, c .before .before .before .before .before .before .before .before .before .before .before .put-head .ensures, c .before .before .before .before .before .before .before .before .before .before .before .before .before .before .body-bytes .ensures, c .before .before .before .before .before .before .before .before .before .before .before .before .curve-kind .ensures, c .before .before .before .beside-bytes .ensures) (record-put (a .file .now) (a .form) (a .n) (a .i) (a .field) (a .out .now) (a .at))
+returns c = let a = c .before .before .before .before .before .before .before .before .before .before .before .before .before .before .before .before .before .args in c .before .before .put-numbers .ensures ∙ rw (c .before .before .before .before .before .before .before .put-beside .ensures, c .before .before .before .before .before .before .before .before .before .before .before .put-head .ensures, c .before .before .before .before .before .before .before .before .before .before .before .before .before .before .body-bytes .ensures, c .before .before .before .before .before .before .before .before .before .before .before .before .curve-kind .ensures, c .before .before .before .before .beside-bytes .ensures) (record-put (a .file .now) (a .form) (a .n) (a .i) (a .field) (a .out .now) (a .at))
 
 pub put-curve-spec : {M : Type 1} → statement M
-put-curve-spec = tie.close (tie.spec body-bytes-requires add-size curve-kind-requires put-head-requires add-body put-beside-requires beside-bytes-requires add-put-numbers put-numbers-requires same-length returns)
+put-curve-spec = tie.close (tie.spec body-bytes-requires add-size curve-kind-requires put-head-requires add-body put-beside-requires beside-bytes-requires add-numbers put-numbers-requires same-length returns)

@@ -73,7 +73,7 @@ same-length : tie.Need-same-length
 same-length c = search needs
 
 returns : tie.Need-returns
-returns c = 
+returns c =
     let a = c .before .before .before .before .before .before .before .before .before .before .before .before .before .before .before .args in
     let h = there (c .before .before .before .before .before .before .before .before .before .before) in
     let p = startPlace (a .form) (a .n) (a .i) in
