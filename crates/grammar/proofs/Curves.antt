@@ -6,12 +6,13 @@ use Prim.Native.Nat.{ℕ, zero, suc, _+_, _*_, _<_, _≤_, _^_}
 use native.Mathlib.Nat.{mul-zero}
 use native.Mathlib.Omega.{arith}
 use lib.ListN.{length, take, drop, length-append, length-drop, take-append-drop}
-use lib.Seq.{drop-drop, take-at, drop-at, length-take-le}
+use lib.Seq.{drop-drop, take-at, drop-at, take-append-le, drop-append-le, length-take-le, sets}
 use Rattle.float.proofs.Truth.{and-left, and-right}
+use Rattle.text.proofs.Stores.{sets-append}
 use Rattle.form.specs.declared.Form.{Form}
 use Rattle.form.specs.Form.{width, worstsFor}
 use Rattle.house.specs.declared.sizes.Field.{Field}
-use Rattle.house.specs.Limits.{markField, worstMarks, curveKind, bodyBytes, curveBytes, numbersAt}
+use Rattle.house.specs.Limits.{markField, worstMarks, curveKind, besideBytes, bodyBytes, curveBytes, numbersAt}
 use Rattle.house.specs.Bytes.{val, le, num, row, rowBytes, les, allFit}
 use Rattle.house.specs.File.{rec, framed, flat, bodyOf, curveRecords}
 use Rattle.house.specs.Held.{inEach, firstsOf, worstsOf, curvesOf}
@@ -80,6 +81,42 @@ module _ (form : Form) (field : Field) where
       let l : length (bodyOf form field p W C) ≡ bodyBytes form field = length-body p W C (omega arith) (omega arith) in
       let i = length-flat P (drop (worstMarks form) W) (drop (width form) C) (simp length-drop (omega arith)) (simp length-drop (omega arith)) in
       length-append (framed (rec (curveKind form field) (bodyOf form field p W C))) _ ∙ rw (i, length-framed (curveKind form field) (bodyOf form field p W C), l) (omega arith)
+
+  -- ---- records that are put
+
+  -- one record: head, mark numbers, numbers
+  pub curve-put : (l : List ℕ) (at p : ℕ) (W C : List ℕ) → worstMarks form ≤ length W → width form ≤ length C
+      → sets (sets (sets l at (le 4 (2 + bodyBytes form field) ++ le 2 (curveKind form field))) (at + 6) (le f p ++ rowBytes f (take (worstMarks form) W))) (at + 6 + besideBytes form field) (les (take (width form) C))
+      ≡ sets l at (framed (rec (curveKind form field) (bodyOf form field p W C)))
+  curve-put l at p W C hw hc =
+      let hd : List ℕ = le 4 (2 + bodyBytes form field) ++ le 2 (curveKind form field) in
+      let ms : List ℕ = le f p ++ rowBytes f (take (worstMarks form) W) in
+      let ns : List ℕ = les (take (width form) C) in
+      let z : length (bodyOf form field p W C) ≡ bodyBytes form field = length-body p W C hw hc in
+      let lw : length (take (worstMarks form) W) ≡ worstMarks form = length-take-le (worstMarks form) W hw in
+      let spread : framed (rec (curveKind form field) (bodyOf form field p W C)) ≡ (hd ++ ms) ++ ns = rw z (simp append-assoc) in
+      let s1 = sets-append hd ms l at in
+      let s2 = sets-append (hd ++ ms) ns l at in
+      let p1 : at + length hd ≡ at + 6 = simp (length-append, length-le) in
+      let p2 : at + length (hd ++ ms) ≡ at + 6 + besideBytes form field = simp (length-append, length-le, length-bytes, lw) (omega arith) in
+      sym (rw spread (s2 ∙ rw (p2, s1, p1)))
+
+  -- one record more
+  pub curves-snoc : (P W C w c : List ℕ) (p : ℕ) → length W ≡ worstMarks form * length P → length C ≡ width form * length P
+      → flat (curveRecords form field (P ++ (p ∷ [])) (W ++ w) (C ++ c)) ≡ flat (curveRecords form field P W C) ++ framed (rec (curveKind form field) (bodyOf form field p w c))
+  unfolding flat curveRecords
+  curves-snoc [] W C w c p hw hc =
+      let eW : W ≡ [] = empty W (omega arith) in
+      let eC : C ≡ [] = empty C (omega arith) in
+      rw (eW, eC, append-nil)
+  curves-snoc (x ∷ P) W C w c p hw hc =
+      let tw : take (worstMarks form) (W ++ w) ≡ take (worstMarks form) W = take-append-le (worstMarks form) W w (omega arith) in
+      let dw : drop (worstMarks form) (W ++ w) ≡ drop (worstMarks form) W ++ w = drop-append-le (worstMarks form) W w (omega arith) in
+      let tc : take (width form) (C ++ c) ≡ take (width form) C = take-append-le (width form) C c (omega arith) in
+      let dc : drop (width form) (C ++ c) ≡ drop (width form) C ++ c = drop-append-le (width form) C c (omega arith) in
+      let i = curves-snoc P (drop (worstMarks form) W) (drop (width form) C) w c p (simp length-drop (omega arith)) (simp length-drop (omega arith)) in
+      rw (tw, dw, tc, dc, i)
+      (sym (append-assoc (framed (rec (curveKind form field) (bodyOf form field x W C))) (flat (curveRecords form field P (drop (worstMarks form) W) (drop (width form) C))) (framed (rec (curveKind form field) (bodyOf form field p w c)))))
 
   -- ---- from bytes with the right heads to the records and back
 

@@ -7,20 +7,20 @@ use native.Mathlib.Numerals.{add-one}
 use native.Mathlib.Omega.{arith}
 use borrow.Author.Tests.{ltb-true, lt-ltb}
 use lib.ListN.{length, take, drop, getD, length-append, length-take, length-drop}
-use lib.Seq.{drop-cons, take-add, take-suc, take-all, take-length, take-append-le, drop-append-le, length-take-le, getD-take, sets}
+use lib.Seq.{drop-cons, take-add, take-suc, take-all, take-length, length-take-le, getD-take, sets}
 use Rattle.float.proofs.Truth.{true-false}
 use Rattle.form.specs.declared.Form.{Form}
 use Rattle.form.specs.declared.Form.the-variants.{Eight, Nine}
 use Rattle.form.specs.Form.{width, worstsFor}
 use Rattle.house.specs.declared.sizes.Field.{Field}
-use Rattle.house.specs.Limits.{markField, worstMarks, besideBytes, curveKind, bodyBytes, curveBytes}
+use Rattle.house.specs.Limits.{worstMarks, curveKind, curveBytes}
 use Rattle.house.specs.Bytes.{le, rowBytes, les, fits, allFit}
 use Rattle.house.specs.File.{rec, framed, flat, bodyOf, curveRecords, fewer}
 use Rattle.writer.specs.Writer.{marksFit}
 use Rattle.house.proofs.Forms.{worsts-each}
 use Rattle.house.proofs.Numbers.{fit-cons, fit-append, fit-at, length-le}
-use Rattle.house.proofs.Rows.{length-bytes, length-les}
-use Rattle.grammar.proofs.Curves.{empty, length-body, length-flat}
+use Rattle.house.proofs.Rows.{length-les}
+use Rattle.grammar.proofs.Curves.{length-flat, curves-snoc}
 use Rattle.house.proofs.Turns.{put-both}
 use Rattle.text.proofs.Stores.{sets-append}
 
@@ -59,43 +59,7 @@ unfolding rowBytes
 beside-two f l at form p i W e h = let d : drop i W ≡ getD W i 0 ∷ drop (suc i) W = drop-cons W i 0 h in put-both l at f f p (getD W i 0) ∙ rw (e, d, append-nil)
 
 module _ (form : Form) (field : Field) where
-  abbrev f : ℕ
-  f = markField field
-
-  -- one record: head, mark numbers, numbers
-  pub curve-put : (l : List ℕ) (at p : ℕ) (W C : List ℕ) → worstMarks form ≤ length W → width form ≤ length C
-      → sets (sets (sets l at (le 4 (2 + bodyBytes form field) ++ le 2 (curveKind form field))) (at + 6) (le f p ++ rowBytes f (take (worstMarks form) W))) (at + 6 + besideBytes form field) (les (take (width form) C))
-      ≡ sets l at (framed (rec (curveKind form field) (bodyOf form field p W C)))
-  curve-put l at p W C hw hc =
-      let hd : List ℕ = le 4 (2 + bodyBytes form field) ++ le 2 (curveKind form field) in
-      let ms : List ℕ = le f p ++ rowBytes f (take (worstMarks form) W) in
-      let ns : List ℕ = les (take (width form) C) in
-      let z : length (bodyOf form field p W C) ≡ bodyBytes form field = length-body form field p W C hw hc in
-      let lw : length (take (worstMarks form) W) ≡ worstMarks form = length-take-le (worstMarks form) W hw in
-      let spread : framed (rec (curveKind form field) (bodyOf form field p W C)) ≡ (hd ++ ms) ++ ns = rw z (simp append-assoc) in
-      let s1 = sets-append hd ms l at in
-      let s2 = sets-append (hd ++ ms) ns l at in
-      let p1 : at + length hd ≡ at + 6 = simp (length-append, length-le) in
-      let p2 : at + length (hd ++ ms) ≡ at + 6 + besideBytes form field = simp (length-append, length-le, length-bytes, lw) (omega arith) in
-      sym (rw spread (s2 ∙ rw (p2, s1, p1)))
-
-  -- one record more
-  curves-snoc : (P W C w c : List ℕ) (p : ℕ) → length W ≡ worstMarks form * length P → length C ≡ width form * length P
-      → flat (curveRecords form field (P ++ (p ∷ [])) (W ++ w) (C ++ c)) ≡ flat (curveRecords form field P W C) ++ framed (rec (curveKind form field) (bodyOf form field p w c))
-  unfolding flat curveRecords
-  curves-snoc [] W C w c p hw hc =
-      let eW : W ≡ [] = empty W (omega arith) in
-      let eC : C ≡ [] = empty C (omega arith) in
-      rw (eW, eC, append-nil)
-  curves-snoc (x ∷ P) W C w c p hw hc =
-      let tw : take (worstMarks form) (W ++ w) ≡ take (worstMarks form) W = take-append-le (worstMarks form) W w (omega arith) in
-      let dw : drop (worstMarks form) (W ++ w) ≡ drop (worstMarks form) W ++ w = drop-append-le (worstMarks form) W w (omega arith) in
-      let tc : take (width form) (C ++ c) ≡ take (width form) C = take-append-le (width form) C c (omega arith) in
-      let dc : drop (width form) (C ++ c) ≡ drop (width form) C ++ c = drop-append-le (width form) C c (omega arith) in
-      let i = curves-snoc P (drop (worstMarks form) W) (drop (width form) C) w c p (simp length-drop (omega arith)) (simp length-drop (omega arith)) in
-      rw (tw, dw, tc, dc, i)
-      (sym (append-assoc (framed (rec (curveKind form field) (bodyOf form field x W C))) (flat (curveRecords form field P (drop (worstMarks form) W) (drop (width form) C))) (framed (rec (curveKind form field) (bodyOf form field p w c)))))
-
+  -- one record more, put behind the others
   pub curves-put : (l P W C : List ℕ) (at i : ℕ) → i < length P → worstsFor form (i + 1) ≤ length W → width form * (i + 1) ≤ length C
       → sets (sets l at (flat (curveRecords form field (take i P) (take (worstsFor form i) W) (take (width form * i) C)))) (at + curveBytes form field * i)
       (framed (rec (curveKind form field) (bodyOf form field (getD P i 0) (drop (worstsFor form i) W) (drop (width form * i) C))))
@@ -118,7 +82,7 @@ module _ (form : Form) (field : Field) where
       let sc : take (width form) c ≡ c = take-all (width form) c (simp length-take (omega arith)) in
       let fr : List ℕ = framed (rec (curveKind form field) (bodyOf form field p (drop (worstsFor form i) W) (drop (width form * i) C))) in
       let all : flat (curveRecords form field (take (i + 1) P) (take (worstsFor form (i + 1)) W) (take (width form * (i + 1)) C)) ≡ rs ++ fr =
-      rw (tp, tw, tc) (curves-snoc (take i P) (take (worstsFor form i) W) (take (width form * i) C) w c p lw lc ∙ rw (sw, sc)) in
+      rw (tp, tw, tc) (curves-snoc form field (take i P) (take (worstsFor form i) W) (take (width form * i) C) w c p lw lc ∙ rw (sw, sc)) in
       let s = sets-append rs fr l at in
       sym (rw all (s ∙ rw lr))
 

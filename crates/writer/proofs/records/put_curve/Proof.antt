@@ -6,7 +6,8 @@ use lib.ListN.{length, drop, length-take, length-drop}
 use Rattle.form.specs.Form.{width, worstsFor}
 use Rattle.house.specs.Limits.{worstMarks}
 use Rattle.house.proofs.Forms.{body-few, worsts-each}
-use Rattle.writer.proofs.Turns.{curve-put, some-of}
+use Rattle.grammar.proofs.Curves.{curve-put}
+use Rattle.writer.proofs.Turns.{some-of}
 use borrow.Author.Needs.{needs}
 use Rattle.writer.proofs.records.put_curve.Statement.{statement}
 use Rattle.writer.proofs.records.put_curve.Tie as tie

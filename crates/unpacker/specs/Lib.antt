@@ -1,0 +1,2 @@
+pub mod Unpacker
+pub mod Records
