@@ -18,8 +18,8 @@ from shared.ends import ENDS, TOLERANCES
 from shared.meetings import ABOUTS
 from shared.path_cases import TEXTS, meeting, random_list, random_number, random_soup, random_text
 from shared.path_cases import lists as path_lists
-from shared.path_data import Refused, exported
-from shared.table import LINE_MARKS
+from shared.path_data import exported
+from shared.table import LINE_MARKS, Refused
 from shared.ties import CURVE, PARAMS, TIES
 from shared.words import word_of
 

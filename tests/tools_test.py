@@ -22,11 +22,11 @@ sys.dont_write_bytecode = True
 import support
 from support import ROOT, SIDES, TRIANGLE, in_copy, read, straight, write
 
-from shared import house, path_cases
+from shared import house, pack_cases, path_cases
 from shared.blocks import size_of
 from shared.checker import FAULT_A, FAULT_B, FAULT_C, FAULT_D, FAULT_E, PASSED, REFUSED, check, kept_for
-from shared.path_data import Refused, exported, imported, written
-from shared.table import LINE_MARKS, MOST_MARKS, fit_refusal
+from shared.path_data import exported, imported, written
+from shared.table import LINE_MARKS, MOST_MARKS, Refused, fit_refusal
 from shared.ties import CURVE, PARAMS, TIES
 from shared.words import NAN, numbers, pattern_of, patterns_of, word_of, words
 
@@ -445,6 +445,82 @@ class Houses(Case):
             parts = files.runs(data)
             self.assertEqual((len(parts), b''.join(given + bytes(zeros) for given, zeros in parts)), (3, data))
             self.assertLess(len(files.record(todo, data, room)), 500)
+
+
+class Packing(Case):
+    """House files that store each joint once, by the document's text."""
+
+    def held(self, data):
+        held = house.parse(data)
+        return held and (held.tolerance, held.marks, held.curves, held.worsts, held.params)
+
+    def test_bytes(self):
+        """Byte by byte: the flag, the first mark, the start; of each curve the next mark, controls and end, and the distance and the worst mark where they are kept."""
+        def eight(*values):
+            return b''.join(pattern.to_bytes(8, 'little') for pattern in patterns_of(*values))
+        chain = [float(value) for value in range(14)]
+        for kept in (False, True):
+            rows = [(first, patterns_of(*chain[at:at + 8]) + patterns_of(90 + at) * kept) for first, at in ((0x0102, 0), (0x0304, 6))]
+            marks, params = [7] * 6, [5] * 3
+            packed = house.pack(house.build(9, marks, rows, params, [0x0506, 0x0708] if kept else None))
+            kept_ = [eight(90) + b'\x06\x05\0\0', eight(96) + b'\x08\x07\0\0'] if kept else [b'', b'']
+            body = bytes([kept]) + b'\x02\x01\0\0' + eight(0, 1) + b'\x04\x03\0\0' + eight(*range(2, 8)) + kept_[0] + b'\x02\0\0\0' + eight(*range(8, 14)) + kept_[1]
+            self.assertEqual(packed, house.build(9, marks) + (2 + len(body)).to_bytes(4, 'little') + b'\x08\0' + body + house.record(4, house.row(params)))
+            self.assertEqual(len(body), 21 + 2 * (64 if kept else 52))
+
+    def test_there_and_back(self):
+        """What packs is unpacked to the same bytes and holds the same list; and so many bytes are saved, which is fewer than none for one curve."""
+        files = [*pack_cases.that_pack(), *pack_cases.many_that_pack()]
+        for data in files:
+            packed, held = house.pack(data), house.parse(data)
+            self.assertEqual((house.unpack(packed), self.held(packed)), (data, self.held(data)))
+            self.assertEqual((house.parse(packed).packed, held.packed), (True, False))
+            field, kept, count = 2 if held.count <= 4096 else 4, held.worsts is not None, len(held.curves)
+            self.assertEqual(len(data) - len(packed), count * (6 + 16) - 27 - (4 - field) * (1 + kept) * count)
+        for data in pack_cases.alone():
+            self.assertEqual((house.pack(data), house.unpack(data)), (data, data))
+
+    def test_refusals(self):
+        """9 comes before 12, and 12 before 4; each is given to the wrong call too."""
+        for data in [*pack_cases.apart(), *pack_cases.many_apart()]:
+            self.assertEqual([pack_cases.either(call, data, room) for call in (house.pack, house.unpack) for room in (None, 0)], [12, 12, 9, 9])
+        for data in pack_cases.no_files():
+            self.assertEqual([pack_cases.either(call, data, room) for call in (house.pack, house.unpack) for room in (None, 0)], [9] * 4)
+        for data in pack_cases.that_pack():
+            packed = house.pack(data)
+            self.assertEqual([pack_cases.either(call, one, 0) for call, one in ((house.pack, packed), (house.unpack, data))], [9, 9])
+            for call, one, made in ((house.pack, data, packed), (house.unpack, packed, data)):
+                self.assertEqual([pack_cases.either(call, one, len(made) - short) for short in (0, 1)], [made, 4])
+
+    def test_packed_files_that_are_none(self):
+        """What is taken of them are other mark numbers that still fit, fewer curves that end on the last mark, and a body that is well formed by either flag."""
+        taken = [data for data in pack_cases.malformed() if house.parse(data)]
+        self.assertTrue(all(pack_cases.either(house.pack, data) == 9 and house.pack(house.unpack(data)) == data for data in taken))
+        self.assertEqual([sum(len(house.parse(data).curves) == count for data in taken) for count in (1, 2, 3, 13, 16)], [2, 2, 9, 1, 1])
+        for count, kept in itertools.product((4096, 4097), (False, True)):
+            wide = [True] * (2 + kept) if count > 4096 else [False] * (2 + kept)
+            fits = [fit for pair in zip([True] * (2 + kept), wide) for fit in pair]
+            self.assertEqual([house.parse(data) is not None for data in pack_cases.at_the_side(count, kept)], fits + [False] * 2)
+
+    def test_prefixes_and_changes(self):
+        """Every prefix of a packed file is none, but its marks; whatever byte is changed, what is still a packed file is unpacked and packed again to the same bytes."""
+        for data in pack_cases.SMALL:
+            marks = 20 + 16 * house.parse(data).count
+            self.assertEqual([end for end in range(len(data)) if house.parse(data[:end])], [marks])
+            for at, value in itertools.product(range(len(data)), range(256)):
+                other = data[:at] + bytes([value]) + data[at + 1:]
+                if house.parse(other):
+                    self.assertEqual(house.pack(house.unpack(other)), other)
+
+    def test_random_files(self):
+        taken = 0
+        for call, data in pack_cases.random_cases(random.Random(31), 300):
+            made = pack_cases.either(pack_cases.CALLS[call], data)
+            if isinstance(made, bytes):
+                taken += 1
+                self.assertEqual((house.unpack if call == 'pack' else house.pack)(made), data)
+                self.assertEqual(self.held(made), self.held(data))
+        self.assertGreater(taken, 500)
 
 
 class Long(Case):

@@ -13,6 +13,14 @@ MOST_DIRECT = 512       # marks of the direct fit and of the listing
 FITS = ('source', 'loop', 'direct', 'joined', 'ring')
 
 
+class Refused(Exception):
+    """A list, a text or a file that is refused, by its number."""
+
+    def __init__(self, refusal):
+        super().__init__(refusal)
+        self.refusal = refusal
+
+
 def outside(words, limit):
     return any(not abs(value_of(word)) <= limit for word in words)
 
