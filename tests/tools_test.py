@@ -480,6 +480,27 @@ class Packing(Case):
         for data in pack_cases.alone():
             self.assertEqual((house.pack(data), house.unpack(data)), (data, data))
 
+    def test_kept_files(self):
+        """The example is packed, and a sound list; the file that `save` has to write gets smaller as the page says, and so does a file with a curve between each two marks."""
+        held = house.parse(read('examples/cushion.house'))
+        flat = numbers([pattern for _, row in held.curves for pattern in row])
+        self.assertTrue(held.packed)
+        self.assertEqual(check(numbers(held.marks), 0.5, len(held.curves), flat, held.firsts(), numbers(held.params), worsts=held.worsts), (PASSED, 0, 0))
+        rows = re.findall(r'(?m)^\| .* \| ([\d,]+) \| ([\d,]+) \| ([\d,]+) \| ([\d,]+) \| ([\d.]+) % \|$', read('docs/BENCH.md').decode('utf-8'))
+        self.assertEqual(len(rows), 9)
+        told = {}
+        for *cells, share in rows:
+            count, curves, before, after = (int(cell.replace(',', '')) for cell in cells)
+            field = 2 if count <= 4096 else 4
+            self.assertEqual((before, before - after, f'{100 * (before - after) / before:.1f}'), (26 + 24 * count + (78 + 2 * field) * curves, (14 + 2 * field) * curves - 27, share))
+            told[count] = curves, before, after
+        saved, packed = read('crates/save/stdout'), read('examples/cushion.house')
+        self.assertEqual((told[500], told[85]), ((34, len(saved), len(house.pack(saved))), (8, len(house.unpack(packed)), len(packed))))
+        for name in os.listdir(in_copy('examples')):
+            data = read(f'examples/{name}')
+            if name.endswith('.house') and data != packed:
+                self.assertEqual((house.pack(data), house.unpack(data)), (data, data))
+
     def test_refusals(self):
         """9 comes before 12, and 12 before 4; each is given to the wrong call too."""
         for data in [*pack_cases.apart(), *pack_cases.many_apart()]:
@@ -592,7 +613,7 @@ class Other(Case):
     def test_examples(self):
         self.says(2, 'usage: tools/make_examples.py', 'tools/make_examples.py', 'x')
         got, out, _ = self.call('tools/make_examples.py')
-        self.assertEqual((got, out.count('as kept')), (0, 10), out)
+        self.assertEqual((got, out.count('as kept')), (0, 11), out)
         os.remove(in_copy('examples/luff.house'))
         self.assertEqual(self.call('tools/make_examples.py')[0], 1)
         self.assertEqual(self.call('tools/make_examples.py', '--write')[0], 0)
