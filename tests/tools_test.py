@@ -26,7 +26,7 @@ from shared import house, pack_cases, path_cases
 from shared.blocks import size_of
 from shared.checker import FAULT_A, FAULT_B, FAULT_C, FAULT_D, FAULT_E, PASSED, REFUSED, check, kept_for
 from shared.path_data import exported, imported, written
-from shared.table import LINE_MARKS, MOST_MARKS, Refused, fit_refusal
+from shared.table import LINE_BYTES, LINE_MARKS, MOST_MARKS, Refused, fit_refusal
 from shared.ties import CURVE, PARAMS, TIES
 from shared.words import NAN, numbers, pattern_of, patterns_of, word_of, words
 
@@ -126,6 +126,9 @@ class Compare(Case):
             self.compare(2, 'line 1 has more than the 21,000 marks', flo, write('long.txt', f'{kind} {word_of(0.5)} {LINE_MARKS + 1} {mark}\n'))
             self.compare(2, 'line 1 has more than the 21,000 marks or curves', flo, write('long.txt', f'{kind} {word_of(0.5)} 2 {mark} {mark} {LINE_MARKS + 1} 0\n'))
 
+        for kind in ('pack', 'import'):
+            self.compare(2, 'line 2 has more than the 4,600,000 bytes', flo, write('long.txt', f'{LINES[0]}\n{kind} {"0" * LINE_BYTES}\n'))
+
     def test_last_line_without_newline(self):
         self.counts(0, '2 cases, 0 different', write('open.txt', '\n'.join(LINES)))
         self.counts(0, '1 cases, 0 different', write('open.txt', LINES[0]))
@@ -163,7 +166,7 @@ class Compare(Case):
         self.assertLessEqual({0, 0.5, 1, 2, 3, 4, 199, 200, 201, 4095, 4096, 4097, 20000, 20001, LINE_MARKS}, sizes)
         self.assertEqual(max(sizes), LINE_MARKS)
         self.assertGreater(sum(line[0] == 'check_ring' for line in lines), 1000)
-        self.assertGreater(min(sum(line[0] == kind for line in lines) for kind in ('export', 'import')), 500)
+        self.assertGreater(min(sum(line[0] == kind for line in lines) for kind in ('export', 'import', 'pack', 'unpack')), 500)
         for kind in ('check_worst', 'check_worst_ring'):
             said = self.answers([' '.join(line) for line in lines if line[0] == kind])
             faults = {answer[:7] for answer in said if answer.startswith('FAULT')}
@@ -184,10 +187,33 @@ class Compare(Case):
             said = answers[:place] + [other] + answers[place + 1:]
             self.counts(1, '4 cases, 1 different', '--answers', write('said.txt', '\n'.join(said)), cases)
 
-    def test_lists_of_rings_are_judged_as_rings(self):
+    def loaded(self):
+        """compare/run as a module."""
         loader = importlib.machinery.SourceFileLoader('compare_run', in_copy('compare/run'))
         compare = importlib.util.module_from_spec(importlib.util.spec_from_loader('compare_run', loader))
         loader.exec_module(compare)
+        return compare
+
+    def test_lists_are_packed(self):
+        """The list of each fit but a loop's as two house files, a ring's with its first mark once more; and what is packed is unpacked, once."""
+        compare, marks = self.loaded(), patterns_of(*TRIANGLE)
+        nines = [(first, worst, patterns_of(*SIDES[first], far)) for first, worst, far in ((0, 0, 0.0), (1, 2, 9.0))]
+        record = ' '.join(f'{first} {worst} {words(nine)}' for first, worst, nine in nines)
+        kinds, times = ('ring', 'joined', 'loop', 'source'), {'ring': patterns_of(0, 0, 0, 1)}
+        cases = [f'{kind} {word_of(0.5)} {words(marks)}' for kind in kinds]
+        said = [f'0 2 {record} {words(times.get(kind, patterns_of(0, 0, 1)))}\tdepth 3' for kind in kinds]
+        made = list(compare.packing(cases + cases, said + ['6'] * 4))
+        want = []
+        for kind in ('ring', 'joined', 'source'):
+            ring, params = marks[:2] * (kind == 'ring'), times.get(kind, patterns_of(0, 0, 1))
+            want += [house.build(pattern_of(word_of(0.5)), marks + ring, [(first, nine[:8]) for first, _, nine in nines], params)]
+            want += [house.build(pattern_of(word_of(0.5)), marks + ring, [(first, nine) for first, _, nine in nines], params, [0, 2])]
+        self.assertEqual(made, [f'pack {data.hex()}' for data in want])
+        packed = [house.pack(data).hex() for data in want[:2]]
+        self.assertEqual(compare.unpacking([*made[:3], f'unpack {packed[0]}'], [f'0 {packed[0]}', f'0 {packed[1]}', '12', '9']), [f'unpack {packed[1]}'])
+
+    def test_lists_of_rings_are_judged_as_rings(self):
+        compare = self.loaded()
         marks, times = words(patterns_of(*TRIANGLE)), words(patterns_of(0, 0, 0, 1))
         eight = words(patterns_of(*range(8)))
         plain, record = f'0 {eight} 1 {eight}', f'0 0 {eight} {word_of(8.0)} 1 2 {eight} {word_of(9.0)}'
