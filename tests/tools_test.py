@@ -465,7 +465,7 @@ class Houses(Case):
     def test_kept_runs(self):
         """What house_cases keeps of a large file is its heads; put together again it is the file."""
         from vectors import files
-        rows = list(files.large_cases())
+        rows = [row for row in [*files.large_cases(), *files.packed_cases(), *files.packing_cases()] if len(row[1]) > files.LARGE]
         self.assertGreater(max(len(data) for _, data, _ in rows), 2400000)
         for todo, data, room in rows:
             parts = files.runs(data)

@@ -27,6 +27,11 @@ def list_of(count, curves, kept=False, firsts=None, worsts=None):
     return house.build(held.tolerance, held.marks, rows, params, (worsts or [count - 1 - k for k in range(curves)]) if kept else None)
 
 
+def bare(count, kept):
+    """A file of so many marks with one curve, whose numbers are all zero: heads and mark numbers are all that is given."""
+    return house.build(0, [0] * 2 * count, [(0x0102, [0] * (8 + kept))], [0] * count, [0x0304] if kept else None)
+
+
 def with_number(data, curve, place, pattern):
     """A file with another number in one of its curves."""
     held = house.parse(data)
@@ -189,6 +194,13 @@ def malformed():
 SMALL = [house.pack(list_of(2, 1)), house.pack(list_of(3, 2, True))]
 
 
+def damaged_small():
+    """Every prefix of two small packed files, and both with one bit changed in every byte."""
+    for data in SMALL:
+        yield from (data[:end] for end in range(len(data)))
+        yield from (data[:at] + bytes([data[at] ^ 1 << at % 8]) + data[at + 1:] for at in range(len(data)))
+
+
 # ---- one call, and both
 
 def either(call, data, room=None):
@@ -209,12 +221,17 @@ def both_ways(that_pack_):
         yield from ((call, one) for one in dict.fromkeys((data, packed)) for call in CALLS)
 
 
-def files():
-    """The cases of few marks."""
+def chosen_files():
+    """The cases of few marks that were thought of one by one."""
     yield from both_ways([*that_pack(), *alone()])
     yield from ((call, data) for data in [*apart(), *no_files()] for call in CALLS)
     yield from (('unpack', data) for data in malformed())
-    yield from (('unpack', data[:end]) for data in SMALL for end in range(len(data)))
+
+
+def files():
+    """All cases of few marks."""
+    yield from chosen_files()
+    yield from (('unpack', data) for data in damaged_small())
 
 
 def large_files():
