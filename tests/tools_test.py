@@ -581,6 +581,16 @@ class Long(Case):
         line = ' '.join([f'direct {words(patterns_of(0.5, 1, 0, 0, 1))}'] + [mark] * LINE_MARKS)
         self.assertEqual(self.answers([line, f'{line} {mark}', f'{line} {other}']), ['2', 'BAD', 'BAD'])
 
+    def test_packing(self):
+        """A curve between each two of 5,000 marks, both ways; and as long a file as a line holds."""
+        from vectors import packing
+        full, most = pack_cases.list_of(5000, 4999, True), (LINE_BYTES - len('unpack ')) // 2
+        packed, longest = house.pack(full), pack_cases.marks_alone((most - 20) // 16)
+        rows = [packing.row(*one) for one in (('pack', full), ('unpack', packed), ('pack', longest), ('unpack', longest))]
+        self.assertGreater(len(rows[-1][0]), LINE_BYTES - 40)
+        self.assertEqual(self.answers([line for line, _ in rows]), [said for _, said in rows])
+        self.assertEqual(self.answers([f'pack {"0" * LINE_BYTES}', rows[1][0]]), ['BAD', rows[1][1]])
+
     def test_lists(self):
         """A curve between each two marks, in both forms: as it is, with the last curve off, and for a mark more."""
         from vectors import lists
