@@ -527,6 +527,18 @@ class Packing(Case):
             if name.endswith('.house') and data != packed:
                 self.assertEqual((house.pack(data), house.unpack(data)), (data, data))
 
+    def test_kept_inputs(self):
+        """Each file that a program is kept with is packed and comes back, or is refused: by 12 if it is a whole one with curves that is not packed."""
+        from vectors import files
+        inputs = [data for _, data, _ in files.read()] + [read(f'crates/{name}') for name in ('listing/stdin', 'save/stdin', 'save/stdout', 'judge/stdin', 'path_out/stdin')]
+        found = []
+        for data in inputs:
+            made, held = pack_cases.either(house.pack, data), house.parse(data)
+            found.append(made if isinstance(made, int) else house.unpack(made) == data)
+            self.assertEqual(made == 9, held is None or held.packed)
+        self.assertNotIn(False, found)
+        self.assertGreater(min(found.count(one) for one in (True, 9, 12)), 30)
+
     def test_refusals(self):
         """9 comes before 12, and 12 before 4; each is given to the wrong call too."""
         for data in [*pack_cases.apart(), *pack_cases.many_apart()]:
