@@ -76,8 +76,7 @@ def of_two_flags(kept):
     body = bytearray(house.START.pack(kept, 0, *patterns_of(1, 2)) + bytes(16 * house.PACKED_CURVES[False].size))
     for other, last in ((False, 15), (True, 12)):
         struct.pack_into('<I', body, next_at(other, last), 19)
-    *marks, params = house.records_of(list_of(20, 1))[:2] + [(4, bytes(8 * 20))]
-    return again([*marks, (house.PACKED, bytes(body)), params])
+    return again([*house.records_of(marks_alone(20)), (house.PACKED, bytes(body)), (4, bytes(8 * 20))])
 
 
 # ---- files to pack
