@@ -1,7 +1,7 @@
 #!/usr/bin/env python3
 """generate.py [SEED]: prints cases for replay and for the Rust, one a line; the same seed gives the same lines.
 
-Single curves, nearest points, outlines (smooth, noisy, long, damaged), distances, numbers of blocks and their sizes, lists for the checker, path data, and both sides of every limit.
+Single curves, nearest points, outlines (smooth, noisy, long, damaged), distances, numbers of blocks and their sizes, lists for the checker, path data, house files to pack and to unpack, and both sides of every limit.
 """
 import math
 import os
@@ -16,10 +16,11 @@ from shared.checker import kept_for
 from shared.command import Stop, run
 from shared.ends import ENDS, TOLERANCES
 from shared.meetings import ABOUTS
+from shared.pack_cases import files, large_files, random_cases
 from shared.path_cases import TEXTS, meeting, random_list, random_number, random_soup, random_text
 from shared.path_cases import lists as path_lists
-from shared.path_data import Refused, exported
-from shared.table import LINE_MARKS
+from shared.path_data import exported
+from shared.table import LINE_MARKS, Refused
 from shared.ties import CURVE, PARAMS, TIES
 from shared.words import word_of
 
@@ -413,6 +414,12 @@ def paths():
             yield f'import {text}'
 
 
+def packing():
+    """House files to pack and to unpack, on both sides of every line; and random ones, whole and damaged."""
+    for call, data in dict.fromkeys([*files(), *large_files(), *random_cases(hand, 400)]):
+        yield f'{call} {data.hex()}'
+
+
 def nonsense():
     yield 'bezier 3FF0000000000000'
     yield 'sqrt'
@@ -454,13 +461,14 @@ def nonsense():
     yield 'export OPEN 01 ' + ' '.join(['0000000000000000'] * 8)
     yield 'export RING 2 ' + ' '.join(['0000000000000000'] * 8)
     yield 'export RING 1 ' + ' '.join(['0000000000000000'] * 9)
+    yield from ['pack', 'unpack', 'packs 00', 'unpack 0', 'pack 0A', 'unpack 0g', 'pack 00 00', 'pack  00', 'unpack 00 ', 'repack 00']
 
 
 def main(words):
     if len(words) > 1 or not all(text.isdecimal() for text in words):
         raise Stop('usage: compare/generate.py [SEED], SEED a whole number')
     hand.seed(int(words[0]) if words else 1)
-    for part in (single, near, outlines, ends, joints, rings, limits, measures, lists, sizes, paths, nonsense):
+    for part in (single, near, outlines, ends, joints, rings, limits, measures, lists, sizes, paths, packing, nonsense):
         for case in part():
             print(case)
     return 0

@@ -22,11 +22,11 @@ sys.dont_write_bytecode = True
 import support
 from support import ROOT, SIDES, TRIANGLE, in_copy, read, straight, write
 
-from shared import house, path_cases
+from shared import house, pack_cases, path_cases
 from shared.blocks import size_of
 from shared.checker import FAULT_A, FAULT_B, FAULT_C, FAULT_D, FAULT_E, PASSED, REFUSED, check, kept_for
-from shared.path_data import Refused, exported, imported, written
-from shared.table import LINE_MARKS, MOST_MARKS, fit_refusal
+from shared.path_data import exported, imported, written
+from shared.table import LINE_BYTES, LINE_MARKS, MOST_MARKS, Refused, fit_refusal
 from shared.ties import CURVE, PARAMS, TIES
 from shared.words import NAN, numbers, pattern_of, patterns_of, word_of, words
 
@@ -126,6 +126,9 @@ class Compare(Case):
             self.compare(2, 'line 1 has more than the 21,000 marks', flo, write('long.txt', f'{kind} {word_of(0.5)} {LINE_MARKS + 1} {mark}\n'))
             self.compare(2, 'line 1 has more than the 21,000 marks or curves', flo, write('long.txt', f'{kind} {word_of(0.5)} 2 {mark} {mark} {LINE_MARKS + 1} 0\n'))
 
+        for kind in ('pack', 'import'):
+            self.compare(2, 'line 2 has more than the 4,600,000 bytes', flo, write('long.txt', f'{LINES[0]}\n{kind} {"0" * LINE_BYTES}\n'))
+
     def test_last_line_without_newline(self):
         self.counts(0, '2 cases, 0 different', write('open.txt', '\n'.join(LINES)))
         self.counts(0, '1 cases, 0 different', write('open.txt', LINES[0]))
@@ -163,7 +166,7 @@ class Compare(Case):
         self.assertLessEqual({0, 0.5, 1, 2, 3, 4, 199, 200, 201, 4095, 4096, 4097, 20000, 20001, LINE_MARKS}, sizes)
         self.assertEqual(max(sizes), LINE_MARKS)
         self.assertGreater(sum(line[0] == 'check_ring' for line in lines), 1000)
-        self.assertGreater(min(sum(line[0] == kind for line in lines) for kind in ('export', 'import')), 500)
+        self.assertGreater(min(sum(line[0] == kind for line in lines) for kind in ('export', 'import', 'pack', 'unpack')), 500)
         for kind in ('check_worst', 'check_worst_ring'):
             said = self.answers([' '.join(line) for line in lines if line[0] == kind])
             faults = {answer[:7] for answer in said if answer.startswith('FAULT')}
@@ -184,10 +187,33 @@ class Compare(Case):
             said = answers[:place] + [other] + answers[place + 1:]
             self.counts(1, '4 cases, 1 different', '--answers', write('said.txt', '\n'.join(said)), cases)
 
-    def test_lists_of_rings_are_judged_as_rings(self):
+    def loaded(self):
+        """compare/run as a module."""
         loader = importlib.machinery.SourceFileLoader('compare_run', in_copy('compare/run'))
         compare = importlib.util.module_from_spec(importlib.util.spec_from_loader('compare_run', loader))
         loader.exec_module(compare)
+        return compare
+
+    def test_lists_are_packed(self):
+        """The list of each fit but a loop's as two house files, a ring's with its first mark once more; and what is packed is unpacked, once."""
+        compare, marks = self.loaded(), patterns_of(*TRIANGLE)
+        nines = [(first, worst, patterns_of(*SIDES[first], far)) for first, worst, far in ((0, 0, 0.0), (1, 2, 9.0))]
+        record = ' '.join(f'{first} {worst} {words(nine)}' for first, worst, nine in nines)
+        kinds, times = ('ring', 'joined', 'loop', 'source'), {'ring': patterns_of(0, 0, 0, 1)}
+        cases = [f'{kind} {word_of(0.5)} {words(marks)}' for kind in kinds]
+        said = [f'0 2 {record} {words(times.get(kind, patterns_of(0, 0, 1)))}\tdepth 3' for kind in kinds]
+        made = list(compare.packing(cases + cases, said + ['6'] * 4))
+        want = []
+        for kind in ('ring', 'joined', 'source'):
+            ring, params = marks[:2] * (kind == 'ring'), times.get(kind, patterns_of(0, 0, 1))
+            want += [house.build(pattern_of(word_of(0.5)), marks + ring, [(first, nine[:8]) for first, _, nine in nines], params)]
+            want += [house.build(pattern_of(word_of(0.5)), marks + ring, [(first, nine) for first, _, nine in nines], params, [0, 2])]
+        self.assertEqual(made, [f'pack {data.hex()}' for data in want])
+        packed = [house.pack(data).hex() for data in want[:2]]
+        self.assertEqual(compare.unpacking([*made[:3], f'unpack {packed[0]}'], [f'0 {packed[0]}', f'0 {packed[1]}', '12', '9']), [f'unpack {packed[1]}'])
+
+    def test_lists_of_rings_are_judged_as_rings(self):
+        compare = self.loaded()
         marks, times = words(patterns_of(*TRIANGLE)), words(patterns_of(0, 0, 0, 1))
         eight = words(patterns_of(*range(8)))
         plain, record = f'0 {eight} 1 {eight}', f'0 0 {eight} {word_of(8.0)} 1 2 {eight} {word_of(9.0)}'
@@ -439,12 +465,121 @@ class Houses(Case):
     def test_kept_runs(self):
         """What house_cases keeps of a large file is its heads; put together again it is the file."""
         from vectors import files
-        rows = list(files.large_cases())
+        rows = [row for row in [*files.large_cases(), *files.packed_cases(), *files.packing_cases()] if len(row[1]) > files.LARGE]
         self.assertGreater(max(len(data) for _, data, _ in rows), 2400000)
         for todo, data, room in rows:
             parts = files.runs(data)
             self.assertEqual((len(parts), b''.join(given + bytes(zeros) for given, zeros in parts)), (3, data))
             self.assertLess(len(files.record(todo, data, room)), 500)
+
+
+class Packing(Case):
+    """House files that store each joint once, by the document's text."""
+
+    def held(self, data):
+        held = house.parse(data)
+        return held and (held.tolerance, held.marks, held.curves, held.worsts, held.params)
+
+    def test_bytes(self):
+        """Byte by byte: the flag, the first mark, the start; of each curve the next mark, controls and end, and the distance and the worst mark where they are kept."""
+        def eight(*values):
+            return b''.join(pattern.to_bytes(8, 'little') for pattern in patterns_of(*values))
+        chain = [float(value) for value in range(14)]
+        for kept in (False, True):
+            rows = [(first, patterns_of(*chain[at:at + 8]) + patterns_of(90 + at) * kept) for first, at in ((0x0102, 0), (0x0304, 6))]
+            marks, params = [7] * 6, [5] * 3
+            packed = house.pack(house.build(9, marks, rows, params, [0x0506, 0x0708] if kept else None))
+            kept_ = [eight(90) + b'\x06\x05\0\0', eight(96) + b'\x08\x07\0\0'] if kept else [b'', b'']
+            body = bytes([kept]) + b'\x02\x01\0\0' + eight(0, 1) + b'\x04\x03\0\0' + eight(*range(2, 8)) + kept_[0] + b'\x02\0\0\0' + eight(*range(8, 14)) + kept_[1]
+            self.assertEqual(packed, house.build(9, marks) + (2 + len(body)).to_bytes(4, 'little') + b'\x08\0' + body + house.record(4, house.row(params)))
+            self.assertEqual(len(body), 21 + 2 * (64 if kept else 52))
+
+    def test_there_and_back(self):
+        """What packs is unpacked to the same bytes and holds the same list; and so many bytes are saved, which is fewer than none for one curve."""
+        files = [*pack_cases.that_pack(), *pack_cases.many_that_pack()]
+        for data in files:
+            packed, held = house.pack(data), house.parse(data)
+            self.assertEqual((house.unpack(packed), self.held(packed)), (data, self.held(data)))
+            self.assertEqual((house.parse(packed).packed, held.packed), (True, False))
+            field, kept, count = 2 if held.count <= 4096 else 4, held.worsts is not None, len(held.curves)
+            self.assertEqual(len(data) - len(packed), count * (6 + 16) - 27 - (4 - field) * (1 + kept) * count)
+        for data in pack_cases.alone():
+            self.assertEqual((house.pack(data), house.unpack(data)), (data, data))
+
+    def test_kept_files(self):
+        """The example is packed, and a sound list; the file that `save` has to write gets smaller as the page says, and so does a file with a curve between each two marks."""
+        held = house.parse(read('examples/cushion.house'))
+        flat = numbers([pattern for _, row in held.curves for pattern in row])
+        self.assertTrue(held.packed)
+        self.assertEqual(check(numbers(held.marks), 0.5, len(held.curves), flat, held.firsts(), numbers(held.params), worsts=held.worsts), (PASSED, 0, 0))
+        rows = re.findall(r'(?m)^\| .* \| ([\d,]+) \| ([\d,]+) \| ([\d,]+) \| ([\d,]+) \| ([\d.]+) % \|$', read('docs/BENCH.md').decode('utf-8'))
+        self.assertEqual(len(rows), 9)
+        told = {}
+        for *cells, share in rows:
+            count, curves, before, after = (int(cell.replace(',', '')) for cell in cells)
+            field = 2 if count <= 4096 else 4
+            self.assertEqual((before, before - after, f'{100 * (before - after) / before:.1f}'), (26 + 24 * count + (78 + 2 * field) * curves, (14 + 2 * field) * curves - 27, share))
+            told[count] = curves, before, after
+        saved, packed = read('crates/save/stdout'), read('examples/cushion.house')
+        self.assertEqual((told[500], told[85]), ((34, len(saved), len(house.pack(saved))), (8, len(house.unpack(packed)), len(packed))))
+        for name in os.listdir(in_copy('examples')):
+            data = read(f'examples/{name}')
+            if name.endswith('.house') and data != packed:
+                self.assertEqual((house.pack(data), house.unpack(data)), (data, data))
+
+    def test_kept_inputs(self):
+        """Each file that a program is kept with is packed and comes back, or is refused: by 12 if it is a whole one with curves that is not packed."""
+        from vectors import files
+        inputs = [data for _, data, _ in files.read()] + [read(f'crates/{name}') for name in ('listing/stdin', 'save/stdin', 'save/stdout', 'judge/stdin', 'path_out/stdin')]
+        found = []
+        for data in inputs:
+            made, held = pack_cases.either(house.pack, data), house.parse(data)
+            found.append(made if isinstance(made, int) else house.unpack(made) == data)
+            self.assertEqual(made == 9, held is None or held.packed)
+        self.assertNotIn(False, found)
+        self.assertGreater(min(found.count(one) for one in (True, 9, 12)), 30)
+
+    def test_refusals(self):
+        """9 comes before 12, and 12 before 4; each is given to the wrong call too."""
+        for data in [*pack_cases.apart(), *pack_cases.many_apart()]:
+            self.assertEqual([pack_cases.either(call, data, room) for call in (house.pack, house.unpack) for room in (None, 0)], [12, 12, 9, 9])
+        for data in pack_cases.no_files():
+            self.assertEqual([pack_cases.either(call, data, room) for call in (house.pack, house.unpack) for room in (None, 0)], [9] * 4)
+        for data in pack_cases.that_pack():
+            packed = house.pack(data)
+            self.assertEqual([pack_cases.either(call, one, 0) for call, one in ((house.pack, packed), (house.unpack, data))], [9, 9])
+            for call, one, made in ((house.pack, data, packed), (house.unpack, packed, data)):
+                self.assertEqual([pack_cases.either(call, one, len(made) - short) for short in (0, 1)], [made, 4])
+
+    def test_packed_files_that_are_none(self):
+        """What is taken of them are other mark numbers that still fit, fewer curves that end on the last mark, and a body that is well formed by either flag."""
+        taken = [data for data in pack_cases.malformed() if house.parse(data)]
+        self.assertTrue(all(pack_cases.either(house.pack, data) == 9 and house.pack(house.unpack(data)) == data for data in taken))
+        self.assertEqual([sum(len(house.parse(data).curves) == count for data in taken) for count in (1, 2, 3, 13, 16)], [2, 2, 9, 1, 1])
+        for count, kept in itertools.product((4096, 4097), (False, True)):
+            wide = [True] * (2 + kept) if count > 4096 else [False] * (2 + kept)
+            fits = [fit for pair in zip([True] * (2 + kept), wide) for fit in pair]
+            self.assertEqual([house.parse(data) is not None for data in pack_cases.at_the_side(count, kept)], fits + [False] * 2)
+
+    def test_prefixes_and_changes(self):
+        """Every prefix of a packed file is none, but its marks; whatever byte is changed, what is still a packed file is unpacked and packed again to the same bytes."""
+        for data in pack_cases.SMALL:
+            marks = 20 + 16 * house.parse(data).count
+            self.assertEqual([end for end in range(len(data)) if house.parse(data[:end])], [marks])
+            for at, value in itertools.product(range(len(data)), range(256)):
+                other = data[:at] + bytes([value]) + data[at + 1:]
+                if house.parse(other):
+                    self.assertEqual(house.pack(house.unpack(other)), other)
+
+    def test_random_files(self):
+        taken = 0
+        for call, data in pack_cases.random_cases(random.Random(31), 300):
+            made = pack_cases.either(pack_cases.CALLS[call], data)
+            if isinstance(made, bytes):
+                taken += 1
+                self.assertEqual((house.unpack if call == 'pack' else house.pack)(made), data)
+                self.assertEqual(self.held(made), self.held(data))
+        self.assertGreater(taken, 500)
 
 
 class Long(Case):
@@ -457,6 +592,16 @@ class Long(Case):
             self.assertEqual(self.answers([line, f'{line} {other}', f'{line} {mark}', f'{kind} {word_of(0.5)} {mark} {mark} {mark}']), ['6', 'BAD', 'BAD', '6'])
         line = ' '.join([f'direct {words(patterns_of(0.5, 1, 0, 0, 1))}'] + [mark] * LINE_MARKS)
         self.assertEqual(self.answers([line, f'{line} {mark}', f'{line} {other}']), ['2', 'BAD', 'BAD'])
+
+    def test_packing(self):
+        """A curve between each two of 5,000 marks, both ways; and as long a file as a line holds."""
+        from vectors import packing
+        full, most = pack_cases.list_of(5000, 4999, True), (LINE_BYTES - len('unpack ')) // 2
+        packed, longest = house.pack(full), pack_cases.marks_alone((most - 20) // 16)
+        rows = [packing.row(*one) for one in (('pack', full), ('unpack', packed), ('pack', longest), ('unpack', longest))]
+        self.assertGreater(len(rows[-1][0]), LINE_BYTES - 40)
+        self.assertEqual(self.answers([line for line, _ in rows]), [said for _, said in rows])
+        self.assertEqual(self.answers([f'pack {"0" * LINE_BYTES}', rows[1][0]]), ['BAD', rows[1][1]])
 
     def test_lists(self):
         """A curve between each two marks, in both forms: as it is, with the last curve off, and for a mark more."""
@@ -516,7 +661,7 @@ class Other(Case):
     def test_examples(self):
         self.says(2, 'usage: tools/make_examples.py', 'tools/make_examples.py', 'x')
         got, out, _ = self.call('tools/make_examples.py')
-        self.assertEqual((got, out.count('as kept')), (0, 10), out)
+        self.assertEqual((got, out.count('as kept')), (0, 11), out)
         os.remove(in_copy('examples/luff.house'))
         self.assertEqual(self.call('tools/make_examples.py')[0], 1)
         self.assertEqual(self.call('tools/make_examples.py', '--write')[0], 0)

@@ -13,8 +13,10 @@ import sys
 sys.dont_write_bytecode = True
 sys.path.insert(0, os.path.dirname(os.path.realpath(__file__)))
 
+from shared.basis import point_at
+from shared.checker import kept_for
 from shared.command import Stop, run
-from shared.house import build
+from shared.house import build, pack, parse
 from shared.kept import ROOT, replace
 from shared.words import bits, patterns_of
 
@@ -214,6 +216,37 @@ def mainsail():
     return house(0.6, grid(shake(even(shape, 6000, 240000), 0.05, hand)))
 
 
+def flat(points):
+    """Points as their coordinates, x and y in turn."""
+    return [value for point in points for value in point]
+
+
+def rounded(corners, radius):
+    """The curves about a shape with rounded corners, from behind the first one and back: a side and a corner in turn, all four points of each on the grid."""
+    def towards(p, q, far):
+        return tuple(a + (b - a) * far / math.dist(p, q) for a, b in zip(p, q))
+    ends = [(towards(at, before, radius), at, towards(at, after, radius)) for before, at, after in zip(corners[-1:] + corners, corners, corners[1:] + corners[:1])]
+    for (_, _, start), (end, at, after) in zip(ends, ends[1:] + ends[:1]):
+        side, turn = math.dist(start, end), radius * 0.5523
+        yield grid([start, towards(start, end, side / 3), towards(start, end, side * 2 / 3), end])
+        yield grid([end, towards(end, at, turn), towards(after, at, turn), after])
+
+
+def cushion():
+    """A berth's cushion out of an archive, packed: four sides and four rounded corners, each a curve with its worst mark; 85 marks, off their curves by the grid alone."""
+    curves = [flat(curve) for curve in rounded([(0, 0), (1900, 90), (1900, 560), (0, 650)], 110)]
+    marks, firsts, params = [], [], []
+    for curve in curves:
+        count = 18 if math.dist(curve[:2], curve[6:]) > 300 else 6
+        firsts.append(len(params))
+        marks += grid([curve[:2]] + [point_at(curve, k / count) for k in range(1, count)])
+        params += [k / count for k in range(count)]
+    marks, params = flat(marks) + curves[-1][6:], params + [1.0]
+    worsts, fars = kept_for(marks, curves, firsts, params)
+    rows = [(first, patterns_of(*curve, far)) for first, curve, far in zip(firsts, curves, fars)]
+    return pack(build(bits(0.5), patterns_of(*marks), rows, patterns_of(*params), worsts))
+
+
 def lost():
     """A foot tape whose puck lost the table at mark 11."""
     marks = grid([(80.0 * k, 40 * math.sin(0.28 * k)) for k in range(24)])
@@ -230,7 +263,7 @@ def settle(make, write):
     """Says how an example stands, and puts it in place if asked to; whether all is well."""
     data = make()
     path = os.path.join(ROOT, 'examples', make.__name__ + '.house')
-    about = f'{make.__name__}.house: {len(data)} bytes, {(len(data) - 20) // 16} marks'
+    about = f'{make.__name__}.house: {len(data)} bytes, {parse(data).count} marks'
     before = b''
     if os.path.isfile(path):
         with open(path, 'rb') as file:
@@ -248,7 +281,7 @@ def settle(make, write):
 def main(words):
     if words not in ([], ['--write']):
         raise Stop('usage: tools/make_examples.py [--write]')
-    well = [settle(make, bool(words)) for make in (cover, luff, window, hood, genoa, dart, tender, mainsail, lost, rested)]
+    well = [settle(make, bool(words)) for make in (cover, luff, window, hood, genoa, dart, tender, mainsail, cushion, lost, rested)]
     return 0 if all(well) else 1
 
 

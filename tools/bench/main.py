@@ -3,11 +3,11 @@ import argparse
 import os
 import sys
 
-from bench import files, outline, programs, said
+from bench import files, outline, packing, programs, said
 from bench.several import Done, go_through
 from shared.command import Stop, run, say
 
-VERBS = ('fit', 'check', 'plot', 'path', 'explain')
+VERBS = ('fit', 'check', 'plot', 'path', 'pack', 'unpack', 'explain')
 CURVE_HEAD = ('curve', 'first mark', 'last mark', 'worst mark', 'distance')
 HEAD = ('marks', 'curves', 'blocks', 'block size', 'largest distance', 'at mark', 'under curve')
 
@@ -213,6 +213,16 @@ def path(words):
     return 0
 
 
+# ---- pack, unpack
+
+def pack(words):
+    return packing.go('pack', words)
+
+
+def unpack(words):
+    return packing.go('unpack', words)
+
+
 # ---- explain
 
 def explain(words):
@@ -244,7 +254,7 @@ def add_verb(verbs, call, words, example):
 
 
 def parser():
-    whole = Parser(prog='wesalondo', allow_abbrev=False, description='Fits the marks of house files by smooth curves, checks curves, draws them and writes them for a cutter.',
+    whole = Parser(prog='wesalondo', allow_abbrev=False, description='Fits the marks of house files by smooth curves, checks curves, draws them, writes them for a cutter, and packs files for keeping.',
                    epilog='example: wesalondo fit examples/cover.house. The programs behind it are proved and built on first use. '
                           'Exit status: 0 all good; 1 something is refused or faulty; 2 something could not be run.')
     verbs = whole.add_subparsers(metavar='VERB', required=True, parser_class=Parser)
@@ -275,6 +285,13 @@ def parser():
     verb.add_argument('file', metavar='FILE', help='a house file, or - for standard input; curves that it has are not looked at')
     verb.add_argument('--ring', action='store_true', help='a closed outline, which comes back to its first mark')
     verb.add_argument('--svg', action='store_true', help='print an SVG file with the path, which a browser or Inkscape opens at true scale')
+
+    for call, words, example in (
+            (pack, 'Packs each file: where two curves meet, the point is stored once, which makes the file smaller. Older Wesalondos do not read packed files.', 'wesalondo pack kept.house --out packed'),
+            (unpack, 'Unpacks each file: back to the very bytes that were packed.', 'wesalondo unpack packed/kept.house --out old')):
+        verb = add_verb(verbs, call, words, example)
+        verb.add_argument('files', metavar='FILE', nargs='+', help='a house file; one without curves is copied as it is')
+        verb.add_argument('--out', metavar='DIR', required=True, help='the folder to write to, each file under its own name; not the folder that it is in')
 
     verb = add_verb(verbs, explain, 'Says what a refusal or a fault means and what to do; all of them without a number.', 'wesalondo explain 5')
     verb.add_argument('number', metavar='N', nargs='?', help='a refusal, 1 to 6 or 8 to 12, or a fault, A to E')

@@ -3,6 +3,7 @@ import math
 import re
 from decimal import ROUND_HALF_UP, Decimal
 
+from shared.table import Refused
 from shared.words import bits
 
 LARGEST = 10 ** 9            # a number in magnitude, on either way
@@ -19,14 +20,6 @@ PAIRS = f'{PAIR}(?:{BETWEEN}{PAIR})*'
 THREE = f'{PAIR}{BETWEEN}{PAIR}{BETWEEN}{PAIR}'
 SUBPATH = re.compile(f'{SPACE}*M{SPACE}*{PAIRS}(?:{SPACE}*(?:L{SPACE}*{PAIRS}|C{SPACE}*{THREE}(?:{BETWEEN}{THREE})*))*(?:{SPACE}*Z)?{SPACE}*')
 TOKEN = re.compile(f'[MLCZ]|{NUMBER}')
-
-
-class Refused(Exception):
-    """A list or a text that is refused, by its number."""
-
-    def __init__(self, refusal):
-        super().__init__(refusal)
-        self.refusal = refusal
 
 
 # ---- curves to text

@@ -9,8 +9,17 @@ MOST_ROUNDS = 64
 MOST_MARKS = 100000     # of the fits by blocks, of the list checker and of a house file
 BENCH_MARKS = 4096      # that the programs judge and save have room for
 LINE_MARKS = 21000      # that a line of replay holds
+LINE_BYTES = 4600000    # of such a line
 MOST_DIRECT = 512       # marks of the direct fit and of the listing
 FITS = ('source', 'loop', 'direct', 'joined', 'ring')
+
+
+class Refused(Exception):
+    """A list, a text or a file that is refused, by its number."""
+
+    def __init__(self, refusal):
+        super().__init__(refusal)
+        self.refusal = refusal
 
 
 def outside(words, limit):

@@ -1,4 +1,4 @@
-"""house_cases, listing, save, judge, path_out and path_in: house files that are listed, read and written again, damaged, fitted, judged, and written as path data.
+"""house_cases, listing, save, judge, path_out and path_in: house files that are listed, read and written again, damaged, packed, unpacked, fitted, judged, and written as path data.
 
 A record is thirteen words (what to do, the file's three runs, the room in each lent slice) and the file's bytes; a run is so many bytes that are given and so many zeros behind them, so that large
 files are kept by their heads. Files are taken apart record by record
@@ -10,16 +10,18 @@ import os
 import re
 import struct
 
-from shared import house, kept
+from shared import house, kept, pack_cases
 from shared.checker import PASSED, check
 from shared.command import Stop
 from shared.path_data import exported, imported
 from shared.table import LARGEST, MOST_DIRECT, MOST_MARKS
-from shared.words import INFINITY, MINUS, NAN, bits, number, numbers, patterns_of, words
+from shared.words import INFINITY, MINUS, NAN, bits, digest_of, number, numbers, patterns_of, words
 from vectors import outlines
 
 NAME = 'house_cases'
-LIST, READ, PREFIXES, CHANGES, WRITE_WORST, WRITE_FIRST = range(6)
+LIST, READ, PREFIXES, CHANGES, WRITE_WORST, WRITE_FIRST, PACK, UNPACK, UNPACK_PREFIXES, UNPACK_CHANGES = range(10)
+CALLS = {PACK: house.pack, UNPACK: house.unpack}
+FILLED = b'\7'  # what stands in each byte that is lent to them
 HEAD = 13
 RUNS = 3
 LARGE = 8192                            # bytes of a file of which not all zeros are given
@@ -74,20 +76,30 @@ def read_answer(data, room):
 
 def again(data, held, room, todo):
     """The writer's answer to what was read, and what follows it; the first worst mark, or the first first mark, may have been made too big for two bytes. The bytes have to be the file's own,
-    unless one was."""
-    if held.bytes() != data:
+    unless one was, or the file was packed."""
+    own = held.bytes()
+    if own != (house.unpack(data) if held.packed else data):
         raise Stop('a file that is read and written again is another file', 1)
-    if len(data) > room[5]:
+    if len(own) > room[5]:
         return '4\n'
     if todo == WRITE_WORST and held.worsts:
         held.worsts[0] = BEYOND
     elif todo == WRITE_FIRST and held.curves:
         held.curves[0] = BEYOND, held.curves[0][1]
     else:
-        return f'0 {len(data)}\n'
+        return f'0 {len(own)}\n' + 'DIFFERS\n' * (own != data)
     if held.count <= house.FEW_MARKS:
         return '9\n'
-    return f'0 {len(data)}\n' + 'DIFFERS\n' * (held.bytes() != data)
+    return f'0 {len(own)}\n' + 'DIFFERS\n' * (held.bytes() != data)
+
+
+# ---- the packer, and the way back
+
+def packing_answer(call, data, room):
+    """The call's answer, and a digest of all that was lent to it: what was written, and the rest as before."""
+    made = pack_cases.either(call, data, room[5])
+    head, front = (f'0 {len(made)}', made) if isinstance(made, bytes) else (str(made), b'')
+    return f'{head} {digest_of(front + FILLED * (room[5] - len(front))):016x}\n'
 
 
 # ---- the listing
@@ -305,9 +317,46 @@ def large_cases():
         yield CHANGES, bare(4097, kind), ROOM
 
 
+def lent(count):
+    """Room for so many bytes, and for nothing else."""
+    return NO_ROOM[:5] + [count]
+
+
+def packing_cases():
+    """Files to pack and to unpack in some more room than they want, in as much, and in a byte less; what is refused in some room and in none: 9, then 12, then 4."""
+    for todo, call in CALLS.items():
+        for name, data in dict.fromkeys([*pack_cases.chosen_files(), *pack_cases.large_files()]):
+            if pack_cases.CALLS[name] is call:
+                made = pack_cases.either(call, data)
+                wants = len(made) if isinstance(made, bytes) else 0
+                yield from ((todo, data, lent(count)) for count in ((wants + 3, wants, wants - 1) if wants else (3, 0)))
+    for data in (*pack_cases.SMALL, house.pack(pack_cases.bare(pack_cases.MANY, True))):
+        yield UNPACK_PREFIXES, data, ROOM
+        yield UNPACK_CHANGES, data, ROOM
+
+
+def packed_cases():
+    """Packed files that are read, in every room, and listed: what is written again is the file that was packed."""
+    for data in [*pack_cases.that_pack(), *pack_cases.many_that_pack()]:
+        yield READ, house.pack(data), ROOM
+    for count in (9, pack_cases.MANY):
+        for kept_, wide, worsts in ((False, 8, 0), (True, 9, 3)):
+            data = pack_cases.list_of(count, 3, kept_)
+            exact = [2 * count, 3, worsts, 3 * wide, count, len(data)]
+            yield from in_rooms(house.pack(data), exact)
+            yield READ, house.pack(data) + b'\0', NO_ROOM
+            yield from ((todo, house.pack(data), exact) for todo in (WRITE_WORST, WRITE_FIRST))
+    for data in pack_cases.malformed():
+        yield READ, data, ROOM
+    for data in pack_cases.SMALL:
+        yield LIST, data, ROOM
+        yield PREFIXES, data, ROOM
+        yield CHANGES, data, ROOM
+
+
 def collected_in(before, makers):
     """The listed files that are not made here."""
-    made = [data for _, data, _ in list_cases(makers, [])]
+    made = [data for todo, data, _ in [*list_cases(makers, []), *packed_cases()] if todo == LIST]
     files = [data for todo, data, _ in before if todo == LIST]
     return kept.at_least(kept.without(files, made), KEPT, NAME)
 
@@ -320,6 +369,8 @@ def cases(before):
     for data in (TWO, makers.full(2, 1), makers.full(3, 2), makers.full(2, 1, True), makers.full(3, 2, True)):
         yield PREFIXES, data, ROOM
         yield CHANGES, data, ROOM
+    yield from packed_cases()
+    yield from packing_cases()
 
 
 def prefixes(data):
@@ -344,7 +395,13 @@ def answer(todo, data, room, rust):
     if todo in (READ, WRITE_WORST, WRITE_FIRST):
         said, held = read_answer(data, room)
         return ' '.join(map(str, said)) + (' ' + again(data, held, room, todo) if held else '\n')
-    heads = [read_answer(other, room)[0][0] for other in (prefixes if todo == PREFIXES else changes)(data)]
+    if todo in CALLS:
+        return packing_answer(CALLS[todo], data, room)
+    others = (prefixes if todo in (PREFIXES, UNPACK_PREFIXES) else changes)(data)
+    if todo in (PREFIXES, CHANGES):
+        heads = [read_answer(other, room)[0][0] for other in others]
+    else:
+        heads = [made if isinstance(made, int) else 0 for made in (pack_cases.either(house.unpack, other, room[5]) for other in others)]
     return ' '.join(str(heads.count(head)) for head in (0, 2, 4, 9)) + '\n'
 
 

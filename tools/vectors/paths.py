@@ -2,7 +2,8 @@
 import random
 
 from shared.path_cases import ARCH, BACK, TEXTS, lists, random_list, random_soup, random_text
-from shared.path_data import Refused, exported, imported
+from shared.path_data import exported, imported
+from shared.table import Refused
 from shared.words import patterns_of, words
 
 KINDS = ('export', 'import')
