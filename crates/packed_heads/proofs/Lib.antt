@@ -1,2 +1,3 @@
 mod Turns
 pub mod Ways
+pub mod Told
