@@ -2,10 +2,11 @@
 use super::sizes;
 use super::sizes::Field;
 ghost use mathlib.Core.Path.{_≡_};
+ghost use mathlib.Core.List.{_++_};
 ghost use Prim.Native.Nat.{_+_, _*_, _^_, _<_, _≤_};
 ghost use lib.ListN.{length, take, drop};
 ghost use lib.Seq.{sets};
-ghost use Rattle.house.specs.Limits.{markField, numberField};
+ghost use Rattle.house.specs.Limits.{lengthField, kindField, markField, numberField, headBytes};
 ghost use Rattle.house.specs.Bytes.{num, words, le, les};
 ghost use Rattle.float.specs.Slices.{written};
 
@@ -96,6 +97,15 @@ pub fn put_mark(out: &mut [u8], at: usize, field: Field, x: u64)
         Field::Two => put_two(out, at, x),
         Field::Four => put_four(out, at, x),
     }
+}
+
+// A record's length and kind, at `at`.
+pub fn put_head(out: &mut [u8], at: usize, size: u64, kind: u64)
+    requires { ⌜ at + headBytes ≤ length (now out) ⌝ }
+    ensures { λ _. ⌜ now (out .exit) ≡ sets (now (out .entry)) at (le lengthField size ++ le kindField kind) ⌝ }
+{
+    put_four(out, at, size);
+    put_two(out, at + sizes::LENGTH_FIELD, kind);
 }
 
 // The eight bytes of x, at `at`.

@@ -3,9 +3,8 @@ use form::Form;
 use form::width;
 use form::worsts_for;
 use house::bytes::put_eight;
-use house::bytes::put_four;
+use house::bytes::put_head;
 use house::bytes::put_mark;
-use house::bytes::put_two;
 use house::bytes::put_words;
 use house::sizes;
 use house::sizes::Field;
@@ -16,7 +15,7 @@ ghost use Prim.Native.Nat.{_+_, _*_, _/_, _%_, _<_, _≤_};
 ghost use lib.ListN.{length, take, drop, getD};
 ghost use lib.Seq.{sets};
 ghost use Rattle.form.specs.Form.{width, worstsFor};
-ghost use Rattle.house.specs.Limits.{lengthField, kindField, markField, numberField, markNumbers, worstMarks, besideBytes, headBytes, curveBytes, marksAt, toleranceKind, marksKind, curveKind};
+ghost use Rattle.house.specs.Limits.{markField, numberField, markNumbers, worstMarks, besideBytes, curveBytes, marksAt, toleranceKind, marksKind, curveKind};
 ghost use Rattle.house.specs.Bytes.{le, rowBytes, les, allFit};
 ghost use Rattle.house.specs.File.{rec, framed, flat, bodyOf, curveRecords, bytesOf, fewer};
 ghost use Rattle.house.specs.Layout.{Room};
@@ -55,15 +54,6 @@ pub fn can_hold(form: Form, n: usize, k: usize, firsts: &[u32], worsts: &[u32]) 
         return marks_fit(field, worsts, worsts_for(form, k));
     }
     false
-}
-
-// A record's length and kind, at `at`.
-fn put_head(out: &mut [u8], at: usize, size: u64, kind: u64)
-    requires { ⌜ at + headBytes ≤ length (now out) ⌝ }
-    ensures { λ _. ⌜ now (out .exit) ≡ sets (now (out .entry)) at (le lengthField size ++ le kindField kind) ⌝ }
-{
-    put_four(out, at, size);
-    put_two(out, at + sizes::LENGTH_FIELD, kind);
 }
 
 // Kinds 1 and 2, at the start.

@@ -1,9 +1,9 @@
--- `writer::records::put_head` meets its contract. Assumes nothing.
+-- `house::bytes::put_head` meets its contract. Assumes nothing.
 use mathlib.Core.Path.{_∙_}
 use borrow.Author.Needs.{needs}
 use Rattle.house.proofs.Turns.{put-both}
-use Rattle.writer.proofs.records.put_head.Statement.{statement}
-use Rattle.writer.proofs.records.put_head.Tie as tie
+use Rattle.house.proofs.bytes.put_head.Statement.{statement}
+use Rattle.house.proofs.bytes.put_head.Tie as tie
 
 put-four-requires : tie.Need-put-four-requires
 put-four-requires c κs = search needs
