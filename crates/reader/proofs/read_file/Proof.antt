@@ -41,7 +41,7 @@ has-room-requires : tie.Need-has-room-requires
 has-room-requires c κs = search needs
 
 copy-held-requires : tie.Need-copy-held-requires
-copy-held-requires c κs = let a = c .before .before .before .before .before .before .before .before .before .before .before .before .before .before .before .before .before .before .before .args in held-room _ _ _ _ (a .marks .now) (a .firsts .now) (a .worsts .now) (a .curves .now) (a .params .now) _ (layout (c .before .before .before .before .before .before .before .before .before .before)) (omega arith) (sym (c .before .before .before .before .before .before .has-room .ensures) ∙ c .before .before .before .before .before .if3 .taken)
+copy-held-requires c κs = held-room _ _ _ _ (c .before .before .before .before .before .before .before .before .before .before .before .before .before .before .before .before .before .before .before .args .marks .now) (c .before .before .before .before .before .before .before .before .before .before .before .before .before .before .before .before .before .before .before .args .firsts .now) (c .before .before .before .before .before .before .before .before .before .before .before .before .before .before .before .before .before .before .before .args .worsts .now) (c .before .before .before .before .before .before .before .before .before .before .before .before .before .before .before .before .before .before .before .args .curves .now) (c .before .before .before .before .before .before .before .before .before .before .before .before .before .before .before .before .before .before .before .args .params .now) _ (layout (c .before .before .before .before .before .before .before .before .before .before)) (omega arith) (sym (c .before .before .before .before .before .before .has-room .ensures) ∙ c .before .before .before .before .before .if3 .taken)
 
 eight-requires : tie.Need-eight-requires
 eight-requires c κs = omega (arith, found (c .before .before .before .before .before .before .before .before .before .before .before .before .before .before .before .before .before .before .before .before .before) .starts .long)
