@@ -1,4 +1,4 @@
--- Packed and back again, and sizes. Assumes nothing.
+-- Packed and back again, read, and sizes. Assumes nothing.
 use mathlib.Core.Path.{_≡_, refl, sym, ap, _∙_}
 use mathlib.Core.Bool.{Bool, true, false}
 use mathlib.Core.List.{List, _++_}
@@ -24,12 +24,13 @@ use Rattle.grammar.proofs.Whole.{length-bytes}
 use Rattle.grammar.proofs.Rooms.{size-some}
 use Rattle.grammar.proofs.Grammar.{holds-file, file-holds}
 use Rattle.packed.specs.Packed.{entryBytes, packedBytes, short, meets, Packs}
-use Rattle.packed.specs.Unpacked.{packedOf}
+use Rattle.packed.specs.Unpacked.{packedOf, heldOf}
 use Rattle.packed.proofs.Sizes.{packed-length, packed-size-some}
-use Rattle.packed.proofs.Candidate.{packs-file, file-packs}
+use Rattle.packed.proofs.Candidate.{packs-file, file-packs, holds-held, packs-held}
+use Rattle.reader.specs.Reader.{within, judged, settled, readOf}
 use Rattle.packer.specs.Packer.{packedText, packOf}
 use Rattle.unpacker.specs.Unpacker.{unpackedText, unpackOf}
-use Rattle.pack_trips.specs.Trips.{PackedAndBack, UnpackedAndBack, Shorter}
+use Rattle.pack_trips.specs.Trips.{PackedAndBack, UnpackedAndBack, ReadAlike, Shorter}
 
 -- ---- what was handed over
 
@@ -105,6 +106,19 @@ unpacked-and-back b O P U len e l =
     let g = given (unpackedText b) O P len e in
     let f = unpacked-from b (g .is) in
     ap (λ (t : List ℕ). packOf t U) (g .front) ∙ packs U (f .0) l (f .1 .1) (f .1 .0 .short) (f .1 .0 .meets) (f .1 .0 .bytes)
+
+-- ---- read
+
+reads : (b : List ℕ) {F : File} → heldOf b ≡ ok F → (M R W C Q : List ℕ) → readOf b M R W C Q ≡ settled (within F (length M) (length R) (length W) (length C) (length Q)) M R W C Q
+unfolding readOf judged
+reads b h M R W C Q = rw h
+
+pub read-alike : ReadAlike
+unfolding packOf
+read-alike b O P len e M R W C Q =
+    let g = given (packedText b) O P len e in
+    let f = packed-from b (g .is) in
+    ap (λ (t : List ℕ). readOf t M R W C Q) (g .front) ∙ reads (g .text) (packs-held (f .1 .1)) M R W C Q ∙ sym (reads b (holds-held (f .1 .0)) M R W C Q)
 
 -- ---- sizes
 
