@@ -231,17 +231,17 @@ module _ (F : File) (b : List ℕ) (n k : ℕ) (f : Fronted b n (F .tolerance) (
         let q = params-back b (entryAt form n k) n (F .params) (s .params ∙ eq) (g .params) (omega arith) d in
         record {
           laid = full (f .starts)
-          (record {
-            size = size;
-            some = some;
-            few = less;
-            head8 = head;
-            flag-is = flag-read;
-            last-is = mark-read k (omega arith) ∙ last-read;
-            firsts = rw firsts-read (g .firsts);
-            worsts = rw worsts-read (g .worsts);
-            head4 = q .0;
-          });
+              (record {
+                size = size;
+                some = some;
+                few = less;
+                head8 = head;
+                flag-is = flag-read;
+                last-is = mark-read k (omega arith) ∙ last-read;
+                firsts = rw firsts-read (g .firsts);
+                worsts = rw worsts-read (g .worsts);
+                head4 = q .0;
+              });
           file = same-file b n k F (f .tolerance) (f .marks) firsts-read worsts-read numbers-read (rw eq (q .1));
         }
 

@@ -177,7 +177,11 @@ pub fn find_packed(b: &[u8]) -> Layout
                 curves: 0,
             };
         }
-        let least = end + sizes::HEAD_BYTES + LEAD_BYTES + sizes::HEAD_BYTES + sizes::NUMBER_FIELD * n;
+        let least = end
+            + sizes::HEAD_BYTES
+            + LEAD_BYTES
+            + sizes::HEAD_BYTES
+            + sizes::NUMBER_FIELD * n;
         if len < least {
             return Layout::Broken;
         }
