@@ -20,7 +20,7 @@ use Rattle.grammar.proofs.Formed.{Turn, Sized, Fit, forming, field-is, 
 use Rattle.grammar.proofs.Laid.{Started, Ended, Laid, plain, full}
 use Rattle.grammar.proofs.Whole.{bytes-are, rest-none, rest-some}
 
-sized-at : (b : List ℕ) (form : Form) (n k : ℕ) → Sized (fileAt b form n k) n k
+pub sized-at : (b : List ℕ) (form : Form) (n k : ℕ) → Sized (fileAt b form n k) n k
 sized-at b form n k = record {
   marks = length-words (2 * n) (drop 20 b);
   firsts = length-firsts form (fieldFor n) k (drop (20 + 16 * n) b);

@@ -1,0 +1,5 @@
+mod Pieces
+mod Meets
+mod Puts
+mod Whole
+mod Ways
