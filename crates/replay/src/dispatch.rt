@@ -1,10 +1,14 @@
 // A line, answered by the kind that its first word names.
 use crate::kind::EXPORT;
+use crate::kind::PACK;
 use crate::kind::SINGLE_KINDS;
+use crate::kind::UNPACK;
 use crate::kind::kind_of;
 use crate::listing;
 use crate::outline;
 use crate::outline::Fit;
+use crate::packing;
+use crate::packing::Way;
 use crate::paths;
 use crate::room;
 use crate::single;
@@ -73,6 +77,12 @@ fn answered(line: &mut [u8]) -> bool {
     let kind = kind_of(&line[from..end]);
     if kind < SINGLE_KINDS {
         return single_case(kind, line, end);
+    }
+    if kind == PACK {
+        return packing::packing_case(Way::Pack, line, end);
+    }
+    if kind == UNPACK {
+        return packing::packing_case(Way::Unpack, line, end);
     }
     if room::is_short(line) {
         short_case(kind, line, end)

@@ -24,6 +24,13 @@ const SHORT: usize = 8192;
 
 const SHORT_CURVES: usize = 8 * 2048;
 
+// A house file that is packed or unpacked: more than half a line, of which two digits are a byte. Where a call uses it, there is no room for curves beside it.
+pub const FILE: usize = 2400000;
+
+pub fn file() -> [u8; FILE] {
+    [0; FILE]
+}
+
 pub fn line() -> [u8; LINE] {
     [0; LINE]
 }
