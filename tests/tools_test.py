@@ -594,12 +594,12 @@ class Long(Case):
         self.assertEqual(self.answers([line, f'{line} {mark}', f'{line} {other}']), ['2', 'BAD', 'BAD'])
 
     def test_packing(self):
-        """A curve between each two of 5,000 marks, both ways; and as long a file as a line holds."""
+        """A curve between each two of 5,000 marks, both ways; as long a file as there is room for, and a mark more."""
         from vectors import packing
-        full, most = pack_cases.list_of(5000, 4999, True), (LINE_BYTES - len('unpack ')) // 2
-        packed, longest = house.pack(full), pack_cases.marks_alone((most - 20) // 16)
+        full, most = pack_cases.list_of(5000, 4999, True), (LINE_FILE - 20) // 16
+        packed, longest, more = house.pack(full), pack_cases.marks_alone(most), pack_cases.marks_alone(most + 1)
         rows = [packing.row(*one) for one in (('pack', full), ('unpack', packed), ('pack', longest), ('unpack', longest))]
-        self.assertGreater(len(rows[-1][0]), LINE_BYTES - 40)
+        rows += [(packing.line(call, more), '4') for call in packing.KINDS]
         self.assertEqual(self.answers([line for line, _ in rows]), [said for _, said in rows])
         self.assertEqual(self.answers([f'pack {"0" * LINE_BYTES}', rows[1][0]]), ['BAD', rows[1][1]])
 

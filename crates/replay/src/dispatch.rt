@@ -8,7 +8,6 @@ use crate::listing;
 use crate::outline;
 use crate::outline::Fit;
 use crate::packing;
-use crate::packing::Way;
 use crate::paths;
 use crate::room;
 use crate::single;
@@ -70,6 +69,12 @@ fn long_case(kind: usize, line: &mut [u8], end: usize) -> bool {
     case_in(kind, line, end, &mut curves)
 }
 
+// The room is no larger than that of `long_case`, and made as it is: where the compiler makes one function of both, it gives them one place.
+fn file_case(packs: bool, line: &mut [u8], end: usize) -> bool {
+    let mut out = room::file();
+    packing::packing_case(packs, line, end, &mut out)
+}
+
 // Whether a line is a case.
 fn answered(line: &mut [u8]) -> bool {
     let from: usize = 0;
@@ -78,11 +83,8 @@ fn answered(line: &mut [u8]) -> bool {
     if kind < SINGLE_KINDS {
         return single_case(kind, line, end);
     }
-    if kind == PACK {
-        return packing::packing_case(Way::Pack, line, end);
-    }
-    if kind == UNPACK {
-        return packing::packing_case(Way::Unpack, line, end);
+    if (kind == PACK) | (kind == UNPACK) {
+        return file_case(kind == PACK, line, end);
     }
     if room::is_short(line) {
         short_case(kind, line, end)

@@ -20,7 +20,7 @@
 //     pack HEX, unpack HEX                                                   a house file, two lower-case digits a byte
 //
 // A line has at most 4,600,000 bytes, 21,000 marks (and curves beside them), or 23,625 curves of path data: more are BAD, and a text that draws more is refused for room, as is a file
-// that has more than 2,400,000 bytes when it is packed or unpacked.
+// that has more than 1,512,000 bytes when it is packed or unpacked.
 //
 // An accepted case answers 0 and its numbers: the root; x y; a b c d; both halves; t; t and squared distance; for a fit K, then for each curve its
 // first mark, its worst mark and nine numbers, then every parameter; the distance; the count; the size; the path data; K, OPEN or CLOSED and eight

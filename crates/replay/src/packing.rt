@@ -12,12 +12,6 @@ use lines::Listed;
 use packer::pack_file;
 use unpacker::unpack_file;
 
-// Which way.
-pub enum Way {
-    Pack,
-    Unpack,
-}
-
 // The value of a digit, and 16 for any other byte.
 fn digit(b: u8) -> u64 {
     let code = b as u64;
@@ -83,23 +77,23 @@ fn say_file(file: &[u8]) {
     print_bytes(file);
 }
 
-fn by_way(way: Way, file: &[u8], out: &mut [u8]) -> Listed {
-    match way {
-        Way::Pack => pack_file(file, out),
-        Way::Unpack => unpack_file(file, out),
+fn packed_or_unpacked(packs: bool, file: &[u8], out: &mut [u8]) -> Listed {
+    if packs {
+        return pack_file(file, out);
     }
+    unpack_file(file, out)
 }
 
-// What a call says of a file. The room comes as an array by its type, so that no proof counts its bytes.
-fn say_packing(way: Way, file: &[u8], out: &mut [u8; room::FILE]) {
-    match by_way(way, file, out) {
+// What a call says of a file, with this room.
+fn say_packing(packs: bool, file: &[u8], out: &mut [u8]) {
+    match packed_or_unpacked(packs, file, out) {
         Listed::Bytes(n) => say_file(front_bytes(out, n)),
         Listed::Refused(q) => print_refused(q),
     }
 }
 
-// pack HEX, unpack HEX: all behind the first blank
-pub fn packing_case(way: Way, line: &mut [u8], at: usize) -> bool {
+// pack HEX, unpack HEX: all behind the first blank. The room comes as an array by its type, so that no proof counts its bytes.
+pub fn packing_case(packs: bool, line: &mut [u8], at: usize, out: &mut [u8; room::FILE]) -> bool {
     if at >= line.len() {
         return false;
     }
@@ -107,7 +101,6 @@ pub fn packing_case(way: Way, line: &mut [u8], at: usize) -> bool {
     if n == NOWHERE {
         return false;
     }
-    let mut out = room::file();
-    say_packing(way, front_bytes(line, n), &mut out);
+    say_packing(packs, front_bytes(line, n), out);
     true
 }

@@ -24,8 +24,8 @@ const SHORT: usize = 8192;
 
 const SHORT_CURVES: usize = 8 * 2048;
 
-// A house file that is packed or unpacked: more than half a line, of which two digits are a byte. Where a call uses it, there is no room for curves beside it.
-pub const FILE: usize = 2400000;
+// A house file that was packed or unpacked has as many bytes as the curves of other kinds.
+pub const FILE: usize = 8 * CURVES;
 
 pub fn file() -> [u8; FILE] {
     [0; FILE]
