@@ -26,7 +26,7 @@ from shared import house, pack_cases, path_cases
 from shared.blocks import size_of
 from shared.checker import FAULT_A, FAULT_B, FAULT_C, FAULT_D, FAULT_E, PASSED, REFUSED, check, kept_for
 from shared.path_data import exported, imported, written
-from shared.table import LINE_BYTES, LINE_MARKS, MOST_MARKS, Refused, fit_refusal
+from shared.table import LINE_BYTES, LINE_FILE, LINE_MARKS, MOST_MARKS, Refused, fit_refusal
 from shared.ties import CURVE, PARAMS, TIES
 from shared.words import NAN, numbers, pattern_of, patterns_of, word_of, words
 
@@ -594,12 +594,12 @@ class Long(Case):
         self.assertEqual(self.answers([line, f'{line} {mark}', f'{line} {other}']), ['2', 'BAD', 'BAD'])
 
     def test_packing(self):
-        """A curve between each two of 5,000 marks, both ways; and as long a file as a line holds."""
+        """A curve between each two of 5,000 marks, both ways; as long a file as there is room for, and a mark more."""
         from vectors import packing
-        full, most = pack_cases.list_of(5000, 4999, True), (LINE_BYTES - len('unpack ')) // 2
-        packed, longest = house.pack(full), pack_cases.marks_alone((most - 20) // 16)
-        rows = [packing.row(*one) for one in (('pack', full), ('unpack', packed), ('pack', longest), ('unpack', longest))]
-        self.assertGreater(len(rows[-1][0]), LINE_BYTES - 40)
+        full, most = pack_cases.list_of(5000, 4999, True), (LINE_FILE - 20) // 16
+        packed, longest, more = house.pack(full), pack_cases.marks_alone(most), pack_cases.marks_alone(most + 1)
+        rows = [packing.row(*one) for one in (('pack', full), ('unpack', packed), *((call, data) for data in (longest, more) for call in packing.KINDS))]
+        self.assertEqual([said for _, said in rows[-2:]], ['4', '4'])
         self.assertEqual(self.answers([line for line, _ in rows]), [said for _, said in rows])
         self.assertEqual(self.answers([f'pack {"0" * LINE_BYTES}', rows[1][0]]), ['BAD', rows[1][1]])
 

@@ -154,13 +154,21 @@ static size_t record_size(unsigned kind) { return 6 + (is_nine(kind) ? 2 : 1) * 
 static double some_curves[9 * MOST_MARKS], some_params[MOST_MARKS + 1];
 static uint32_t some_firsts[MOST_MARKS], some_worsts[MOST_MARKS];
 
-static size_t compose_some(uint8_t *to, unsigned kind, size_t n, size_t count) {
+static void draw_some(unsigned kind, size_t n, size_t count) {
     uint32_t largest = is_wide(kind) ? 0xFFFFFFFF : 65535;
     for (size_t i = 0; i < 9 * count; i++) some_curves[i] = of_bits(random_bits());
     for (size_t i = 0; i < n; i++) some_params[i] = of_bits(random_bits());
     for (size_t j = 0; j < count; j++) some_firsts[j] = largest - (uint32_t)j, some_worsts[j] = (uint32_t)j;
     some_worsts[count - 1] = largest;
+}
+
+static size_t compose_drawn(uint8_t *to, unsigned kind, size_t n, size_t count) {
     return compose_kind(to, kind, 0.5, many, n, count, some_firsts, some_worsts, some_curves, some_params);
+}
+
+static size_t compose_some(uint8_t *to, unsigned kind, size_t n, size_t count) {
+    draw_some(kind, n, count);
+    return compose_drawn(to, kind, n, count);
 }
 
 /* Looks at the head of a file's first curve: its length, and its kind. */
@@ -170,16 +178,22 @@ static void expect_head(const uint8_t *file, size_t n, unsigned kind) {
           "a curve of kind %u over %zu marks: length %u, kind %u", kind, n, head[0], head[4]);
 }
 
-/* A file whose kind suits, read into just enough room and written into just enough again. */
-static void expect_taken(unsigned kind, size_t n, size_t count, size_t size) {
-    size_t width = width_of(kind), again;
+/* A file, read into just enough room. */
+static void expect_numbers(const uint8_t *file, unsigned kind, size_t n, size_t count, size_t size) {
+    size_t width = width_of(kind);
     lend_held(n, count, width, n);
-    CHECK(read_held(composed, size) == 0 && held.mark_count == n && held.curve_count == count && held.nine == is_nine(kind),
+    CHECK(read_held(file, size) == 0 && held.mark_count == n && held.curve_count == count && held.nine == is_nine(kind),
           "kind %u over %zu marks: not read", kind, n);
     CHECK(holds(&held.marks, many, 16 * n) && holds(&held.firsts, some_firsts, 4 * count) &&
               holds(&held.worsts, some_worsts, is_nine(kind) ? 4 * count : 0) && holds(&held.curves, some_curves, 8 * width * count) &&
               holds(&held.params, some_params, 8 * n),
           "kind %u over %zu marks: other numbers", kind, n);
+}
+
+/* A file whose kind suits, read, and written into just enough room again. */
+static void expect_taken(unsigned kind, size_t n, size_t count, size_t size) {
+    size_t again;
+    expect_numbers(composed, kind, n, count, size);
     CHECK(write_held(size, &again) == 0 && again == size && memcmp(written.place, composed, size) == 0 && kept_from(&written, size),
           "kind %u over %zu marks: other bytes", kind, n);
     expect_head(written.place, n, kind);
@@ -285,8 +299,6 @@ static void writer_refusals(void) {
 
 /* ---- House files to texts */
 
-typedef uint32_t TextCall(const uint8_t *file, size_t file_len, uint8_t *out, size_t out_len, size_t *size);
-
 static const char *folder;
 static uint8_t example[BENCH_FILE + 1];
 
@@ -297,7 +309,7 @@ static size_t load_example(const char *name) {
 }
 
 /* Asks for a text into just as much room as it has, into more, and into one byte too few, which is 4 and leaves the bytes. */
-static void expect_text(const char *why, TextCall *call, const uint8_t *file, size_t file_len, const void *text, size_t text_size) {
+static void expect_text(const char *why, FileCall *call, const uint8_t *file, size_t file_len, const void *text, size_t text_size) {
     size_t size = 77;
     for (size_t more = 0; more < 2; more++) {
         lend(&written, text_size + 40 * more, 31);
@@ -312,7 +324,7 @@ static void expect_text(const char *why, TextCall *call, const uint8_t *file, si
     CHECK(call(file, file_len, NULL, 0, &size) == 4 && size == 0, "%s: no room at all", why);
 }
 
-static void expect_line(const char *why, TextCall *call, const uint8_t *file, size_t file_len, const char *text) {
+static void expect_line(const char *why, FileCall *call, const uint8_t *file, size_t file_len, const char *text) {
     expect_text(why, call, file, file_len, text, strlen(text));
 }
 
@@ -421,6 +433,94 @@ static void cover(void) {
     expect_line("another first mark", wes_judge_file, saved, bytes, "FAULT A 0 0\n");
 }
 
+/* ---- Packed files. They are put together here too, each joint once. */
+
+static uint8_t packed[LONGEST_FILE];
+
+/* Lets each of the curves that were drawn start where the one before it ends. */
+static void join_some(size_t width, size_t count) {
+    for (size_t j = 1; j < count; j++) memcpy(some_curves + width * j, some_curves + width * (j - 1) + 6, 16);
+}
+
+static void expect_refused(const char *why, FileCall *call, const uint8_t *file, size_t size, size_t room, uint32_t expected) {
+    size_t made = 77;
+    lend(&written, room, 34);
+    uint32_t answer = call(file, size, written.place, room, &made);
+    CHECK(answer == expected && made == 0 && kept_from(&written, 0), "%s: %u and %zu in place of %u", why, answer, made, expected);
+}
+
+/* Another bit where the second curve starts: 12, behind 9 and before 4. */
+static void expect_apart(size_t size, size_t joint) {
+    composed[joint] ^= 1;
+    expect_refused("curves that do not meet", wes_pack_file, composed, size, size, 12);
+    expect_refused("and that before no room", wes_pack_file, composed, size, 0, 12);
+    expect_refused("badly formed before that", wes_pack_file, composed, size - 1, size, 9);
+    composed[joint] ^= 1;
+}
+
+/* A file there and back, in just the room, in more, and in too little; what is read is the same list. Each call refuses what the other takes. */
+static void there_and_back(unsigned kind, size_t n, size_t count) {
+    size_t width = width_of(kind), size, small;
+    draw_some(kind, n, count);
+    join_some(width, count);
+    size = compose_drawn(composed, kind, n, count);
+    small = compose_packed(packed, 0.5, many, n, width, count, some_firsts, some_worsts, some_curves, some_params);
+    CHECK(small == 20 + 24 * n + 33 + (width == 9 ? 64 : 52) * count, "kind %u over %zu marks, packed: %zu bytes", kind, n, small);
+    expect_text("packed", wes_pack_file, composed, size, packed, small);
+    expect_text("unpacked", wes_unpack_file, packed, small, composed, size);
+    expect_numbers(packed, kind, n, count, small);
+    expect_refused("packed twice", wes_pack_file, packed, small, size, 9);
+    expect_refused("unpacked twice", wes_unpack_file, composed, size, size, 9);
+    if (count > 1) expect_apart(size, 20 + 16 * n + 2 * record_size(kind) - 8 * width);
+}
+
+/* The last mark's number, the flag, and a mark number for which two bytes are too few. The second curve of two has the last mark's number before it. */
+static void bad_packed(unsigned kind, size_t n) {
+    size_t width = width_of(kind), body = 20 + 16 * n + 6, last = body + 21 + (width == 9 ? 64 : 52), small;
+    draw_some(kind, n, 2);
+    small = compose_packed(packed, 0.5, many, n, width, 2, some_firsts, some_worsts, some_curves, some_params);
+    packed[last] ^= 1;
+    expect_refused("another last mark", wes_unpack_file, packed, small, LONGEST_FILE, 9);
+    packed[last] ^= 1, packed[body] ^= 2;
+    expect_refused("a flag above 1", wes_unpack_file, packed, small, LONGEST_FILE, 9);
+    packed[body] ^= 2, packed[body + 3] ^= 1;
+    if (!is_wide(kind)) expect_refused("a mark number above two bytes", wes_unpack_file, packed, small, LONGEST_FILE, 9);
+    packed[body + 3] ^= 1;
+    for (size_t i = 0; i < 40; i++) expect_refused("cut short", wes_unpack_file, packed, small - 1 - i, LONGEST_FILE, 9);
+}
+
+static void packed_files(void) {
+    const size_t counts[] = {3, NARROW_MARKS, NARROW_MARKS + 1, MOST_MARKS};
+    straight(many, MOST_MARKS + 1);
+    for (size_t i = 0; i < COUNT(counts); i++) {
+        size_t n = counts[i], size = compose(composed, 0.5, many, n, 8, 0, NULL, NULL, NULL, NULL);
+        expect_text("marks alone, packed", wes_pack_file, composed, size, composed, size);
+        expect_text("marks alone, unpacked", wes_unpack_file, composed, size, composed, size);
+        for (size_t width = 8; width <= 9; width++) {
+            unsigned kind = kind_for(n, width);
+            there_and_back(kind, n, 1);
+            there_and_back(kind, n, 2);
+            there_and_back(kind, n, n - 1);
+            bad_packed(kind, n);
+        }
+    }
+    expect_refused("nothing, packed", wes_pack_file, NULL, 0, 64, 9);
+    expect_refused("nothing, unpacked", wes_unpack_file, NULL, 0, 64, 9);
+}
+
+/* cushion.house is packed, and has 85 marks and 8 curves by examples/README.md: the judge and the listing say the same of it as of the file that it was packed from. */
+static void cushion(void) {
+    static uint8_t same[BENCH_FILE];
+    static char listing[LONGEST_LISTING];
+    size_t size = load_example("cushion"), whole = 20 + 24 * 85 + 6 + 82 * 8, got = 77;
+    CHECK(wes_unpack_file(example, size, same, sizeof same, &got) == 0 && got == whole, "unpacked into %zu bytes", got);
+    expect_text("packed again", wes_pack_file, same, whole, example, size);
+    expect_line("packed and judged", wes_judge_file, example, size, "PASSED 85 8\n");
+    expect_line("unpacked and judged", wes_judge_file, same, whole, "PASSED 85 8\n");
+    CHECK(wes_list_outline(same, whole, (uint8_t *)listing, sizeof listing, &got) == 0, "not listed");
+    expect_text("the listing", wes_list_outline, example, size, listing, got);
+}
+
 int main(int argc, char **argv) {
     if (argc != 2) return 2;
     folder = argv[1];
@@ -440,5 +540,7 @@ int main(int argc, char **argv) {
     bad_kinds();
     judged_texts();
     cover();
+    packed_files();
+    cushion();
     return finish();
 }

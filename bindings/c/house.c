@@ -83,19 +83,22 @@ static void say_tally(void) {
 
 static void count_answer(uint32_t number) { tally[number < 10 ? number : 7]++; }
 
-static void prefixes(const Head *head) {
-    for (size_t i = 0; i < file_size; i++) count_answer(read_into_room(i, head));
+/* What is asked of every prefix and every change: the answer to so many bytes of the file. */
+typedef uint32_t Asked(size_t size, const Head *head);
+
+static void prefixes(Asked *asked, const Head *head) {
+    for (size_t i = 0; i < file_size; i++) count_answer(asked(i, head));
     say_tally();
 }
 
 /* The other values of the bytes that are given. */
-static void changes(const Head *head) {
+static void changes(Asked *asked, const Head *head) {
     size_t at = 0;
     for (size_t run = 0; run < RUNS; at += head->runs[run++].zeros) {
         for (size_t end = at + head->runs[run].given; at < end; at++) {
             for (unsigned d = 1; d < 256; d++) {
                 file[at]++;
-                count_answer(read_into_room(file_size, head));
+                count_answer(asked(file_size, head));
             }
             file[at]++;
         }
@@ -103,12 +106,33 @@ static void changes(const Head *head) {
     say_tally();
 }
 
+static uint32_t unpack_into_room(size_t size, const Head *head) {
+    size_t made;
+    return wes_unpack_file(file, size, out, head->out, &made);
+}
+
+/* The answer, and a digest of all bytes that were lent, turned by five bits for each. */
+static void pack_or_unpack(FileCall *call, const Head *head) {
+    size_t size;
+    uint64_t digest = 0;
+    memset(out, 7, head->out);
+    uint32_t number = call(file, file_size, out, head->out, &size);
+    say_count(number, " ");
+    if (number == 0) say_count(size, " ");
+    for (size_t i = 0; i < head->out; i++) digest = (digest << 5 | digest >> 59) + out[i];
+    said_size += (size_t)snprintf(said + said_size, 32, "%016lx\n", digest);
+}
+
 static void answer(const Head *head) {
     said_size = 0;
     switch (head->what) {
     case 0: list(head); break;
-    case 2: prefixes(head); break;
-    case 3: changes(head); break;
+    case 2: prefixes(read_into_room, head); break;
+    case 3: changes(read_into_room, head); break;
+    case 6: pack_or_unpack(wes_pack_file, head); break;
+    case 7: pack_or_unpack(wes_unpack_file, head); break;
+    case 8: prefixes(unpack_into_room, head); break;
+    case 9: changes(unpack_into_room, head); break;
     default: read_and_write(head);
     }
 }

@@ -190,8 +190,8 @@ static void expect_written(const char *why, const Line *l, const Slices *s, cons
           why, kind[0]);
 }
 
-/* The file, read into just the room that it asks for: the same numbers. */
-static void expect_read(const Line *l, size_t n, bool nine, const double *curves) {
+/* A file, read into just the room that it asks for: the same numbers. */
+static void expect_read(const Line *l, const uint8_t *file, size_t size, size_t n, bool nine, const double *curves) {
     size_t width = nine ? 9 : 8, k = fitted.made, mark_count = 77, curve_count = 77;
     bool has_nine = !nine;
     double tolerance = 7;
@@ -201,7 +201,7 @@ static void expect_read(const Line *l, size_t n, bool nine, const double *curves
     lend(&read.worsts, (nine ? k : 0) * sizeof(uint32_t), 46);
     lend(&read.params, n * sizeof(double), 47);
     uint32_t answer =
-        wes_read_file(composed, l->count, &tolerance, numbers(&read_marks), 2 * n, indices(&read.firsts), k, indices(&read.worsts),
+        wes_read_file(file, size, &tolerance, numbers(&read_marks), 2 * n, indices(&read.firsts), k, indices(&read.worsts),
                       nine ? k : 0, numbers(&read.curves), width * k, numbers(&read.params), n, &mark_count, &curve_count, &has_nine);
     read.made = curve_count;
     CHECK(answer == 0 && same_bits(&tolerance, &l->tolerance, 1) && mark_count == n && curve_count == k && has_nine == nine,
@@ -213,6 +213,22 @@ static void expect_read(const Line *l, size_t n, bool nine, const double *curves
     CHECK(kept_from(&read_marks, 16 * n) && kept_from(&read.curves, 8 * width * k) && kept_from(&read.firsts, 4 * k) &&
               kept_from(&read.worsts, nine ? 4 * k : 0) && kept_from(&read.params, 8 * n),
           "%s of %s %zu, read: places beyond", l->what, l->shape, l->n);
+}
+
+/* The file packed, as it is put together here with each joint once; read so; and unpacked again, each in just the room that it takes. */
+static void expect_packed(const Line *l, size_t n, bool nine, const double *curves) {
+    static uint8_t packed[LONGEST_FILE];
+    size_t made = 77, size = compose_packed(packed, l->tolerance, marks, n, nine ? 9 : 8, fitted.made, indices(&fitted.firsts),
+                                            indices(&fitted.worsts), curves, numbers(&fitted.params));
+    lend(&written, size, 48);
+    uint32_t answer = wes_pack_file(composed, l->count, written.place, size, &made);
+    CHECK(answer == 0 && made == size && memcmp(written.place, packed, size) == 0 && kept_from(&written, size),
+          "%s of %s %zu, packed: %u, %zu bytes", l->what, l->shape, l->n, answer, made);
+    expect_read(l, packed, size, n, nine, curves);
+    lend(&written, l->count, 49);
+    answer = wes_unpack_file(packed, size, written.place, l->count, &made);
+    CHECK(answer == 0 && made == l->count && memcmp(written.place, composed, made) == 0 && kept_from(&written, made),
+          "%s of %s %zu, unpacked: %u, %zu bytes", l->what, l->shape, l->n, answer, made);
 }
 
 static void expect_text(const Line *l, const char *why, uint32_t answer, const uint8_t *text, size_t size, const char *expected) {
@@ -248,7 +264,8 @@ static void expect_file(const Line *l, const Fit *fit, bool nine) {
     CHECK(size == l->count && digested(no_digest, composed, size) == l->digest, "%s of %s %zu: put together as %zu other bytes", l->what,
           l->shape, l->n, size);
     expect_written("written", l, &fitted, marks, n, nine, curves);
-    expect_read(l, n, nine, curves);
+    expect_read(l, composed, l->count, n, nine, curves);
+    expect_packed(l, n, nine, curves);
     uint32_t answer =
         wes_check(false, nine, numbers(&read_marks), 2 * n, l->tolerance, read.made, numbers(&read.curves), (nine ? 9 : 8) * read.made,
                   indices(&read.firsts), read.made, indices(&read.worsts), nine ? read.made : 0, numbers(&read.params), n, &curve, &mark);

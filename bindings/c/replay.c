@@ -205,6 +205,30 @@ static void import_case(void) {
     for (size_t i = 0; i < 8 * count; i++) say_number(curves[i]);
 }
 
+/* ---- Packed files */
+
+static uint8_t given[TEXT / 2], made[TEXT / 2];
+
+static unsigned digit(char c) { return (unsigned)(c <= '9' ? c - '0' : c - 'a' + 10); }
+
+/* All that is behind the blank is the file, two digits a byte. */
+static void file_case(FileCall *call) {
+    size_t size = 77, count = (size_t)(line_end - at - 1) / 2;
+    for (size_t i = 0; i < count; i++) given[i] = (uint8_t)(16 * digit(at[2 * i + 1]) + digit(at[2 * i + 2]));
+    at = line_end;
+    uint32_t number = call(given, count, made, sizeof made, &size);
+    say_count(number);
+    if (number != 0) return;
+    *answer_end++ = ' ';
+    for (size_t i = 0; i < size; i++) {
+        *answer_end++ = "0123456789abcdef"[made[i] / 16];
+        *answer_end++ = "0123456789abcdef"[made[i] % 16];
+    }
+}
+
+static void pack_case(void) { file_case(wes_pack_file); }
+static void unpack_case(void) { file_case(wes_unpack_file); }
+
 /* ---- Kinds */
 
 typedef struct {
@@ -236,6 +260,8 @@ static Kind kinds[] = {
     {"size", size_case, 0},
     {"export", export_case, 0},
     {"import", import_case, 0},
+    {"pack", pack_case, 0},
+    {"unpack", unpack_case, 0},
 };
 
 enum { KINDS = COUNT(kinds) };

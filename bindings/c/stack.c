@@ -85,6 +85,15 @@ static void drawn_list(void) {
         for (size_t i = 0; i < 4; i++) memcpy(eight + 8 * j + 2 * i, marks + 2 * (j + i / 2), 2 * sizeof *marks);
 }
 
+static void pack_file(void) { answer = wes_pack_file(file, file_size, text, sizeof text, &size); }
+
+/* Files that meet: the joined fit's. */
+static void packed_file(void) {
+    pack_file();
+    file_size = size;
+    memcpy(file, text, size);
+}
+
 static void export_path(void) { answer = wes_export_path(false, eight, 8 * LONG, made, false, text, sizeof text, &size); }
 
 static void drawn_text(void) {
@@ -94,6 +103,7 @@ static void drawn_text(void) {
 
 /* ---- The calls */
 
+static void unpack_file(void) { answer = wes_unpack_file(file, file_size, text, sizeof text, &size); }
 static void import_path(void) { answer = wes_import_path(text, size, curves, 9 * LONG, &made, &nine); }
 static void fit_joined(void) { fit_by(JOINED, marks); }
 static void fit_ring(void) { fit_by(RING, marks); }
@@ -159,6 +169,8 @@ static const struct {
     {"wes_check_list", eights, check_list},
     {"wes_write_file", all_marks, write_file},
     {"wes_read_file", curves_file, read_file},
+    {"wes_pack_file", curves_file, pack_file},
+    {"wes_unpack_file", packed_file, unpack_file},
     {"wes_fit_ring", all_marks, fit_ring},
     {"wes_check_worst_ring", all_marks, check_worst_ring},
     {"wes_check_ring", eights, check_ring},

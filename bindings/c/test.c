@@ -242,22 +242,41 @@ static uint8_t *put_numbers(uint8_t *to, const double *xs, size_t count) {
 
 unsigned kind_for(size_t n, size_t width) { return n <= NARROW_MARKS ? (width == 9 ? 6 : 3) : (width == 9 ? 7 : 5); }
 
+/* The tolerance and the marks, which every file begins with; and the parameters, which one with curves ends with. */
+static uint8_t *put_marks(uint8_t *to, double tolerance, const double *marks, size_t n) {
+    return put_numbers(put_head(put_numbers(put_head(to, 8, 1), &tolerance, 1), 16 * n, 2), marks, 2 * n);
+}
+
+static uint8_t *put_params(uint8_t *to, const double *params, size_t n) { return put_numbers(put_head(to, 8 * n, 4), params, n); }
+
 size_t compose_kind(uint8_t *to, unsigned kind, double tolerance, const double *marks, size_t n, size_t count, const uint32_t *firsts,
                     const uint32_t *worsts, const double *curves, const double *params) {
     bool nine = kind >= 6;
     size_t width = nine ? 9 : 8, number = kind == 3 || kind == 6 ? 2 : 4;
-    uint8_t *at = put_numbers(put_head(to, 8, 1), &tolerance, 1);
-    at = put_numbers(put_head(at, 16 * n, 2), marks, 2 * n);
+    uint8_t *at = put_marks(to, tolerance, marks, n);
     for (size_t j = 0; j < count; j++) {
         at = put(put_head(at, (nine ? 2 : 1) * number + 8 * width, kind), firsts[j], number);
         if (nine) at = put(at, worsts[j], number);
         at = put_numbers(at, curves + width * j, width);
     }
-    if (count > 0) at = put_numbers(put_head(at, 8 * n, 4), params, n);
+    if (count > 0) at = put_params(at, params, n);
     return (size_t)(at - to);
 }
 
 size_t compose(uint8_t *to, double tolerance, const double *marks, size_t n, size_t width, size_t count, const uint32_t *firsts,
                const uint32_t *worsts, const double *curves, const double *params) {
     return compose_kind(to, kind_for(n, width), tolerance, marks, n, count, firsts, worsts, curves, params);
+}
+
+size_t compose_packed(uint8_t *to, double tolerance, const double *marks, size_t n, size_t width, size_t count, const uint32_t *firsts,
+                      const uint32_t *worsts, const double *curves, const double *params) {
+    uint8_t *at = put_marks(to, tolerance, marks, n);
+    if (count == 0) return (size_t)(at - to);
+    at = put(put_head(at, 21 + (width == 9 ? 64 : 52) * count, 8), width == 9, 1);
+    at = put_numbers(put(at, firsts[0], 4), curves, 2);
+    for (size_t j = 0; j < count; j++) {
+        at = put_numbers(put(at, j + 1 < count ? firsts[j + 1] : n - 1, 4), curves + width * j + 2, width - 2);
+        if (width == 9) at = put(at, worsts[j], 4);
+    }
+    return (size_t)(put_params(at, params, n) - to);
 }

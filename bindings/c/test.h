@@ -121,6 +121,9 @@ double random_within(double low, double high);
 /* ---- House files. Reads a whole file; the program ends where it can't. */
 size_t load(const char *path, uint8_t *to, size_t room);
 
+/* A call from a file's bytes to a text, or to another file. */
+typedef uint32_t FileCall(const uint8_t *file, size_t file_len, uint8_t *out, size_t out_len, size_t *size);
+
 /* The kind of the records of curves with 8 or 9 numbers, where there are n marks. */
 unsigned kind_for(size_t n, size_t width);
 
@@ -132,5 +135,9 @@ size_t compose_kind(uint8_t *to, unsigned kind, double tolerance, const double *
 /* The same with the kind that suits; `width` is 8 or 9. */
 size_t compose(uint8_t *to, double tolerance, const double *marks, size_t n, size_t width, size_t count, const uint32_t *firsts,
                const uint32_t *worsts, const double *curves, const double *params);
+
+/* The same packed: each joint once, so of a curve behind the first its start is not looked at. */
+size_t compose_packed(uint8_t *to, double tolerance, const double *marks, size_t n, size_t width, size_t count, const uint32_t *firsts,
+                      const uint32_t *worsts, const double *curves, const double *params);
 
 #endif

@@ -3,13 +3,13 @@
    ANSWERS. A call answers 0, or the number of a refusal (WES_TOO_FEW and so on; README.md has them all). The checkers also answer a fault, which is
    its letter: 'A' to 'E'. Where a call refuses, every single value and every array of fixed length that it hands back is zeros (`made`, `point`, ..).
    Slices stay as they were, but 6 leaves every number of the slices lent to a fit zero. Where several refusals would do, the first of 9, 3, 1, 2, 4, 5 is
-   given, and 6 or 8 only where none of these is; wes_write_file, wes_export_path and wes_import_path have orders of their own.
+   given, and 6 or 8 only where none of these is; wes_write_file, wes_pack_file, wes_export_path and wes_import_path have orders of their own.
 
    RANGES, behind refusal 5. A coordinate is finite and at most 1,000,000 in magnitude, a tangent's component at most 2; a tolerance is finite and not below
    zero; a parameter or an estimate is finite; a dimension is 0 or 1; there are at most 64 rounds of Newton's.
 
    LIMITS, behind refusal 2. The fits by blocks, the checkers, wes_read_file and wes_write_file take up to 100,000 marks; wes_fit_curve_cubic and
-   wes_list_outline 512; wes_judge_file and wes_save_fit 4,096, and files of up to 434,120 bytes, with 9 above.
+   wes_list_outline 512; wes_judge_file and wes_save_fit 4,096, and files of up to 434,120 bytes, with 9 above; wes_pack_file and wes_unpack_file any number.
 
    SLICES. A slice is a pointer and how many elements it has (`marks`, `marks_len`). Marks are x and y in turn, so n marks are a slice of 2n numbers.
    An empty slice may be NULL with length 0. A call never reads or writes beyond a slice, whatever the numbers in it, and ends on every input.
@@ -61,7 +61,7 @@ enum {
     WES_BADLY_FORMED = 9,  /* a house file is badly formed, or its curves are not of the kind that suits its number of marks; or is too long for the call */
     WES_TOO_LARGE = 10,    /* a number of path data, or on the way to it, is above 1,000,000,000 in magnitude */
     WES_NO_PATH = 11,      /* a text is not path data that is read */
-    WES_NOT_JOINED = 12    /* no curves, or curves that do not meet bit for bit, on the way to path data */
+    WES_NOT_JOINED = 12    /* curves that do not meet bit for bit, on the way to path data or to a packed file; or none, on the way to path data */
 };
 
 /* ---- Fits: marks to curves.
@@ -158,7 +158,9 @@ uint32_t wes_nearest_point_on_curve_newton_raphson_with_estimate(const double cu
    A file of n marks has 20 + 16n bytes, and with k curves 6 + 8n more and for each curve
        82, or 72 of eight numbers, up to 4,096 marks: its record is of kind 6, or 3, and a mark's number has two bytes;
        86, or 74 of eight numbers, above: kind 7, or 5, and four bytes.
-   There are fewer curves than marks, so the longest file has 10,999,940 bytes, and 434,120 where it has 4,096 marks. */
+   There are fewer curves than marks, so the longest file has 10,999,940 bytes, and 434,120 where it has 4,096 marks.
+   A packed file has in place of its curves' records one of kind 8, with each joint once: 27 bytes, and for each curve 64, or 52 of eight numbers. Every call
+   that reads a file takes packed ones too, as the files that they were packed from. */
 
 /* Takes a file apart. For n marks and k curves lend 2n numbers in `marks`, k in `firsts`, 9k in `curves` and k in `worsts` (8k and none where `nine` is false),
    and n in `params`; a file without curves wants no room but that of its marks, and `nine` is false then. Files of no mark or one are taken. Refusals: 9, 2, 4;
@@ -186,6 +188,14 @@ uint32_t wes_judge_file(const uint8_t *file, size_t file_len, uint8_t *restrict 
 /* Fits a file's marks, up to 4,096, and writes them with their curves, as a file. 434,120 bytes are room for every file, and no longer one is taken; a refused
    one gives the text "REFUSED n\n" instead. Longer files: wes_read_file, wes_fit_joined, wes_write_file. */
 uint32_t wes_save_fit(const uint8_t *file, size_t file_len, uint8_t *restrict out, size_t out_len, size_t *restrict size);
+
+/* Packs a file, in the first `size` bytes of `out`: 9 bytes more than the file has are room for every one. A file without curves stays as it is. Refusals: 9 (also
+   a packed file with curves), 12 where a curve does not start with the very bits that the one before it ends with, 4, in this order. */
+uint32_t wes_pack_file(const uint8_t *file, size_t file_len, uint8_t *restrict out, size_t out_len, size_t *restrict size);
+
+/* Unpacks a file: gives the bytes that were packed, for which 22 more for each curve are room. A file without curves stays as it is. Refusals: 9 (also a
+   file with curves that is not packed), 4, in this order. */
+uint32_t wes_unpack_file(const uint8_t *file, size_t file_len, uint8_t *restrict out, size_t out_len, size_t *restrict size);
 
 /* ---- Path data, as SVG 1.1 has it: one subpath of absolute M, L, C and Z. */
 

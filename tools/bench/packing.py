@@ -35,7 +35,7 @@ def hold(paths, folder):
 # ---- one file
 
 def too_long(verb, name, data):
-    """What to say of a file that is longer than a line of replay holds; a broken one is refused all the same."""
+    """What to say of a file that is longer than a line of replay holds, or than replay has room for; a broken one is refused all the same."""
     held = house.parse(data) if len(data) <= files.LONGEST else None
     if held is None:
         return outline.Refused(NO_FILE)

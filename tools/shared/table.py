@@ -10,6 +10,7 @@ MOST_MARKS = 100000     # of the fits by blocks, of the list checker and of a ho
 BENCH_MARKS = 4096      # that the programs judge and save have room for
 LINE_MARKS = 21000      # that a line of replay holds
 LINE_BYTES = 4600000    # of such a line
+LINE_FILE = 1512000     # of a house file that it packs or unpacks
 MOST_DIRECT = 512       # marks of the direct fit and of the listing
 FITS = ('source', 'loop', 'direct', 'joined', 'ring')
 

@@ -1,5 +1,6 @@
 """Lines of `pack` and `unpack` for replay. The answers are by the document (shared/house.py), on the files of shared/pack_cases.py."""
 from shared import house, pack_cases
+from shared.table import LINE_FILE
 
 KINDS = tuple(pack_cases.CALLS)
 
@@ -9,7 +10,7 @@ def line(call, data):
 
 
 def answer(call, data):
-    made = pack_cases.either(pack_cases.CALLS[call], data)
+    made = pack_cases.either(pack_cases.CALLS[call], data, LINE_FILE)
     return f'0 {made.hex()}' if isinstance(made, bytes) else str(made)
 
 

@@ -20,9 +20,9 @@ const HEAD: usize = 6;
 /// The most marks of a file whose mark numbers have two bytes; above it they have four.
 const NARROW_MARKS: usize = 4096;
 
-/// The bytes of a curve's record, at least: of eight numbers, and of nine.
-const EIGHT: usize = record(false, 2);
-const NINE: usize = record(true, 2);
+/// The bytes of a curve in a packed file, of eight numbers and of nine. In no file it has fewer.
+pub(crate) const PACKED_EIGHT: usize = 52;
+const PACKED_NINE: usize = 64;
 
 /// The bytes of a curve's record, with mark numbers of so many.
 const fn record(nine: bool, number: usize) -> usize {
@@ -94,11 +94,11 @@ impl House {
     }
 }
 
-/// Takes a house file apart, of up to 100,000 marks.
+/// Takes a house file apart, packed or not, of up to 100,000 marks.
 pub fn read_file(file: &[u8]) -> Result<House, Refusal> {
     // The bytes of a file say how many marks and curves it has at most; more than the library takes are refused before room is asked for.
     let most = MOST_MARKS.min(file.len() / MARK);
-    let (eights, nines) = ((file.len() / EIGHT).min(most), (file.len() / NINE).min(most));
+    let (eights, nines) = ((file.len() / PACKED_EIGHT).min(most), (file.len() / PACKED_NINE).min(most));
     let (mut marks, mut curves, mut params) = (vec![Point::default(); most], vec![0.0; (8 * eights).max(9 * nines)], vec![0.0; most]);
     let (mut firsts, mut worsts) = (vec![0; eights], vec![0; nines]);
     let (mut tolerance, mut mark_count, mut curve_count, mut nine) = (0.0, 0, 0, false);
@@ -116,7 +116,7 @@ pub fn read_file(file: &[u8]) -> Result<House, Refusal> {
     Ok(House { tolerance, marks, nine, curves, firsts, worsts, params })
 }
 
-/// Puts a house file together: the bytes that [`read_file`] takes apart into the same numbers.
+/// Puts a house file together, which is not packed: the bytes that [`read_file`] takes apart into the same numbers.
 pub fn write_file(house: &House) -> Result<Vec<u8>, Refusal> {
     let House { tolerance, marks, nine, curves: c, firsts: f, worsts: w, params: p } = house;
     let m = numbers(marks);

@@ -19,7 +19,7 @@
 //! - Checkers, of any list of curves: [`Fit::check`], [`check_worst`], [`check_list`] and others.
 //! - One curve: [`basis`], [`subdivide4`], [`nearest_point_on_curve`] and others.
 //! - Path data for a cutter: [`Fit::export_path`], [`export_path`], [`import_path`].
-//! - House files: [`read_file`], [`write_file`], [`save_fit`], [`judge_file`], [`list_outline`].
+//! - House files: [`read_file`], [`write_file`], [`save_fit`], [`judge_file`], [`list_outline`]; for keeping [`pack_file`], [`unpack_file`].
 //! - [`sys`] has the library's own calls.
 //!
 //! A call ends on every input, and says no by a [`Refusal`]. Outlines, lists and house files have up to 100,000 marks; 512 are taken by [`fit_curve_cubic`] and
@@ -65,5 +65,5 @@ pub use numbers::{joined_blocks, max_points_to_fit, sqrt};
 pub use path::{export_path, import_path, Path};
 pub use point::{Curve, Point};
 pub use refusal::{Refusal, UnknownNumber};
-pub use text::{judge_file, list_outline, save_fit, Judgement};
+pub use text::{judge_file, list_outline, pack_file, save_fit, unpack_file, Judgement};
 pub use verdict::{Fault, FaultKind, Verdict};

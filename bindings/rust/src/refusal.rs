@@ -21,13 +21,14 @@ pub enum Refusal {
     NotFinite,
     /// The search for the nearest point went too deep.
     TooDeep,
-    /// A house file is badly formed, as one is whose curves' kind does not suit its number of marks, or too long for the call; or a house does not fit into a file.
+    /// A house file is badly formed, as one is whose curves' kind does not suit its number of marks, or too long for the call; or it was to be packed and is
+    /// packed, or to be unpacked and is not; or a house does not fit into a file.
     BadlyFormed,
     /// A number of path data, or on the way to it, is above 1,000,000,000 in magnitude.
     TooLarge,
     /// A text is not path data that is read.
     NoPath,
-    /// There are no curves, or they do not meet bit for bit, on the way to path data.
+    /// Curves do not meet bit for bit, on the way to path data or to a packed file; or there are none, on the way to path data.
     NotJoined,
 }
 

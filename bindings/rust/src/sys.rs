@@ -3,13 +3,13 @@
 //! A call answers 0 or the number of a refusal ([`Refusal::number`](crate::Refusal::number)); the checkers also the letter of a fault, in ASCII.
 //! Where a call refuses, every single value and every array of fixed length that it hands back is zeros; slices stay as they were, but refusal 6
 //! leaves every number of the slices lent to a fit zero. Where several refusals would do, the first of 9, 3, 1, 2, 4, 5 is given, and 6 or 8 only where
-//! none of these is; `wes_write_file`, `wes_export_path` and `wes_import_path` have orders of their own.
+//! none of these is; `wes_write_file`, `wes_pack_file`, `wes_export_path` and `wes_import_path` have orders of their own.
 //!
 //! A slice is a pointer and how many elements it has (`marks`, `marks_len`); marks are x and y in turn. For n marks a fit wants 9(n-1) numbers in
 //! `curves`, n-1 in `firsts` and in `worsts`, and n in `params`; for a ring 9n, n, n and n+1.
 //!
 //! More marks than a call takes are refusal 2: the fits by blocks, the checkers, `wes_read_file` and `wes_write_file` take 100,000, `wes_fit_curve_cubic` and
-//! `wes_list_outline` 512, `wes_judge_file` and `wes_save_fit` 4,096.
+//! `wes_list_outline` 512, `wes_judge_file` and `wes_save_fit` 4,096, `wes_pack_file` and `wes_unpack_file` any number.
 //!
 //! # Safety
 //!
@@ -29,7 +29,7 @@ pub type FitCall = unsafe extern "C" fn(
     worsts: *mut u32, worsts_len: usize, params: *mut f64, params_len: usize, made: *mut usize,
 ) -> u32;
 
-/// The type of the three calls from a house file's bytes to other bytes.
+/// The type of the five calls from a house file's bytes to other bytes.
 pub type FileCall = unsafe extern "C" fn(file: *const u8, file_len: usize, out: *mut u8, out_len: usize, size: *mut usize) -> u32;
 
 // Not formatted, so that a pointer and its length stay side by side, as in the header.
@@ -164,6 +164,15 @@ extern "C" {
     /// Fits a file's marks, up to 4,096, and writes them with their curves, as a file. 434,120 bytes are room for every file, and no longer one is
     /// taken; a refused one gives the text "REFUSED n\n" instead.
     pub fn wes_save_fit(file: *const u8, file_len: usize, out: *mut u8, out_len: usize, size: *mut usize) -> u32;
+
+    /// Packs a file, in the first `size` bytes of `out`: one record of kind 8, with each joint once, in place of those of its curves. 9 bytes more than
+    /// the file has are room for every one. A file without curves stays as it is. Refusals: 9 (also a packed file with curves), 12 where a curve does not
+    /// start with the very bits that the one before it ends with, 4, in this order.
+    pub fn wes_pack_file(file: *const u8, file_len: usize, out: *mut u8, out_len: usize, size: *mut usize) -> u32;
+
+    /// Unpacks a file: gives the bytes that were packed, for which 22 more for each curve are room. A file without curves stays as it is. Refusals: 9
+    /// (also a file with curves that is not packed), 4, in this order.
+    pub fn wes_unpack_file(file: *const u8, file_len: usize, out: *mut u8, out_len: usize, size: *mut usize) -> u32;
 
     // ---- path data, as SVG 1.1 has it: one subpath of absolute M, L, C and Z
 

@@ -1,4 +1,5 @@
 //! The calls from a house file's bytes to a text, or to another file.
+use crate::house::PACKED_EIGHT;
 use crate::refusal::{answered, given, Refusal};
 use crate::sys;
 use crate::verdict::{Fault, FaultKind};
@@ -7,6 +8,10 @@ use crate::verdict::{Fault, FaultKind};
 const LISTING_ROOM: usize = 78_233;
 const LINE_ROOM: usize = 64;
 const FILE_ROOM: usize = 434_120;
+
+/// By how many bytes a packed file can be longer than the file, and by how many for each curve the file can be longer than the packed one.
+const MORE_PACKED: usize = 9;
+const MORE_UNPACKED: usize = 22;
 
 /// What a refused file's answer begins with. No house file does: its first byte is 10, and other texts have other words.
 const REFUSED: &str = "REFUSED ";
@@ -87,4 +92,16 @@ fn unknown(line: &str) -> ! {
 /// [`read_file`](crate::read_file), [`fit_joined`](crate::fit_joined) and [`write_file`](crate::write_file).
 pub fn save_fit(file: &[u8]) -> Result<Vec<u8>, Refusal> {
     told(sys::wes_save_fit, file, FILE_ROOM)
+}
+
+/// Packs a house file of any length for keeping: one record, in which each joint stands once, in place of those of its curves. A file without curves stays as it
+/// is. Curves that do not meet bit for bit are [`Refusal::NotJoined`], and a packed file with curves is [`Refusal::BadlyFormed`].
+pub fn pack_file(file: &[u8]) -> Result<Vec<u8>, Refusal> {
+    told(sys::wes_pack_file, file, file.len() + MORE_PACKED)
+}
+
+/// Unpacks a house file: gives the bytes that [`pack_file`] was given. A file without curves stays as it is, and one with curves that is not packed is
+/// [`Refusal::BadlyFormed`]. Nothing has to be unpacked to be read: [`read_file`](crate::read_file) and all calls on files take packed ones too.
+pub fn unpack_file(file: &[u8]) -> Result<Vec<u8>, Refusal> {
+    told(sys::wes_unpack_file, file, file.len() + MORE_UNPACKED * (file.len() / PACKED_EIGHT))
 }

@@ -259,6 +259,11 @@ fn files_are_written_read_and_checked() {
         assert!(read == house, "{name}: other numbers");
         assert_eq!(read.check(), Ok(Verdict::Sound), "{name}");
         assert!(write_file(&read).as_ref() == Ok(&file), "{name}: other bytes from what was read");
+        let packed = pack_file(&file).unwrap();
+        let (n, per) = (house.marks.len(), if house.nine { 64 } else { 52 });
+        assert_eq!(packed.len(), 20 + 24 * n + 33 + per * house.len(), "{name}: packed");
+        assert!(unpack_file(&packed).as_ref() == Ok(&file), "{name}: other bytes from what was packed");
+        assert!(read_file(&packed).as_ref() == Ok(&house), "{name}: other numbers from what was packed");
         let refusal = if file.len() > 434_120 { Some(Refusal::BadlyFormed) } else { Some(Refusal::TooMany).filter(|_| house.marks.len() > 4096) };
         assert_eq!((judge_file(&file).err(), save_fit(&file).err()), (refusal, refusal), "{name}");
     }

@@ -5,6 +5,8 @@
 // 0 lists the file, and writes the text, or 4 where there is no room for it. 1 reads the file and writes it again: 0, the marks, the curves, and
 // the writer's 0 and bytes, or a refusal in place of either; a line `DIFFERS` follows where the bytes are not the file's. 2 reads every
 // prefix, and 3 every change of one of the bytes that are given: how many were answered with 0, 2, 4 and 9. 4 does as 1, with a first worst mark that two bytes do not hold, and 5 with such a first first mark.
+// 6 packs the file and 7 unpacks it, into bytes that are all 7: 0 and the bytes, or the refusal, and behind either a digest of all bytes that were lent. 8 unpacks every prefix, and 9 every
+// change, as 2 and 3 read them.
 ghost use Prim.Native.Nat.{_<_};
 ghost use lib.ListN.{length};
 use cases::parts::front_bytes;
@@ -16,7 +18,9 @@ use form::Form;
 use libc::STDIN_FILENO;
 use libc::STDOUT_FILENO;
 use lines::Listed;
+use packer::pack_file;
 use reader::Read;
+use unpacker::unpack_file;
 use writer::Wrote;
 
 // The room for a file, for what is written, for marks and curves, for first marks and for parameters. A file of 100,001 marks is only refused: nothing of it is read.
@@ -29,6 +33,15 @@ const NUMBERS: usize = 10240;
 const FIRSTS: usize = 1024;
 
 const PARAMS: usize = 5120;
+
+// What to do, of the numbers that are asked for by name.
+const PREFIXES: u64 = 2;
+
+const PACK: u64 = 6;
+
+const UNPACK: u64 = 7;
+
+const UNPACK_PREFIXES: u64 = 8;
 
 // Where the bytes that are given of a file end, begin and end again twice, and how long it is.
 struct Runs {
@@ -100,14 +113,41 @@ fn read_answer(
     }
 }
 
-// Every prefix, the file itself not among them.
-fn prefixes(
+// The number of the unpacker's answer.
+fn unpack_answer(file: &[u8], out: &mut [u8]) -> u32 {
+    match unpack_file(file, out) {
+        Listed::Bytes(_) => 0,
+        Listed::Refused(q) => q,
+    }
+}
+
+// The number of the answer of the one or the other.
+fn answer_of(
+    what: u64,
     file: &[u8],
     marks: &mut [u64],
     firsts: &mut [u32],
     worsts: &mut [u32],
     curves: &mut [u64],
     params: &mut [u64],
+    out: &mut [u8],
+) -> u32 {
+    if what < UNPACK_PREFIXES {
+        return read_answer(file, marks, firsts, worsts, curves, params);
+    }
+    unpack_answer(file, out)
+}
+
+// Every prefix, the file itself not among them.
+fn prefixes(
+    what: u64,
+    file: &[u8],
+    marks: &mut [u64],
+    firsts: &mut [u32],
+    worsts: &mut [u32],
+    curves: &mut [u64],
+    params: &mut [u64],
+    out: &mut [u8],
 ) -> Tally {
     let mut t = Tally {
         taken: 0,
@@ -118,11 +158,12 @@ fn prefixes(
     let mut i: usize = 0;
     let from: usize = 0;
     while i < file.len() {
+        let next = i + 1;
         t = count(
             t,
-            read_answer(&file[from..i], marks, firsts, worsts, curves, params),
+            answer_of(what, &file[from..i], marks, firsts, worsts, curves, params, out),
         );
-        i += 1;
+        i = next;
     }
     t
 }
@@ -146,6 +187,7 @@ fn values_at(runs: Runs, at: usize) -> u64 {
 
 // The other ones of so many values of the byte at `at`.
 fn change_at(
+    what: u64,
     file: &mut [u8],
     at: usize,
     values: u64,
@@ -155,6 +197,7 @@ fn change_at(
     worsts: &mut [u32],
     curves: &mut [u64],
     params: &mut [u64],
+    out: &mut [u8],
 ) -> Tally
     requires { ⌜ at < length (now file) ⌝ }
 {
@@ -162,9 +205,13 @@ fn change_at(
     let mut t = start;
     let mut d: u64 = 1;
     while d < values {
+        let next = d + 1;
         file[at] = turned(was, d);
-        t = count(t, read_answer(file, marks, firsts, worsts, curves, params));
-        d += 1;
+        t = count(
+            t,
+            answer_of(what, file, marks, firsts, worsts, curves, params, out),
+        );
+        d = next;
     }
     file[at] = was;
     t
@@ -172,6 +219,7 @@ fn change_at(
 
 // Every change of one byte that is given.
 fn changes(
+    what: u64,
     runs: Runs,
     file: &mut [u8],
     marks: &mut [u64],
@@ -179,6 +227,7 @@ fn changes(
     worsts: &mut [u32],
     curves: &mut [u64],
     params: &mut [u64],
+    out: &mut [u8],
 ) -> Tally {
     let mut t = Tally {
         taken: 0,
@@ -188,9 +237,10 @@ fn changes(
     };
     let mut i: usize = 0;
     while i < file.len() {
+        let next = i + 1;
         let values = values_at(runs, i);
-        t = change_at(file, i, values, t, marks, firsts, worsts, curves, params);
-        i += 1;
+        t = change_at(what, file, i, values, t, marks, firsts, worsts, curves, params, out);
+        i = next;
     }
     t
 }
@@ -329,6 +379,54 @@ fn list(file: &[u8], out: &mut [u8]) {
     }
 }
 
+fn wide(x: u8) -> u64 {
+    x as u64
+}
+
+// A digest of all bytes.
+fn digest(xs: &[u8]) -> u64 {
+    let mut h: u64 = 0;
+    let mut i: usize = 0;
+    while i < xs.len() {
+        h = cases::mix(h, wide(xs[i]));
+        i += 1;
+    }
+    h
+}
+
+fn print_digest(xs: &[u8]) {
+    io::write_all(STDOUT_FILENO, b" ");
+    io::print_hex(STDOUT_FILENO, digest(xs), 16);
+    cases::end_line();
+}
+
+// The answer of either way, without the end of its line.
+fn print_packing(made: Listed) {
+    match made {
+        Listed::Bytes(n) => {
+            cases::print_count(0);
+            print_next(n as u64);
+        }
+        Listed::Refused(q) => {
+            cases::print_count(q as u64);
+        }
+    }
+}
+
+fn packed_or_unpacked(what: u64, file: &[u8], out: &mut [u8]) -> Listed {
+    if what == PACK {
+        return pack_file(file, out);
+    }
+    unpack_file(file, out)
+}
+
+// The file, packed or unpacked, and all that was lent.
+fn pack(what: u64, file: &[u8], out: &mut [u8]) {
+    let made = packed_or_unpacked(what, file, out);
+    print_packing(made);
+    print_digest(out);
+}
+
 // The word of a record's head that says a length.
 fn length_at(head: &[u8; 104], at: usize) -> usize {
     cases::word(head, at) as usize
@@ -368,6 +466,11 @@ fn list_record(head: &[u8; 104], file: &[u8]) {
     list(file, lent_bytes(&mut out, length_at(head, 96)));
 }
 
+fn pack_record(what: u64, head: &[u8; 104], file: &[u8]) {
+    let mut out = [7u8; WRITTEN];
+    pack(what, file, lent_bytes(&mut out, length_at(head, 96)));
+}
+
 fn write_record(what: u64, head: &[u8; 104], file: &[u8]) {
     let mut marks = [0u64; NUMBERS];
     let mut firsts = [0u32; FIRSTS];
@@ -397,11 +500,12 @@ fn tallied(
     worsts: &mut [u32],
     curves: &mut [u64],
     params: &mut [u64],
+    out: &mut [u8],
 ) -> Tally {
-    if what == 2 {
-        return prefixes(file, marks, firsts, worsts, curves, params);
+    if (what == PREFIXES) | (what == UNPACK_PREFIXES) {
+        return prefixes(what, file, marks, firsts, worsts, curves, params, out);
     }
-    changes(runs, file, marks, firsts, worsts, curves, params)
+    changes(what, runs, file, marks, firsts, worsts, curves, params, out)
 }
 
 fn tally_record(what: u64, head: &[u8; 104], file: &mut [u8]) {
@@ -410,6 +514,7 @@ fn tally_record(what: u64, head: &[u8; 104], file: &mut [u8]) {
     let mut worsts = [0u32; FIRSTS];
     let mut curves = [0u64; NUMBERS];
     let mut params = [0u64; PARAMS];
+    let mut out = [0u8; WRITTEN];
     let t = tallied(
         what,
         runs_of(head),
@@ -419,6 +524,7 @@ fn tally_record(what: u64, head: &[u8; 104], file: &mut [u8]) {
         lent_firsts(&mut worsts, length_at(head, 72)),
         lent_words(&mut curves, length_at(head, 80)),
         lent_words(&mut params, length_at(head, 88)),
+        lent_bytes(&mut out, length_at(head, 96)),
     );
     print_tally(t);
 }
@@ -430,6 +536,8 @@ fn record(head: &[u8; 104], file: &mut [u8]) {
         1 => write_record(1, head, file),
         4 => write_record(4, head, file),
         5 => write_record(5, head, file),
+        PACK => pack_record(PACK, head, file),
+        UNPACK => pack_record(UNPACK, head, file),
         what => tally_record(what, head, file),
     }
 }

@@ -1,10 +1,13 @@
 // A line, answered by the kind that its first word names.
 use crate::kind::EXPORT;
+use crate::kind::PACK;
 use crate::kind::SINGLE_KINDS;
+use crate::kind::UNPACK;
 use crate::kind::kind_of;
 use crate::listing;
 use crate::outline;
 use crate::outline::Fit;
+use crate::packing;
 use crate::paths;
 use crate::room;
 use crate::single;
@@ -66,6 +69,12 @@ fn long_case(kind: usize, line: &mut [u8], end: usize) -> bool {
     case_in(kind, line, end, &mut curves)
 }
 
+// The room is no larger than that of `long_case`, and made as it is: where the compiler makes one function of both, it gives them one place.
+fn file_case(packs: bool, line: &mut [u8], end: usize) -> bool {
+    let mut out = room::file();
+    packing::packing_case(packs, line, end, &mut out)
+}
+
 // Whether a line is a case.
 fn answered(line: &mut [u8]) -> bool {
     let from: usize = 0;
@@ -73,6 +82,9 @@ fn answered(line: &mut [u8]) -> bool {
     let kind = kind_of(&line[from..end]);
     if kind < SINGLE_KINDS {
         return single_case(kind, line, end);
+    }
+    if (kind == PACK) | (kind == UNPACK) {
+        return file_case(kind == PACK, line, end);
     }
     if room::is_short(line) {
         short_case(kind, line, end)

@@ -1,4 +1,5 @@
 // Numbers as words of an answer.
+ghost use Prim.Native.Nat.{_<_, _≤_};
 use libc::STDOUT_FILENO;
 use plane::Curve;
 use plane::Point;
@@ -31,6 +32,44 @@ pub fn print_curve(c: Curve) {
     print_point(c.cp1);
     print_point(c.cp2);
     print_point(c.end);
+}
+
+fn wide(x: u8) -> u64
+    ensures { λ r. ⌜ r < 256 ⌝ }
+{
+    x as u64
+}
+
+// At most eight bytes, two digits each.
+fn print_piece(piece: &[u8]) {
+    let mut x: u64 = 0;
+    let mut i: usize = 0;
+    while i < piece.len() {
+        x = x % 0x100_0000_0000_0000 * 256 + wide(piece[i]);
+        i += 1;
+    }
+    io::print_hex(STDOUT_FILENO, x, 2 * piece.len());
+}
+
+// Where eight bytes end, or fewer at the end of all.
+fn piece_end(from: usize, end: usize) -> usize
+    requires { ⌜ from < end ⌝ }
+    ensures { λ r. ⌜ (from < r) × (r ≤ end) ⌝ }
+{
+    if end - from < 8 {
+        return end;
+    }
+    from + 8
+}
+
+// Every byte of a slice.
+pub fn print_bytes(xs: &[u8]) {
+    let mut from: usize = 0;
+    while from < xs.len() {
+        let to = piece_end(from, xs.len());
+        print_piece(&xs[from..to]);
+        from = to;
+    }
 }
 
 // An accepted case begins with 0.

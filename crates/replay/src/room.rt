@@ -24,6 +24,13 @@ const SHORT: usize = 8192;
 
 const SHORT_CURVES: usize = 8 * 2048;
 
+// A house file that was packed or unpacked has as many bytes as the curves of other kinds.
+pub const FILE: usize = 8 * CURVES;
+
+pub fn file() -> [u8; FILE] {
+    [0; FILE]
+}
+
 pub fn line() -> [u8; LINE] {
     [0; LINE]
 }

@@ -22,6 +22,8 @@ ghost use Rattle.writer.specs.Writer.{writeOf};
 ghost use Rattle.outline.specs.Outline.{listingOf};
 ghost use Rattle.verdict.specs.Verdict.{judgementOf};
 ghost use Rattle.saving.specs.Saving.{savedOf};
+ghost use Rattle.packer.specs.Packer.{packOf};
+ghost use Rattle.unpacker.specs.Unpacker.{unpackOf};
 ghost use Rattle.export.specs.Export.{exportOf};
 ghost use Rattle.import.specs.Import.{importOf};
 ghost use Rattle.border.specs.Crossing.{outlineFor, formFor, crossed, numberCrossed, pointCrossed, coefficientsCrossed, parts, halvesCrossed, nearest, nearestCrossed, verdictCrossed, found, drawn};
@@ -423,6 +425,24 @@ pub extern "C" fn wes_save_fit(file: &[u8], out: &mut [u8], size: &mut usize) ->
     ensures { λ r. ⌜ bytesLeft (crossed r (now (size .exit))) (now (out .exit)) ≡ leftWithText (handOver (savedOf (now (file .entry))) (now (out .entry))) ⌝ }
 {
     let answer = saving::save_fit(file, out);
+    border::put_listed(answer, size)
+}
+
+// A file, packed: each joint once.
+#[no_mangle]
+pub extern "C" fn wes_pack_file(file: &[u8], out: &mut [u8], size: &mut usize) -> u32
+    ensures { λ r. ⌜ bytesLeft (crossed r (now (size .exit))) (now (out .exit)) ≡ leftWithText (packOf (now (file .entry)) (now (out .entry))) ⌝ }
+{
+    let answer = packer::pack_file(file, out);
+    border::put_listed(answer, size)
+}
+
+// A packed file, unpacked.
+#[no_mangle]
+pub extern "C" fn wes_unpack_file(file: &[u8], out: &mut [u8], size: &mut usize) -> u32
+    ensures { λ r. ⌜ bytesLeft (crossed r (now (size .exit))) (now (out .exit)) ≡ leftWithText (unpackOf (now (file .entry)) (now (out .entry))) ⌝ }
+{
+    let answer = unpacker::unpack_file(file, out);
     border::put_listed(answer, size)
 }
 

@@ -3,29 +3,29 @@
 use crate::wave;
 use wesalondo::*;
 
-const KINDS: [u16; 4] = [3, 5, 6, 7];
+pub const KINDS: [u16; 4] = [3, 5, 6, 7];
 
 fn is_wide(kind: u16) -> bool {
     kind == 5 || kind == 7
 }
 
-fn suits(kind: u16, n: usize) -> bool {
+pub fn suits(kind: u16, n: usize) -> bool {
     is_wide(kind) == (n > 4096)
 }
 
 /// A house with two curves: the largest mark numbers that a field of this kind holds, and numbers of no account.
-fn house(kind: u16, n: usize) -> House {
+pub fn house(kind: u16, n: usize) -> House {
     let (nine, largest) = (kind >= 6, if is_wide(kind) { u32::MAX } else { 65_535 });
     let curves = (0..if nine { 18 } else { 16 }).map(|i| f64::from(i) - 0.5).collect();
     let params = (0..n).map(|i| i as f64).collect();
     House { tolerance: 0.25, marks: wave(n), nine, curves, firsts: vec![largest, 1], worsts: if nine { vec![2, largest] } else { vec![] }, params }
 }
 
-fn record(kind: u16, body: &[u8]) -> Vec<u8> {
+pub fn record(kind: u16, body: &[u8]) -> Vec<u8> {
     [&(2 + body.len() as u32).to_le_bytes()[..], &kind.to_le_bytes(), body].concat()
 }
 
-fn bytes(numbers: &[f64]) -> Vec<u8> {
+pub fn bytes(numbers: &[f64]) -> Vec<u8> {
     numbers.iter().flat_map(|x| x.to_le_bytes()).collect()
 }
 
@@ -38,12 +38,12 @@ fn curve(house: &House, kind: u16, j: usize) -> Vec<u8> {
 }
 
 /// The bytes of a house's file, its curves in these records.
-fn file(house: &House, records: &[Vec<u8>]) -> Vec<u8> {
+pub fn file(house: &House, records: &[Vec<u8>]) -> Vec<u8> {
     let marks = record(2, &bytes(&crate::common::flat(&house.marks)));
     [record(1, &house.tolerance.to_le_bytes()), marks, records.concat(), record(4, &bytes(&house.params))].concat()
 }
 
-fn file_of(house: &House, kind: u16) -> Vec<u8> {
+pub fn file_of(house: &House, kind: u16) -> Vec<u8> {
     file(house, &[curve(house, kind, 0), curve(house, kind, 1)])
 }
 

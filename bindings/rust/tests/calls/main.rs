@@ -5,6 +5,7 @@ mod common;
 mod files;
 mod fits;
 mod kinds;
+mod packing;
 mod paths;
 mod single;
 mod texts;

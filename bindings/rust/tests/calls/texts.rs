@@ -25,7 +25,7 @@ fn refused_files() -> [(Vec<u8>, [Option<Refusal>; 3]); 8] {
 }
 
 /// A raw call into so many bytes: its answer, and what it wrote. Where it refuses, the bytes stay and the size is 0.
-fn raw(call: sys::FileCall, file: &[u8], room: usize) -> (u32, Vec<u8>) {
+pub fn raw(call: sys::FileCall, file: &[u8], room: usize) -> (u32, Vec<u8>) {
     let (mut out, mut size) = (vec![9; room], 7);
     // SAFETY: each pointer is to that many bytes, all apart.
     let answer = unsafe { call(file.as_ptr(), file.len(), out.as_mut_ptr(), out.len(), &mut size) };
@@ -102,7 +102,7 @@ fn judgements() {
 #[test]
 fn the_examples() {
     let folder = concat!(env!("CARGO_MANIFEST_DIR"), "/../../examples");
-    let (mut passed, mut refused) = (0, vec![]);
+    let (mut passed, mut with_curves, mut refused) = (0, 0, vec![]);
     for entry in std::fs::read_dir(folder).unwrap() {
         let path = entry.unwrap().path();
         if path.extension().is_none_or(|extension| extension != "house") {
@@ -110,9 +110,13 @@ fn the_examples() {
         }
         let file = std::fs::read(&path).unwrap();
         let house = read_file(&file).unwrap();
-        assert_eq!(write_file(&house).as_ref(), Ok(&file), "{}", path.display());
-        let marks = house.marks.len();
-        assert_eq!(judge_file(&file), if marks > 4096 { Err(Refusal::TooMany) } else { Ok(Judgement::NoCurves { marks }) });
+        // One example has curves, and that one is packed; all others stay as they are.
+        assert_eq!(write_file(&house), unpack_file(&file), "{}", path.display());
+        assert_eq!(pack_file(&write_file(&house).unwrap()).as_ref(), Ok(&file), "{}", path.display());
+        let (marks, curves) = (house.marks.len(), house.len());
+        with_curves += usize::from(curves > 0);
+        let judged = if curves > 0 { Judgement::Passed { marks, curves } } else { Judgement::NoCurves { marks } };
+        assert_eq!(judge_file(&file), if marks > 4096 { Err(Refusal::TooMany) } else { Ok(judged) });
         match save_fit(&file) {
             Ok(saved) => {
                 let fit = fit_joined(&house.marks, house.tolerance).unwrap();
@@ -129,6 +133,7 @@ fn the_examples() {
         }
     }
     refused.sort_unstable();
-    assert!(passed >= 7, "{passed} examples passed");
+    assert!(passed >= 8, "{passed} examples passed");
+    assert_eq!(with_curves, 1, "cushion.house");
     assert_eq!(refused, [2, 5, 6], "examples/README.md names those that are refused");
 }

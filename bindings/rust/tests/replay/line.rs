@@ -89,6 +89,8 @@ pub fn answer_of(kind: &str, words: &mut Words) -> String {
         "check_worst" => checked(words, false, true, check_worst),
         "check_worst_ring" => checked(words, true, true, check_worst_ring),
         "export" => exported(words),
+        "pack" => converted(words, pack_file),
+        "unpack" => converted(words, unpack_file),
         other => panic!("the kind {other} is not known"),
     };
     assert_eq!(words.0.next(), None, "a word of {kind} is left");
@@ -124,6 +126,16 @@ fn exported(words: &mut Words) -> String {
     let text = answer.as_deref().unwrap_or_default();
     assert_eq!((number, &out[..size]), (answer.as_ref().map_or_else(|refusal| refusal.number(), |_| 0), text.as_bytes()));
     answer.map_or_else(|refusal| refusal.number().to_string(), |text| format!("0 {text}"))
+}
+
+/// A house file packed or unpacked, both by two digits a byte.
+fn converted(words: &mut Words, call: fn(&[u8]) -> Result<Vec<u8>, Refusal>) -> String {
+    let digits = words.word().as_bytes().chunks(2).map(|pair| std::str::from_utf8(pair).unwrap());
+    let file: Vec<u8> = digits.map(|pair| u8::from_str_radix(pair, 16).unwrap_or_else(|_| panic!("{pair} is no byte"))).collect();
+    match call(&file) {
+        Ok(made) => format!("0 {}", made.iter().map(|byte| format!("{byte:02x}")).collect::<String>()),
+        Err(refusal) => refusal.number().to_string(),
+    }
 }
 
 /// What path data draws, in a line of answer.

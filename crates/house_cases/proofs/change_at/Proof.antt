@@ -7,10 +7,10 @@ use Rattle.house_cases.proofs.change_at.Statement.{statement}
 use Rattle.house_cases.proofs.change_at.Tie as tie
 
 abbrev Inv-loop : tie.InvT-loop
-Inv-loop file₀ at values marks₀ firsts₀ worsts₀ curves₀ params₀ was t₀ d₀ file marks firsts worsts curves params t d = (length file ≡ length file₀) × (length marks ≡ length marks₀) × (length firsts ≡ length firsts₀) × (length worsts ≡ length worsts₀) × (length curves ≡ length curves₀) × (length params ≡ length params₀)
+Inv-loop what file₀ at values marks₀ firsts₀ worsts₀ curves₀ params₀ out₀ was t₀ d₀ file marks firsts worsts curves params out t d = (length file ≡ length file₀) × (length marks ≡ length marks₀) × (length firsts ≡ length firsts₀) × (length worsts ≡ length worsts₀) × (length curves ≡ length curves₀) × (length params ≡ length params₀) × (length out ≡ length out₀)
 
 abbrev μ-loop : tie.MeasureT-loop
-μ-loop file₀ at values marks₀ firsts₀ worsts₀ curves₀ params₀ was t₀ d₀ file marks firsts worsts curves params t d = values - d
+μ-loop what file₀ at values marks₀ firsts₀ worsts₀ curves₀ params₀ out₀ was t₀ d₀ file marks firsts worsts curves params out t d = values - d
 
 slice-read-was : tie.Need-slice-read-was Inv-loop μ-loop
 slice-read-was c = search needs
@@ -18,26 +18,26 @@ slice-read-was c = search needs
 loop-holds : tie.Need-loop-holds Inv-loop μ-loop
 loop-holds c = search needs
 
+add-next : tie.Need-add-next Inv-loop μ-loop
+add-next c = search needs
+
 turned-requires : tie.Need-turned-requires Inv-loop μ-loop
 turned-requires c κs = search needs
 
 slice-write-file : tie.Need-slice-write-file Inv-loop μ-loop
 slice-write-file c = search needs
 
-read-answer-requires : tie.Need-read-answer-requires Inv-loop μ-loop
-read-answer-requires c κs = search needs
+answer-of-requires : tie.Need-answer-of-requires Inv-loop μ-loop
+answer-of-requires c κs = search needs
 
 count-requires : tie.Need-count-requires Inv-loop μ-loop
 count-requires c κs = search needs
-
-add-d : tie.Need-add-d Inv-loop μ-loop
-add-d c = search needs
 
 loop-less : tie.Need-loop-less Inv-loop μ-loop
 loop-less c = search needs
 
 loop-again : tie.Need-loop-again Inv-loop μ-loop
-loop-again c = (simp length-set (c .before .before .before .before .before .before .before .before .before .before .before .before .before .before .before .before .before .before .before .before .loop .inv .0), search needs, search needs, search needs, search needs, search needs)
+loop-again c = (simp length-set (c .before .before .before .before .before .before .before .before .before .before .before .before .before .before .before .before .before .before .before .before .before .before .before .loop .inv .0), search needs, search needs, search needs, search needs, search needs, search needs)
 
 slice-write-file-2 : tie.Need-slice-write-file-2 Inv-loop μ-loop
 slice-write-file-2 c = search needs
@@ -60,6 +60,9 @@ same-length-5 c = search needs
 same-length-6 : tie.Need-same-length-6 Inv-loop μ-loop
 same-length-6 c = search needs
 
+same-length-7 : tie.Need-same-length-7 Inv-loop μ-loop
+same-length-7 c = search needs
+
 returns : tie.Need-returns Inv-loop μ-loop
 returns c = search needs
 
@@ -71,11 +74,11 @@ change-at-spec =
     μ-loop
     slice-read-was
     loop-holds
+    add-next
     turned-requires
     slice-write-file
-    read-answer-requires
+    answer-of-requires
     count-requires
-    add-d
     loop-less
     loop-again
     slice-write-file-2
@@ -85,4 +88,5 @@ change-at-spec =
     same-length-4
     same-length-5
     same-length-6
+    same-length-7
     returns)

@@ -7,22 +7,22 @@ use Rattle.house_cases.proofs.changes.Statement.{statement}
 use Rattle.house_cases.proofs.changes.Tie as tie
 
 abbrev Inv-loop : tie.InvT-loop
-Inv-loop runs file₀ marks₀ firsts₀ worsts₀ curves₀ params₀ t₀ i₀ file marks firsts worsts curves params t i = (i ≤ length file) × (length file ≡ length file₀) × (length marks ≡ length marks₀) × (length firsts ≡ length firsts₀) × (length worsts ≡ length worsts₀) × (length curves ≡ length curves₀) × (length params ≡ length params₀)
+Inv-loop what runs file₀ marks₀ firsts₀ worsts₀ curves₀ params₀ out₀ t₀ i₀ file marks firsts worsts curves params out t i = (i ≤ length file) × (length file ≡ length file₀) × (length marks ≡ length marks₀) × (length firsts ≡ length firsts₀) × (length worsts ≡ length worsts₀) × (length curves ≡ length curves₀) × (length params ≡ length params₀) × (length out ≡ length out₀)
 
 abbrev μ-loop : tie.MeasureT-loop
-μ-loop runs file₀ marks₀ firsts₀ worsts₀ curves₀ params₀ t₀ i₀ file marks firsts worsts curves params t i = length file - i
+μ-loop what runs file₀ marks₀ firsts₀ worsts₀ curves₀ params₀ out₀ t₀ i₀ file marks firsts worsts curves params out t i = length file - i
 
 loop-holds : tie.Need-loop-holds Inv-loop μ-loop
 loop-holds c = search needs
+
+add-next : tie.Need-add-next Inv-loop μ-loop
+add-next c = search needs
 
 values-at-requires : tie.Need-values-at-requires Inv-loop μ-loop
 values-at-requires c κs = search needs
 
 change-at-requires : tie.Need-change-at-requires Inv-loop μ-loop
 change-at-requires c κs = search needs
-
-add-i : tie.Need-add-i Inv-loop μ-loop
-add-i c = search needs
 
 loop-less : tie.Need-loop-less Inv-loop μ-loop
 loop-less c = search needs
@@ -48,6 +48,9 @@ same-length-5 c = search needs
 same-length-6 : tie.Need-same-length-6 Inv-loop μ-loop
 same-length-6 c = search needs
 
+same-length-7 : tie.Need-same-length-7 Inv-loop μ-loop
+same-length-7 c = search needs
+
 returns : tie.Need-returns Inv-loop μ-loop
 returns c = search needs
 
@@ -58,9 +61,9 @@ changes-spec =
     Inv-loop
     μ-loop
     loop-holds
+    add-next
     values-at-requires
     change-at-requires
-    add-i
     loop-less
     loop-again
     same-length
@@ -69,4 +72,5 @@ changes-spec =
     same-length-4
     same-length-5
     same-length-6
+    same-length-7
     returns)

@@ -7,31 +7,31 @@ use Rattle.house_cases.proofs.prefixes.Statement.{statement}
 use Rattle.house_cases.proofs.prefixes.Tie as tie
 
 abbrev Inv-loop : tie.InvT-loop
-Inv-loop file marks₀ firsts₀ worsts₀ curves₀ params₀ t₀ i₀ from marks firsts worsts curves params t i = (from ≡ 0) × (i ≤ length file) × (length marks ≡ length marks₀) × (length firsts ≡ length firsts₀) × (length worsts ≡ length worsts₀) × (length curves ≡ length curves₀) × (length params ≡ length params₀)
+Inv-loop what file marks₀ firsts₀ worsts₀ curves₀ params₀ out₀ t₀ i₀ from marks firsts worsts curves params out t i = (from ≡ 0) × (i ≤ length file) × (length marks ≡ length marks₀) × (length firsts ≡ length firsts₀) × (length worsts ≡ length worsts₀) × (length curves ≡ length curves₀) × (length params ≡ length params₀) × (length out ≡ length out₀)
 
 abbrev μ-loop : tie.MeasureT-loop
-μ-loop file marks₀ firsts₀ worsts₀ curves₀ params₀ t₀ i₀ from marks firsts worsts curves params t i = length file - i
+μ-loop what file marks₀ firsts₀ worsts₀ curves₀ params₀ out₀ t₀ i₀ from marks firsts worsts curves params out t i = length file - i
 
 loop-holds : tie.Need-loop-holds Inv-loop μ-loop
 loop-holds c = search needs
 
-sub-read-answer : tie.Need-sub-read-answer Inv-loop μ-loop
-sub-read-answer c = search needs
+add-next : tie.Need-add-next Inv-loop μ-loop
+add-next c = search needs
 
-part-read-answer-start : tie.Need-part-read-answer-start Inv-loop μ-loop
-part-read-answer-start c = search needs
+sub-answer-of : tie.Need-sub-answer-of Inv-loop μ-loop
+sub-answer-of c = search needs
 
-part-read-answer-end : tie.Need-part-read-answer-end Inv-loop μ-loop
-part-read-answer-end c = search needs
+part-answer-of-start : tie.Need-part-answer-of-start Inv-loop μ-loop
+part-answer-of-start c = search needs
 
-read-answer-requires : tie.Need-read-answer-requires Inv-loop μ-loop
-read-answer-requires c κs = search needs
+part-answer-of-end : tie.Need-part-answer-of-end Inv-loop μ-loop
+part-answer-of-end c = search needs
+
+answer-of-requires : tie.Need-answer-of-requires Inv-loop μ-loop
+answer-of-requires c κs = search needs
 
 count-requires : tie.Need-count-requires Inv-loop μ-loop
 count-requires c κs = search needs
-
-add-i : tie.Need-add-i Inv-loop μ-loop
-add-i c = search needs
 
 loop-less : tie.Need-loop-less Inv-loop μ-loop
 loop-less c = search needs
@@ -54,6 +54,9 @@ same-length-4 c = search needs
 same-length-5 : tie.Need-same-length-5 Inv-loop μ-loop
 same-length-5 c = search needs
 
+same-length-6 : tie.Need-same-length-6 Inv-loop μ-loop
+same-length-6 c = search needs
+
 returns : tie.Need-returns Inv-loop μ-loop
 returns c = search needs
 
@@ -64,12 +67,12 @@ prefixes-spec =
     Inv-loop
     μ-loop
     loop-holds
-    sub-read-answer
-    part-read-answer-start
-    part-read-answer-end
-    read-answer-requires
+    add-next
+    sub-answer-of
+    part-answer-of-start
+    part-answer-of-end
+    answer-of-requires
     count-requires
-    add-i
     loop-less
     loop-again
     same-length
@@ -77,4 +80,5 @@ prefixes-spec =
     same-length-3
     same-length-4
     same-length-5
+    same-length-6
     returns)
