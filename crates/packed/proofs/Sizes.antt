@@ -40,6 +40,10 @@ pub entry-few : (form : Form) → entryBytes form ≤ 64
 entry-few Eight = omega arith
 entry-few Nine = omega arith
 
+pub curves-few : (form : Form) (k : ℕ) → entryBytes form * k ≤ 64 * k
+curves-few Eight k = omega arith
+curves-few Nine k = omega arith
+
 pub entry-some : (form : Form) → 52 ≤ entryBytes form
 entry-some Eight = omega arith
 entry-some Nine = omega arith

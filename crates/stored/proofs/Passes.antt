@@ -1,5 +1,6 @@
 -- Every file that `save_fit` writes passes `judge_file`. Assumes nothing.
 use mathlib.Core.Path.{_≡_, refl, sym, ap, _∙_}
+use mathlib.Core.Bool.{true}
 use mathlib.Core.List.{List, [], append-nil, map-append}
 use Prim.Native.Nat.{ℕ, _*_, _/_, _<_, _≤_}
 use native.Mathlib.Omega.{arith}
@@ -30,7 +31,7 @@ use Rattle.lines.specs.Lines.{twoLine}
 use Rattle.limits.specs.Limits.{mostMarks}
 use Rattle.house.specs.declared.sizes.Field.{Field}
 use Rattle.house.specs.Limits.{curveBytes}
-use Rattle.house.specs.File.{File, bytesOf, marksIn, curvesIn}
+use Rattle.house.specs.File.{File, bytesOf, marksIn, curvesIn, wellFormed}
 use Rattle.house.proofs.Forms.{small-field, form-some}
 use Rattle.float.proofs.Answers.{not-refused}
 use Rattle.grammar.proofs.Formed.{Formed, full, forming, params-some}
@@ -85,6 +86,12 @@ module _ (ms : List Float) (tol : Float) (k : ℕ) (C C′ : List Float) (F F′
       sound
 
 -- ---- its file
+
+-- a file that the list checker passes, and the judge
+pub record Passing (F : File) : Type 0 where
+  pub formed : wellFormed F ≡ true
+  pub list : listIn F ≡ ok passed
+  pub line : judgementOf (bytesOf F) ≡ twoLine passedWord (marksIn F) (curvesIn F)
 
 front-patterns : (xs l : List Float) {m : List Float} (i : ℕ) → m ≡ written xs l → length xs ≡ i → take i (patterns m) ≡ patterns xs
 front-patterns xs l i e h = rw (e, map-append (toBits binary64) xs (drop (length xs) l)) (take-at (patterns xs) (patterns (drop (length xs) l)) i (length-patterns xs ∙ h))
@@ -173,9 +180,12 @@ module _ (t : ℕ) (M : List ℕ) (k : ℕ) (C C′ : List Float) (F F′ W W′
     unfolding listIn
     list-passes = let v = values in rw (back (v .0), back (v .1), firsts-long ms tol k C C′ F F′ W W′ P P′ d) (given-passes ms tol k C C′ F F′ W W′ P P′ d)
 
-    file-passes : judgementOf (bytesOf G) ≡ twoLine passedWord (marksIn G) (curvesIn G)
+    line-passes : judgementOf (bytesOf G) ≡ twoLine passedWord (marksIn G) (curvesIn G)
     unfolding lineOf fileLine verdictIn
-    file-passes = let some = l .some in rw (taken, ne-eqb (curvesIn G) 0 (λ e. omega (arith, firsts-long ms tol k C C′ F F′ W W′ P P′ d)), list-passes)
+    line-passes = let some = l .some in rw (taken, ne-eqb (curvesIn G) 0 (λ e. omega (arith, firsts-long ms tol k C C′ F F′ W W′ P P′ d)), list-passes)
+
+    file-passes : Passing G
+    file-passes = record { formed = forming whole-file; list = list-passes; line = line-passes }
 
 -- ---- whatever is saved
 
@@ -185,7 +195,7 @@ answered E k a = rw (← a) refl
 
 -- a fit of a file that is taken
 fit-passes : (b : List ℕ) (O : File) → fileIn b ≡ ok O → (k : ℕ) (E : Ending) → E ≡ roomyFit (O .tolerance) (O .marks) → E .answer ≡ ok k → (F : File)
-    → fileFor Nine (O .tolerance) (O .marks) k (E .firsts) (E .worsts) (patterns (E .curves)) (patterns (E .params)) ≡ F → judgementOf (bytesOf F) ≡ twoLine passedWord (marksIn F) (curvesIn F)
+    → fileFor Nine (O .tolerance) (O .marks) k (E .firsts) (E .worsts) (patterns (E .curves)) (patterns (E .params)) ≡ F → Passing F
 unfolding roomyFit over
 fit-passes b O x k E e a F q =
     let t = O .tolerance in
@@ -197,20 +207,22 @@ fit-passes b O x k E e a F q =
     let same = same-file t M k (zeros 36855) (E .curves) (noMarks 4095) (E .firsts) (noMarks 4095) (E .worsts) (zeros 4096) (E .params) d (l .some) in
     is-passed F (sym q ∙ same) (file-passes t M k (zeros 36855) (E .curves) (noMarks 4095) (E .firsts) (noMarks 4095) (E .worsts) (zeros 4096) (E .params) d (marksIn O) (curvesIn O) O (f .0) refl refl (f .1) l)
   where
-    is-passed : (F : File) {G : File} → F ≡ G → judgementOf (bytesOf G) ≡ twoLine passedWord (marksIn G) (curvesIn G) → judgementOf (bytesOf F) ≡ twoLine passedWord (marksIn F) (curvesIn F)
+    is-passed : (F : File) {G : File} → F ≡ G → Passing G → Passing F
     is-passed F e h = rw e h
 
 -- a file that is given a fit's answer
-with-passes : (b : List ℕ) (O F : File) → fileIn b ≡ ok O → (a : Answer ℕ) → roomyFit (O .tolerance) (O .marks) .answer ≡ a → fileWith (O .tolerance) (O .marks) (roomyFit (O .tolerance) (O .marks)) ≡ ok F
-    → judgementOf (bytesOf F) ≡ twoLine passedWord (marksIn F) (curvesIn F)
+with-passes : (b : List ℕ) (O F : File) → fileIn b ≡ ok O → (a : Answer ℕ) → roomyFit (O .tolerance) (O .marks) .answer ≡ a → fileWith (O .tolerance) (O .marks) (roomyFit (O .tolerance) (O .marks)) ≡ ok F → Passing F
 unfolding fileWith
 with-passes b O F x (ok k) a e = let s = rw a at e in fit-passes b O x k (roomyFit (O .tolerance) (O .marks)) refl a F cc
 with-passes b O F x (refused q) a e = let s = rw a at e in not-refused q (sym s)
 
-pub saved-passes : SavedPasses
+pub saved-passing : (b : List ℕ) (F : File) → savedFile b ≡ ok F → Passing F
 unfolding savedFile
-saved-passes b F e = go (fileIn b) refl e
+saved-passing b F e = go (fileIn b) refl e
   where
-    go : (a : Answer File) → fileIn b ≡ a → savedFile b ≡ ok F → judgementOf (bytesOf F) ≡ twoLine passedWord (marksIn F) (curvesIn F)
+    go : (a : Answer File) → fileIn b ≡ a → savedFile b ≡ ok F → Passing F
     go (ok O) x e = let s = rw x at e in with-passes b O F x (roomyFit (O .tolerance) (O .marks) .answer) refl s
     go (refused q) x e = let s = rw x at e in not-refused q (sym s)
+
+pub saved-passes : SavedPasses
+saved-passes b F e = saved-passing b F e .line

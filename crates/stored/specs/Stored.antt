@@ -1,13 +1,25 @@
--- Every file that `save_fit` writes passes `judge_file`. Definitions only.
+-- Every file that `save_fit` writes passes `judge_file`, and every file that passes can be packed. Definitions only.
 use mathlib.Core.Path.{_≡_}
 use mathlib.Core.List.{List}
 use Prim.Native.Nat.{ℕ}
 use Rattle.float.specs.Answer.{ok}
 use Rattle.lines.specs.Lines.{twoLine}
 use Rattle.house.specs.File.{File, bytesOf, marksIn, curvesIn}
-use Rattle.verdict.specs.Verdict.{passedWord, judgementOf}
+use Rattle.house.specs.Held.{fileOf}
+use Rattle.packed.specs.Packed.{packedBytes}
+use Rattle.packer.specs.Packer.{packedText}
+use Rattle.checker.specs.Check.{passed}
+use Rattle.verdict.specs.Verdict.{passedWord, listIn, judgementOf}
 use Rattle.saving.specs.Saving.{savedFile}
 
 -- whatever bytes b are saved as the file F, the judge's line on F's bytes is `PASSED`, with F's marks and curves
 abbrev pub SavedPasses : Type 0
 SavedPasses = (b : List ℕ) (F : File) → savedFile b ≡ ok F → judgementOf (bytesOf F) ≡ twoLine passedWord (marksIn F) (curvesIn F)
+
+-- every file whose list the checker passes can be packed, whoever made it
+abbrev pub PassedPacks : Type 0
+PassedPacks = (b : List ℕ) (F : File) → fileOf b ≡ ok F → listIn F ≡ ok passed → packedText b ≡ ok (packedBytes F)
+
+-- so can every file that is saved
+abbrev pub SavedPacks : Type 0
+SavedPacks = (b : List ℕ) (F : File) → savedFile b ≡ ok F → packedText (bytesOf F) ≡ ok (packedBytes F)
