@@ -1,6 +1,6 @@
 -- What a file that was opened tells, and one that was refused. Assumes nothing.
 use mathlib.Core.Path.{_≡_, refl, sym, ap, _∙_}
-use mathlib.Core.Bool.{Bool, true, false}
+use mathlib.Core.Bool.{Bool, true, false, cond}
 use mathlib.Core.List.{List, _∷_, []}
 use Prim.Native.Nat.{ℕ, _*_, _<_, _≤_}
 use native.Mathlib.Omega.{arith}
@@ -15,8 +15,9 @@ use Rattle.form.specs.Form.{width, worstsFor}
 use Rattle.form.specs.declared.Form.{Form}
 use Rattle.form.specs.declared.Form.the-variants.{Eight, Nine}
 use Rattle.limits.specs.Limits.{mostMarks}
-use Rattle.house.specs.File.{File, Holds, marksIn, curvesIn, paramsFor}
-use Rattle.house.specs.Held.{candidate, isFile, fileOf}
+use Rattle.house.specs.File.{File, marksIn, curvesIn, paramsFor}
+use Rattle.house.specs.Held.{candidate, isFile}
+use Rattle.packed.specs.Unpacked.{packedCandidate, isPacked, packedOf, heldOf}
 use Rattle.reader.specs.declared.Read.{Read}
 use Rattle.reader.specs.declared.Read.the-variants as read
 use Rattle.reader.proofs.Read.{the-type}
@@ -24,8 +25,7 @@ use Rattle.reader.specs.Reader.{Found, foundIn, Outcome, outcome, readAnswer, w
 use Rattle.float.proofs.Answers.{not-refused, unless-ok}
 use Rattle.grammar.proofs.Formed.{Turn, plain, full, Sized, Formed, formed, params-some}
 use Rattle.grammar.proofs.Rooms.{Places, placing}
-use Rattle.grammar.proofs.Grammar.{file-holds}
-use Rattle.grammar.proofs.Candidate.{holds-candidate}
+use Rattle.packed.proofs.Candidate.{Stored, held-stored, stored-formed}
 use Rattle.desk.specs.Desk.{roomMarks, mostBytes, Roomy, fileIn, refusalIn, crowdedAs}
 use Rattle.desk.proofs.Numbers.{front}
 
@@ -72,13 +72,23 @@ held F s w = go (leb (marksIn F) roomMarks) refl
         simp (e, le-leb (marksIn F) mostMarks (omega arith), le-leb (length (F .marks)) 8192 m, placing (places-for F s w h))
     go false e = rw e (many (leb (marksIn F) mostMarks) refl (leb-false _ _ e))
 
-read-as : (b : List ℕ) → length b ≤ mostBytes → fileIn b ≡ moved (judged b 8192 4095 4095 36855 4096)
-unfolding fileIn judged fileOf
-read-as b h = rw (le-leb (length b) mostBytes h) (go (isFile b) refl)
+-- bytes that are no file are refused by 9
+no-other : (b : List ℕ) {q : ℕ} → heldOf b ≡ refused q → q ≡ 9
+unfolding heldOf packedOf
+no-other b {q} e = go (isFile b) (isPacked b) e
   where
-    go : (t : Bool) → isFile b ≡ t → _>>=_ (unless 9 (isFile b) (ok (candidate b))) few ≡ moved (judged b 8192 4095 4095 36855 4096)
-    go true x = let f = formed (candidate b) (holds-candidate x .formed) in rw x (held (candidate b) (f .sized) (f .way))
-    go false x = rw x
+    go : (s t : Bool) → cond s (ok (candidate b)) (unless 9 t (ok (packedCandidate b))) ≡ refused q → q ≡ 9
+    go true t x = not-refused q x
+    go false true x = not-refused q x
+    go false false x = cc
+
+read-as : (b : List ℕ) → length b ≤ mostBytes → fileIn b ≡ moved (judged b 8192 4095 4095 36855 4096)
+unfolding fileIn judged
+read-as b h = rw (le-leb (length b) mostBytes h) (go (heldOf b) refl)
+  where
+    go : (a : Answer File) → heldOf b ≡ a → _>>=_ a few ≡ moved (_>>=_ a (λ F. within F 8192 4095 4095 36855 4096))
+    go (ok F) x = let f = formed F (stored-formed (held-stored x)) in held F (f .sized) (f .way)
+    go (refused q) x = rw (no-other b x)
 
 module _ (b M P W C Q : List ℕ) (r : Read) {M′ P′ W′ C′ Q′ : List ℕ} (h : length b ≤ mostBytes) (y : Roomy M P W C Q) (e : outcome (readAnswer r) M′ P′ W′ C′ Q′ ≡ readOf b M P W C Q) where
   lent : outcome (readAnswer r) M′ P′ W′ C′ Q′ ≡ settled (judged b 8192 4095 4095 36855 4096) M P W C Q
@@ -106,24 +116,24 @@ module _ (b M P W C Q : List ℕ) (r : Read) {M′ P′ W′ C′ Q′ : List �
 -- ---- what it tells
 
 record Within (b : List ℕ) (F : File) : Type 0 where
-  holds : Holds b F
+  stored : Stored b F
   few : marksIn F ≤ roomMarks
 
 within-file : {b : List ℕ} {F : File} → fileIn b ≡ ok F → Within b F
 unfolding fileIn
-within-file {b} {F} e = let u = unless-ok 9 (leb (length b) mostBytes) (_>>=_ (fileOf b) few) e in go (fileOf b) refl (u .1)
+within-file {b} {F} e = let u = unless-ok 9 (leb (length b) mostBytes) (_>>=_ (heldOf b) few) e in go (heldOf b) refl (u .1)
   where
-    go : (a : Answer File) → fileOf b ≡ a → _>>=_ a few ≡ ok F → Within b F
+    go : (a : Answer File) → heldOf b ≡ a → _>>=_ a few ≡ ok F → Within b F
     go (ok G) x y =
         let u = unless-ok 2 (leb (marksIn G) roomMarks) (ok G) y in
         let g : G ≡ F = cc in
-        let w : Within b G = record { holds = file-holds x; few = leb-true _ _ (u .0) } in
+        let w : Within b G = record { stored = held-stored x; few = leb-true _ _ (u .0) } in
         rw g at w
     go (refused q) x y = not-refused q (sym y)
 
 -- a file that is taken is well formed, and has at most 4,096 marks
 pub file-formed : (b : List ℕ) {F : File} → fileIn b ≡ ok F → Formed F (marksIn F) (curvesIn F) × (marksIn F ≤ roomMarks)
-file-formed b {F} e = let w = within-file e in (formed F (w .holds .formed), w .few)
+file-formed b {F} e = let w = within-file e in (formed F (stored-formed (w .stored)), w .few)
 
 -- a file's numbers stand in the first places
 pub record Opened (b : List ℕ) (form : Form) (t n k : ℕ) (M′ P′ W′ C′ Q′ : List ℕ) : Type 0 where

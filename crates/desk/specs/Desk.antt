@@ -10,7 +10,7 @@ use Rattle.float.specs.Number.{f0}
 use Rattle.float.specs.Answer.{Answer, ok, unless, _>>=_}
 use Rattle.house.specs.Limits.{tooMany, noRoom, badlyFormed}
 use Rattle.house.specs.File.{File, marksIn}
-use Rattle.house.specs.Held.{fileOf}
+use Rattle.packed.specs.Unpacked.{heldOf}
 use Rattle.reader.specs.declared.Read.{Read}
 use Rattle.reader.specs.declared.Read.the-variants as read
 
@@ -50,10 +50,10 @@ pub record Roomy (M P W C Q : List ℕ) : Type 0 where
   pub curves : length C ≡ 36855
   pub params : length Q ≡ 4096
 
--- 9 or 2, or the file
+-- 9 or 2, or the file, in either form
 unfoldable pub fileIn : List ℕ → Answer File
 fileIn b = unless badlyFormed (leb (length b) mostBytes) do
-  F ← fileOf b
+  F ← heldOf b
   unless tooMany (leb (marksIn F) roomMarks) (ok F)
 
 -- the number of a reader's refusal, and 0 where there is none

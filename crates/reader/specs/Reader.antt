@@ -1,4 +1,4 @@
--- What the reader answers: 9, 2, 4, or what the file holds. Definitions only.
+-- What the reader answers to a file in either form: 9, 2, 4, or what it holds. Definitions only.
 use Prim.Native.Nat.{ℕ}
 use mathlib.Core.Bool.{_&&_}
 use mathlib.Core.List.{List}
@@ -11,7 +11,7 @@ use Rattle.reader.specs.declared.Read.the-variants as read
 use Rattle.limits.specs.Limits.{mostMarks}
 use Rattle.house.specs.Limits.{tooMany, noRoom}
 use Rattle.house.specs.File.{File, marksIn, curvesIn}
-use Rattle.house.specs.Held.{fileOf}
+use Rattle.packed.specs.Unpacked.{heldOf}
 use Rattle.float.specs.Slices.{written}
 use Rattle.house.specs.Slices.{room}
 
@@ -24,7 +24,7 @@ within F m p w c q =
 
 unfoldable pub judged : List ℕ → ℕ → ℕ → ℕ → ℕ → ℕ → Answer File
 judged b m p w c q = do
-  F ← fileOf b
+  F ← heldOf b
   within F m p w c q
 
 -- what the answer holds of a file

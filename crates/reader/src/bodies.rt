@@ -6,6 +6,8 @@ use house::bytes::copy_words;
 use house::bytes::mark_number;
 use house::sizes;
 use house::sizes::Field;
+use packed_bodies::copy_packed;
+use packed_heads::Joints;
 ghost use mathlib.Core.Path.{_≡_};
 ghost use Prim.Native.Nat.{_+_, _*_, _≤_};
 ghost use lib.ListN.{length, drop};
@@ -14,6 +16,8 @@ ghost use Rattle.form.specs.Form.{width, worstsFor};
 ghost use Rattle.house.specs.Limits.{markField, numberField, curveBytes};
 ghost use Rattle.house.specs.Layout.{Room, Copied};
 ghost use Rattle.house.specs.Held.{inEach, firstsOf, worstsOf, curvesOf, fileAt};
+ghost use Rattle.packed_heads.specs.Layout.{heldAt};
+ghost use Rattle.reader.specs.Layout.{HeldRoom};
 
 // The mark number at the place p of each of k records of `step` bytes from `at` on, into the first places.
 fn copy_marks(b: &[u8], at: usize, p: usize, field: Field, step: usize, k: usize, out: &mut [u32])
@@ -63,7 +67,7 @@ fn copy_curves(
 }
 
 // The numbers of a file of n marks and k curves, into the first places of the slices.
-pub fn copy_file(
+fn copy_file(
     b: &[u8],
     form: Form,
     n: usize,
@@ -87,4 +91,26 @@ pub fn copy_file(
     let step = sizes::HEAD_BYTES + sizes::body_bytes(form, field);
     let last = end + step * k + sizes::HEAD_BYTES;
     copy_words(b, last, n, params);
+}
+
+// The same of a file in either form.
+pub fn copy_held(
+    joints: Joints,
+    b: &[u8],
+    form: Form,
+    n: usize,
+    k: usize,
+    marks: &mut [u64],
+    firsts: &mut [u32],
+    worsts: &mut [u32],
+    curves: &mut [u64],
+    params: &mut [u64],
+)
+    requires { ⌜ HeldRoom joints form n k (now b) (now marks) (now firsts) (now worsts) (now curves) (now params) ⌝ }
+    ensures { λ _. ⌜ Copied (heldAt joints (now (b .entry)) form n k) (now (marks .entry)) (now (firsts .entry)) (now (worsts .entry)) (now (curves .entry)) (now (params .entry)) (now (marks .exit)) (now (firsts .exit)) (now (worsts .exit)) (now (curves .exit)) (now (params .exit)) ⌝ }
+{
+    match joints {
+        Joints::Twice => copy_file(b, form, n, k, marks, firsts, worsts, curves, params),
+        Joints::Once => copy_packed(b, form, n, k, marks, firsts, worsts, curves, params),
+    }
 }

@@ -1,17 +1,17 @@
-// The house file, read. Numbers stand as the bit patterns of `f64`, so that every pattern, a NaN's too, comes as it is.
+// The house file, in either form, read. Numbers stand as the bit patterns of `f64`, so that every pattern, a NaN's too, comes as it is.
 mod bodies;
 
-use bodies::copy_file;
+use bodies::copy_held;
 use float::refusal::BADLY_FORMED;
 use float::refusal::NO_ROOM;
 use float::refusal::TOO_MANY;
 use form::Form;
-use heads::Layout;
-use heads::find_layout;
 use house::bytes::eight;
 use house::sizes;
 use house::sizes::has_room;
 use limits::MOST_MARKS;
+use packed_heads::Held;
+use packed_heads::find_held;
 ghost use mathlib.Core.Path.{_≡_};
 ghost use Rattle.reader.specs.Reader.{outcome, readAnswer, readOf};
 
@@ -37,8 +37,9 @@ pub fn read_file(
 ) -> Read
     ensures { λ r. ⌜ outcome (readAnswer r) (now (marks .exit)) (now (firsts .exit)) (now (worsts .exit)) (now (curves .exit)) (now (params .exit)) ≡ readOf (now (file .entry)) (now (marks .entry)) (now (firsts .entry)) (now (worsts .entry)) (now (curves .entry)) (now (params .entry)) ⌝ }
 {
-    let found = find_layout(file);
-    let Layout::Counts {
+    let found = find_held(file);
+    let Held::Counts {
+        joints,
         form,
         marks: n,
         curves: k,
@@ -61,7 +62,18 @@ pub fn read_file(
         curves.len(),
         params.len(),
     ) {
-        copy_file(file, form, n, k, marks, firsts, worsts, curves, params);
+        copy_held(
+            joints,
+            file,
+            form,
+            n,
+            k,
+            marks,
+            firsts,
+            worsts,
+            curves,
+            params,
+        );
         return Read::File {
             form,
             tolerance: eight(file, sizes::HEAD_BYTES),

@@ -36,7 +36,7 @@ use Rattle.float.proofs.Answers.{not-refused}
 use Rattle.grammar.proofs.Formed.{Formed, full, forming, params-some}
 use Rattle.grammar.proofs.Rooms.{size-some}
 use Rattle.grammar.proofs.Whole.{length-bytes}
-use Rattle.trips.proofs.RoundTrips.{file-bytes-file}
+use Rattle.packed.proofs.Candidate.{holds-held}
 use Rattle.writer.specs.Writer.{fileFor}
 use Rattle.desk.specs.Desk.{roomMarks, mostBytes, floats, patterns, zeros, noMarks, fileIn}
 use Rattle.desk.proofs.Numbers.{front, length-floats, length-patterns}
@@ -167,7 +167,7 @@ module _ (t : ℕ) (M : List ℕ) (k : ℕ) (C C′ : List Float) (F F′ W W′
         let m = marks-long in
         let c = count-marks in
         let z = ap (λ (f : Field). curveBytes Nine f * k) (small-field n few-marks) in
-        rw (le-leb (length (bytesOf G)) mostBytes (omega arith), file-bytes-file G (forming whole-file), le-leb (marksIn G) roomMarks (omega arith))
+        rw (le-leb (length (bytesOf G)) mostBytes (omega arith), holds-held (record { formed = forming whole-file; bytes = refl }), le-leb (marksIn G) roomMarks (omega arith))
 
     list-passes : listIn G ≡ ok passed
     unfolding listIn
