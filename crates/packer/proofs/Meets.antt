@@ -18,7 +18,7 @@ use Rattle.grammar.proofs.Held.{sized-at}
 use Rattle.packed.specs.Each.{each}
 use Rattle.packed.specs.Packed.{startAt, endAt, meets}
 use Rattle.packed.proofs.Sizes.{start-length, end-length}
-use Rattle.packer.specs.Layout.{numbersIn}
+use Rattle.packer.specs.Layout.{numbersPlace}
 use Rattle.packer.proofs.Pieces.{two-words, piece, start-is, end-is}
 
 -- two points: by both numbers, or not by the first
@@ -44,7 +44,7 @@ module _ (b : List ℕ) (form : Form) (n k : ℕ) where
 
   -- curve i ends where the next one starts, by what stands in the bytes
   abbrev joint : ℕ → ℕ → Type 0
-  joint i j = same (words 2 (drop (numbersIn form n i + 48) b)) (words 2 (drop (numbersIn form n j) b)) ≡ true
+  joint i j = same (words 2 (drop (numbersPlace form n i + 48) b)) (words 2 (drop (numbersPlace form n j) b)) ≡ true
 
   pub meet-more : (i : ℕ) → i < k - 1 → each i (endAt F) ≡ each i next → joint i (i + 1) → each (i + 1) (endAt F) ≡ each (i + 1) next
   unfolding each
@@ -69,5 +69,5 @@ module _ (b : List ℕ) (form : Form) (n k : ℕ) where
   meet-not i h never =
       sym
       (not-so (meets F) (λ e.
-      let t : words 2 (drop (numbersIn form n i + 48) b) ≡ words 2 (drop (numbersIn form n (i + 1)) b) = sym (end-is b form n k i (omega arith)) ∙ meet-each i h e ∙ rw (add-one i) (start-is b form n k (suc i) (omega arith)) in
-      never (rw t (same-in (words 2 (drop (numbersIn form n (i + 1)) b))))))
+      let t : words 2 (drop (numbersPlace form n i + 48) b) ≡ words 2 (drop (numbersPlace form n (i + 1)) b) = sym (end-is b form n k i (omega arith)) ∙ meet-each i h e ∙ rw (add-one i) (start-is b form n k (suc i) (omega arith)) in
+      never (rw t (same-in (words 2 (drop (numbersPlace form n (i + 1)) b))))))

@@ -21,7 +21,7 @@ use Rattle.packed.specs.Each.{each}
 use Rattle.packed.specs.Packed.{restNumbers, startAt, endAt, restAt, worstAt, markAt}
 use Rattle.packed.proofs.Each.{each-at, in-each}
 use Rattle.packed.proofs.Sizes.{rest-is, rest-long}
-use Rattle.packer.specs.Layout.{recordAt, numbersIn}
+use Rattle.packer.specs.Layout.{recordAt, numbersPlace}
 
 -- ---- rows and their bytes
 
@@ -80,7 +80,7 @@ module _ (e : ℕ) (g : ℕ → List ℕ) (k : ℕ) (l : (j : ℕ) → j < k →
 
 -- ---- the numbers of a curve are within its record, and that within the file
 
-pub numbers-within : (form : Form) (n k i : ℕ) → i < k → numbersIn form n i + 16 + 8 * restNumbers form ≤ recordAt form n k
+pub numbers-within : (form : Form) (n k i : ℕ) → i < k → numbersPlace form n i + 16 + 8 * restNumbers form ≤ recordAt form n k
 numbers-within form n k i h = omega (arith, within (curveBytes form (fieldFor n)) k i h, rest-is form)
 
 -- ---- the pieces of a file that bytes are
@@ -99,25 +99,25 @@ module _ (b : List ℕ) (form : Form) (n k : ℕ) where
   at-record : (p i : ℕ) → drop (S * i + p) (drop (20 + 16 * n) b) ≡ drop (recordAt form n i + p) b
   at-record p i = let e : 20 + 16 * n + (S * i + p) ≡ recordAt form n i + p = omega arith in rw (drop-drop, e)
 
-  numbers : (i q m : ℕ) → i < k → q + m ≤ width form → take m (drop (width form * i + q) (F .curves)) ≡ words m (drop (numbersIn form n i + 8 * q) b)
+  numbers : (i q m : ℕ) → i < k → q + m ≤ width form → take m (drop (width form * i + q) (F .curves)) ≡ words m (drop (numbersPlace form n i + 8 * q) b)
   numbers i q m h s =
       let p : ℕ = numbersAt form (fieldFor n) in
       let g : ℕ → List ℕ = λ (j : ℕ). row 8 (width form) (drop (S * j + p) (drop (20 + 16 * n) b)) in
-      let a : drop (8 * q) (drop (recordAt form n i + p) b) ≡ drop (numbersIn form n i + 8 * q) b = drop-drop (8 * q) (recordAt form n i + p) b in
+      let a : drop (8 * q) (drop (recordAt form n i + p) b) ≡ drop (numbersPlace form n i + 8 * q) b = drop-drop (8 * q) (recordAt form n i + p) b in
       rw (in-each 8 (width form) p S k (drop (20 + 16 * n) b)) (part (width form) g k (λ j l. length-row 8 (width form) (drop (S * j + p) (drop (20 + 16 * n) b))) i h q m s)
       ∙ row-part 8 q m (width form) (drop (S * i + p) (drop (20 + 16 * n) b)) s
       ∙ rw (at-record p i, a)
 
-  pub start-is : (i : ℕ) → i < k → startAt F i ≡ words 2 (drop (numbersIn form n i) b)
+  pub start-is : (i : ℕ) → i < k → startAt F i ≡ words 2 (drop (numbersPlace form n i) b)
   start-is i h =
       let z : width form * i + 0 ≡ width form * i = add-zero (width form * i) in
-      let z′ : numbersIn form n i + 8 * 0 ≡ numbersIn form n i = omega arith in
+      let z′ : numbersPlace form n i + 8 * 0 ≡ numbersPlace form n i = omega arith in
       rw (z, z′) at (numbers i 0 2 h (omega (arith, rest-is form)))
 
-  pub end-is : (i : ℕ) → i < k → endAt F i ≡ words 2 (drop (numbersIn form n i + 48) b)
+  pub end-is : (i : ℕ) → i < k → endAt F i ≡ words 2 (drop (numbersPlace form n i + 48) b)
   end-is i h = numbers i 6 2 h (omega (arith, rest-is form, rest-long form))
 
-  pub rest-at : (i : ℕ) → i < k → restAt F i ≡ words (restNumbers form) (drop (numbersIn form n i + 16) b)
+  pub rest-at : (i : ℕ) → i < k → restAt F i ≡ words (restNumbers form) (drop (numbersPlace form n i + 16) b)
   rest-at i h = numbers i 2 (restNumbers form) h (omega (arith, rest-is form))
 
   pub worst-is : (i : ℕ) → i < k → worstAt F i ≡ row f (worstMarks form) (drop (recordAt form n i + (6 + f)) b)

@@ -20,7 +20,7 @@ use Rattle.packed.specs.Each.{each}
 use Rattle.packed.specs.Packed.{flag, restNumbers, entryBytes, markAt, startAt, entryOf}
 use Rattle.packed.proofs.Each.{each-length}
 use Rattle.packed.proofs.Sizes.{entry-length, start-length}
-use Rattle.packer.specs.Layout.{recordAt, numbersIn, packedLength, leadOf}
+use Rattle.packer.specs.Layout.{recordAt, numbersPlace, packedLength, leadOf}
 use Rattle.packer.proofs.Pieces.{rest-at, worst-is, start-is}
 
 -- the second behind the first
@@ -55,17 +55,17 @@ module _ (b : List ℕ) (form : Form) (n k : ℕ) where
   f = markField (fieldFor n)
 
   -- its next mark number, its numbers and its worst mark
-  pub entry-put : (l : List ℕ) (at i : ℕ) → i < k → {m1 m2 m3 : List ℕ} {x p q : ℕ} → x ≡ markAt F (i + 1) → m1 ≡ sets l at (le 4 x) → m2 ≡ sets m1 p (les (words (restNumbers form) (drop (numbersIn form n i + 16) b)))
-      → m3 ≡ sets m2 q (rowBytes 4 (row f (worstMarks form) (drop (recordAt form n i + (6 + f)) b))) → p ≡ at + 4 → q ≡ p + 8 * restNumbers form → m3 ≡ sets l at (entryOf F i)
-  entry-put l at i h {m1} {m2} {m3} {x} {p} {q} ex e1 e2 e3 ep eq =
-      let r : List ℕ = les (words (restNumbers form) (drop (numbersIn form n i + 16) b)) in
+  pub entry-put : (l : List ℕ) (at i s m : ℕ) → i < k → s ≡ numbersPlace form n i + 16 → m ≡ restNumbers form → {m1 m2 m3 : List ℕ} {x p q : ℕ} → x ≡ markAt F (i + 1) → m1 ≡ sets l at (le 4 x) → m2 ≡ sets m1 p (les (words m (drop s b)))
+      → m3 ≡ sets m2 q (rowBytes 4 (row f (worstMarks form) (drop (recordAt form n i + (6 + f)) b))) → p ≡ at + 4 → q ≡ p + 8 * m → m3 ≡ sets l at (entryOf F i)
+  entry-put l at i s m h es em {m1} {m2} {m3} {x} {p} {q} ex e1 e2 e3 ep eq =
+      let r : List ℕ = les (words m (drop s b)) in
       let w : List ℕ = rowBytes 4 (row f (worstMarks form) (drop (recordAt form n i + (6 + f)) b)) in
-      let lr : length r ≡ 8 * restNumbers form = length-bytes 8 (words (restNumbers form) (drop (numbersIn form n i + 16) b)) ∙ rw length-words in
+      let lr : length r ≡ 8 * m = length-bytes 8 (words m (drop s b)) ∙ rw length-words in
       let l1 : length (le 4 x) ≡ 4 = length-le 4 x in
       let p2 : q ≡ at + length (le 4 x ++ r) = simp (length-append, l1, lr) (omega arith) in
       let a : m3 ≡ sets l at ((le 4 x ++ r) ++ w) = put-on l at (le 4 x ++ r) w (put-on l at (le 4 x) r e1 e2 (omega arith)) e3 p2 in
-      let s : (le 4 x ++ r) ++ w ≡ entryOf F i = rw (append-assoc, rest-at b form n k i h, worst-is b form n k i h, ex, add-one i) in
-      rw s at a
+      let z : (le 4 x ++ r) ++ w ≡ entryOf F i = rw (append-assoc, rest-at b form n k i h, worst-is b form n k i h, es, em, ex, add-one i) in
+      rw z at a
 
   -- one more
   pub entries-put : (l : List ℕ) (at i : ℕ) → i < k → {m m′ : List ℕ} {p : ℕ} → m ≡ sets l at (each i (entryOf F)) → m′ ≡ sets m p (entryOf F i) → p ≡ at + entryBytes form * i → m′ ≡ sets l at (each (i + 1) (entryOf F))
@@ -77,11 +77,11 @@ module _ (b : List ℕ) (form : Form) (n k : ℕ) where
   -- ---- the record up to its first curve
 
   pub lead-put : (l : List ℕ) (at : ℕ) → 0 < k → {m1 m2 m3 m4 : List ℕ} {x y p q r : ℕ} → x ≡ packedLength form k → y ≡ markAt F 0 → m1 ≡ sets l at (le 4 x ++ le 2 8) → m2 ≡ sets m1 p (le 1 (flag form)) → m3 ≡ sets m2 q (le 4 y)
-      → m4 ≡ sets m3 r (les (words 2 (drop (numbersIn form n 0) b))) → p ≡ at + 6 → q ≡ at + 7 → r ≡ at + 11 → m4 ≡ sets l at (leadOf F k)
+      → m4 ≡ sets m3 r (les (words 2 (drop (numbersPlace form n 0) b))) → p ≡ at + 6 → q ≡ at + 7 → r ≡ at + 11 → m4 ≡ sets l at (leadOf F k)
   lead-put l at h {m1} {m2} {m3} {m4} {x} {y} {p} {q} {r} ex ey e1 e2 e3 e4 ep eq er =
       let hd : List ℕ = le 4 x ++ le 2 8 in
       let fl : List ℕ = le 1 (flag form) in
-      let st : List ℕ = les (words 2 (drop (numbersIn form n 0) b)) in
+      let st : List ℕ = les (words 2 (drop (numbersPlace form n 0) b)) in
       let l1 : length hd ≡ 6 = simp (length-append, length-le) in
       let l2 : length fl ≡ 1 = length-le 1 (flag form) in
       let l3 : length (le 4 y) ≡ 4 = length-le 4 y in

@@ -12,8 +12,8 @@ use Rattle.packed.specs.Packed.{packedKind, flagField, flag, packedMark, leadBy
 abbrev pub recordAt : Form → ℕ → ℕ → ℕ
 recordAt form n i = marksEnd n + curveBytes form (fieldFor n) * i
 
-abbrev pub numbersIn : Form → ℕ → ℕ → ℕ
-numbersIn form n i = recordAt form n i + numbersAt form (fieldFor n)
+abbrev pub numbersPlace : Form → ℕ → ℕ → ℕ
+numbersPlace form n i = recordAt form n i + numbersAt form (fieldFor n)
 
 -- what kind 8 states as its length, for k curves; and all of it up to the first of them
 abbrev pub packedLength : Form → ℕ → ℕ

@@ -31,7 +31,7 @@ ghost use Rattle.packed.specs.Each.{each};
 ghost use Rattle.packed.specs.Packed.{flagField, flag, packedMark, entryBytes, markAt, entryOf, packedBytes, meets};
 ghost use Rattle.packed.specs.Unpacked.{entryAt};
 ghost use Rattle.packed.specs.Layout.{packedSize};
-ghost use Rattle.packer.specs.Layout.{recordAt, numbersIn, packedLength, leadOf};
+ghost use Rattle.packer.specs.Layout.{recordAt, numbersPlace, packedLength, leadOf};
 
 // ---- where things stand in the file
 
@@ -46,11 +46,19 @@ fn record_at(form: Form, n: usize, i: usize) -> usize
 
 // The numbers of curve i.
 fn numbers_at(form: Form, n: usize, i: usize) -> usize
-    requires { ⌜ numbersIn form n i < 2 ^ 64 ⌝ }
-    ensures { λ r. ⌜ r ≡ numbersIn form n i ⌝ }
+    requires { ⌜ numbersPlace form n i < 2 ^ 64 ⌝ }
+    ensures { λ r. ⌜ r ≡ numbersPlace form n i ⌝ }
 {
     let beside = sizes::beside_bytes(form, sizes::field_for(n));
     record_at(form, n, i) + (sizes::HEAD_BYTES + beside)
+}
+
+// Its numbers behind the start.
+fn rest_at(form: Form, n: usize, i: usize) -> usize
+    requires { ⌜ numbersPlace form n i + markBytes < 2 ^ 64 ⌝ }
+    ensures { λ r. ⌜ r ≡ numbersPlace form n i + markBytes ⌝ }
+{
+    numbers_at(form, n, i) + sizes::MARK_BYTES
 }
 
 // The number of the first mark of curve i; behind the last curve, that of the last mark.
@@ -136,7 +144,7 @@ fn put_entry(file: &[u8], form: Form, n: usize, k: usize, i: usize, out: &mut [u
     ensures { λ _. ⌜ now (out .exit) ≡ sets (now (out .entry)) at (entryOf (fileAt (now (file .entry)) form n k) i) ⌝ }
 {
     put_four(out, at, mark_at(file, form, n, k, i + 1));
-    let from = numbers_at(form, n, i) + sizes::MARK_BYTES;
+    let from = rest_at(form, n, i);
     let end = put_numbers(file, from, rest_numbers(form), out, at + PACKED_MARK);
     put_worst(file, form, n, i, out, end);
 }

@@ -9,7 +9,7 @@ use Rattle.house.specs.Held.{fileAt}
 use Rattle.packed.specs.Each.{each}
 use Rattle.packed.specs.Packed.{startAt, endAt}
 use Rattle.packed.proofs.Sizes.{rest-long}
-use Rattle.packer.specs.Layout.{recordAt, numbersIn}
+use Rattle.packer.specs.Layout.{recordAt, numbersPlace}
 use Rattle.packer.proofs.Pieces.{numbers-within}
 use Rattle.packer.proofs.Meets.{meet-more, meet-all, meet-not}
 use Rattle.packer.proofs.records.curves_meet.Statement.{statement}
@@ -22,13 +22,13 @@ abbrev μ-loop : tie.MeasureT-loop
 μ-loop file form n k i₀ i = k - i
 
 -- the numbers of the curve and of the next one are within the file
-this : (c : tie.In-loop Inv-loop μ-loop) → let a = c .before .before .before .args in numbersIn (a .form) (a .n) (c .before .loop .i) + 64 ≤ recordAt (a .form) (a .n) (a .k)
+this : (c : tie.In-loop Inv-loop μ-loop) → let a = c .before .before .before .args in numbersPlace (a .form) (a .n) (c .before .loop .i) + 64 ≤ recordAt (a .form) (a .n) (a .k)
 this c = let a = c .before .before .before .args in omega (arith, numbers-within (a .form) (a .n) (a .k) (c .before .loop .i) (omega arith), rest-long (a .form))
 
-next : (c : tie.In-loop Inv-loop μ-loop) → let a = c .before .before .before .args in numbersIn (a .form) (a .n) (c .before .loop .i + 1) + 64 ≤ recordAt (a .form) (a .n) (a .k)
+next : (c : tie.In-loop Inv-loop μ-loop) → let a = c .before .before .before .args in numbersPlace (a .form) (a .n) (c .before .loop .i + 1) + 64 ≤ recordAt (a .form) (a .n) (a .k)
 next c = let a = c .before .before .before .args in omega (arith, numbers-within (a .form) (a .n) (a .k) (c .before .loop .i + 1) (omega arith), rest-long (a .form))
 
-told : (c : tie.After-same-point Inv-loop μ-loop) → let a = c .before .before .before .before .before .before .args in same (words 2 (drop (numbersIn (a .form) (a .n) (c .before .before .before .before .loop .i) + 48) (a .file .now))) (words 2 (drop (numbersIn (a .form) (a .n) (c .before .before .before .before .loop .i + 1)) (a .file .now))) ≡ c .same-point .result
+told : (c : tie.After-same-point Inv-loop μ-loop) → let a = c .before .before .before .before .before .before .args in same (words 2 (drop (numbersPlace (a .form) (a .n) (c .before .before .before .before .loop .i) + 48) (a .file .now))) (words 2 (drop (numbersPlace (a .form) (a .n) (c .before .before .before .before .loop .i + 1)) (a .file .now))) ≡ c .same-point .result
 told c = sym (rw (c .before .before .numbers-at .ensures, c .before .numbers-at2 .ensures) at (c .same-point .ensures))
 
 loop-holds : tie.Need-loop-holds Inv-loop μ-loop

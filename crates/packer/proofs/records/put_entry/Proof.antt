@@ -1,6 +1,5 @@
 -- `packer::records::put_entry` meets its contract. Assumes nothing.
-use mathlib.Core.Path.{refl, ap, _∙_}
-use Prim.Native.Nat.{ℕ, _+_, _*_}
+use mathlib.Core.Path.{refl}
 use native.Mathlib.Omega.{arith}
 use Rattle.house.specs.Limits.{fieldFor, curveBytes}
 use Rattle.house.proofs.Forms.{within}
@@ -19,11 +18,8 @@ mark-at-requires c κs = search needs
 put-four-requires : tie.Need-put-four-requires
 put-four-requires c κs = search needs
 
-numbers-at-requires : tie.Need-numbers-at-requires
-numbers-at-requires c κs = let a = c .before .before .before .before .before .before .before .args in omega (arith, numbers-within (a .form) (a .n) (a .k) (a .i) (c .before .before .before .before .before .before .before .pre .1 .1 .0), c .before .before .before .before .before .before .before .pre .0)
-
-add-from : tie.Need-add-from
-add-from c = let a = c .before .before .before .before .before .before .before .before .args in omega (arith, numbers-within (a .form) (a .n) (a .k) (a .i) (c .before .before .before .before .before .before .before .before .pre .1 .1 .0), c .numbers-at .ensures, c .before .before .before .before .before .before .before .before .pre .0)
+rest-at-requires : tie.Need-rest-at-requires
+rest-at-requires c κs = let a = c .before .before .before .before .before .before .before .args in omega (arith, numbers-within (a .form) (a .n) (a .k) (a .i) (c .before .before .before .before .before .before .before .pre .1 .1 .0), c .before .before .before .before .before .before .before .pre .0)
 
 rest-numbers-requires : tie.Need-rest-numbers-requires
 rest-numbers-requires c κs = search needs
@@ -32,7 +28,7 @@ add-put-numbers : tie.Need-add-put-numbers
 add-put-numbers c = search needs
 
 put-numbers-requires : tie.Need-put-numbers-requires
-put-numbers-requires c κs = let a = c .before .before .before .before .before .before .before .before .before .before .args in (omega (arith, numbers-within (a .form) (a .n) (a .k) (a .i) (c .before .before .before .before .before .before .before .before .before .before .pre .1 .1 .0), c .before .before .numbers-at .ensures, c .before .rest-numbers .ensures, c .before .before .before .before .before .before .before .before .before .before .pre .0), omega (arith, c .before .rest-numbers .ensures, c .before .before .before .before .before .before .before .before .before .before .pre .1 .1 .1))
+put-numbers-requires c κs = let a = c .before .before .before .before .before .before .before .before .before .before .args in (omega (arith, numbers-within (a .form) (a .n) (a .k) (a .i) (c .before .before .before .before .before .before .before .before .before .before .pre .1 .1 .0), c .before .before .rest-at .ensures, c .before .rest-numbers .ensures, c .before .before .before .before .before .before .before .before .before .before .pre .0), omega (arith, c .before .rest-numbers .ensures, c .before .before .before .before .before .before .before .before .before .before .pre .1 .1 .1))
 
 put-worst-requires : tie.Need-put-worst-requires
 put-worst-requires c κs = let a = c .before .before .before .before .before .before .before .before .before .before .before .before .before .before .args in (omega (arith, within (curveBytes (a .form) (fieldFor (a .n))) (a .k) (a .i) (c .before .before .before .before .before .before .before .before .before .before .before .before .before .before .pre .1 .1 .0), c .before .before .before .before .before .before .before .before .before .before .before .before .before .before .pre .0), omega (arith, c .before .before .before .put-numbers .ensures .0, c .before .before .before .before .before .rest-numbers .ensures, c .before .before .before .before .before .before .before .before .before .before .before .before .before .before .pre .1 .1 .1))
@@ -41,7 +37,9 @@ same-length : tie.Need-same-length
 same-length c = search needs
 
 returns : tie.Need-returns
-returns c = let a = c .before .before .before .before .before .before .before .before .before .before .before .before .before .before .before .before .before .args in entry-put (a .file .now) (a .form) (a .n) (a .k) (a .out .now) (a .at) (a .i) (c .before .before .before .before .before .before .before .before .before .before .before .before .before .before .before .before .before .pre .1 .1 .0) (c .before .before .before .before .before .before .before .before .before .before .before .before .before .mark-at .ensures) (c .before .before .before .before .before .before .before .before .before .before .before .before .put-four .ensures) (rw (c .before .before .before .before .before .before .before .before .before .numbers-at .ensures, c .before .before .before .before .before .before .before .before .rest-numbers .ensures) at (c .before .before .before .before .before .before .put-numbers .ensures .1)) (c .before .before .put-worst .ensures) refl (c .before .before .before .before .before .before .put-numbers .ensures .0 ∙ ap (λ (x : ℕ). a .at + 4 + 8 * x) (c .before .before .before .before .before .before .before .before .rest-numbers .ensures))
+returns c =
+    let a = c .before .before .before .before .before .before .before .before .before .before .before .before .before .before .before .before .before .args in
+    entry-put (a .file .now) (a .form) (a .n) (a .k) (a .out .now) (a .at) (a .i) (c .before .before .before .before .before .before .before .before .before .rest-at .result) (c .before .before .before .before .before .before .before .before .rest-numbers .result) (c .before .before .before .before .before .before .before .before .before .before .before .before .before .before .before .before .before .pre .1 .1 .0) (c .before .before .before .before .before .before .before .before .before .rest-at .ensures) (c .before .before .before .before .before .before .before .before .rest-numbers .ensures) (c .before .before .before .before .before .before .before .before .before .before .before .before .before .mark-at .ensures) (c .before .before .before .before .before .before .before .before .before .before .before .before .put-four .ensures) (c .before .before .before .before .before .before .put-numbers .ensures .1) (c .before .before .put-worst .ensures) refl (c .before .before .before .before .before .before .put-numbers .ensures .0)
 
 pub put-entry-spec : {M : Type 1} → statement M
-put-entry-spec = tie.close (tie.spec add-mark-at mark-at-requires put-four-requires numbers-at-requires add-from rest-numbers-requires add-put-numbers put-numbers-requires put-worst-requires same-length returns)
+put-entry-spec = tie.close (tie.spec add-mark-at mark-at-requires put-four-requires rest-at-requires rest-numbers-requires add-put-numbers put-numbers-requires put-worst-requires same-length returns)
