@@ -1,12 +1,12 @@
 -- Laws of rows of numbers and of their bytes. Assumes nothing.
-use mathlib.Core.Path.{_≡_, refl, ap, _∙_}
+use mathlib.Core.Path.{_≡_, refl, sym, ap, _∙_}
 use mathlib.Core.Bool.{true}
 use mathlib.Core.List.{List, [], _∷_, _++_, append-assoc}
 use Prim.Native.Nat.{ℕ, zero, suc, _+_, _*_, _<_, _≤_, _^_}
 use native.Mathlib.Nat.{mul-zero, pow-le-pow-right}
 use native.Mathlib.Omega.{arith}
 use lib.ListN.{length, take, drop, length-append, length-take, length-drop}
-use lib.Seq.{drop-drop}
+use lib.Seq.{drop-drop, take-at}
 use Rattle.house.specs.Bytes.{val, le, num, row, words, rowBytes, les, allFit}
 use Rattle.house.proofs.Numbers.{fit-head, fit-tail, fit-cons, fit-take, fit-drop, length-le, val-lt, val-front, drop-front, le-front}
 
@@ -74,3 +74,28 @@ length-les = length-bytes 8
 
 pub words-suc : (i : ℕ) (b : List ℕ) → words (suc i) b ≡ words i b ++ (num 8 b (8 * i) ∷ [])
 words-suc = row-suc 8
+
+-- ---- a part of a row, and the bytes of one
+
+-- m numbers from the place q on
+pub row-part : (f q m w : ℕ) (d : List ℕ) → q + m ≤ w → take m (drop q (row f w d)) ≡ row f m (drop (f * q) d)
+unfolding row
+row-part f zero zero w d h = refl
+row-part f zero (suc m) zero d h = absurd (omega arith)
+row-part f zero (suc m) (suc w) d h =
+    let z : drop (f * 0) d ≡ d = rw (mul-zero f) in
+    let z′ : drop (f * 0) (drop f d) ≡ drop f d = rw (mul-zero f) in
+    let i : take m (row f w (drop f d)) ≡ row f m (drop f d) = row-part f zero m w (drop f d) (omega arith) ∙ rw z′ in
+    rw (z, i)
+row-part f (suc q) m zero d h = absurd (omega arith)
+row-part f (suc q) m (suc w) d h =
+    let e : f + f * q ≡ f * suc q = omega arith in
+    row-part f q m w (drop f d) (omega arith) ∙ rw (drop-drop, e)
+
+-- the bytes of numbers are those that they were read from
+pub bytes-there : (b : List ℕ) (p m : ℕ) → allFit 1 b ≡ true → p + 8 * m ≤ length b → take (8 * m) (drop p b) ≡ les (words m (drop p b))
+bytes-there b p m g h =
+    let d : List ℕ = drop p b in
+    let z : length (les (words m d)) ≡ 8 * m = length-les (words m d) ∙ rw length-words in
+    let e : les (words m d) ++ drop (8 * m) d ≡ d = row-front 8 m d (fit-drop 1 p b g) (simp length-drop (omega arith)) in
+    sym (ap (λ (x : List ℕ). take (8 * m) x) e) ∙ take-at (les (words m d)) (drop (8 * m) d) (8 * m) z

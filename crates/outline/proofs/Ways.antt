@@ -1,26 +1,30 @@
 -- What each way through the listing shows. Assumes nothing.
-use mathlib.Core.Path.{_≡_, sym, ap, _∙_}
+use mathlib.Core.Path.{_≡_, refl, sym, ap, _∙_}
 use mathlib.Core.List.{List}
-use Prim.Native.Nat.{ℕ, _+_, _*_, _/_, _<_, _≤_}
+use Prim.Native.Nat.{ℕ, _*_, _/_, _<_, _≤_}
 use native.Mathlib.Omega.{arith}
 use borrow.Author.Tests.{le-leb, lt-leb}
 use lib.Dec.{leb}
-use lib.ListN.{length, take}
-use Rattle.float.specs.Answer.{ok, refused, unless}
+use lib.ListN.{length, take, drop}
+use Rattle.float.specs.Answer.{Answer, ok, refused, unless}
 use lib.Ieee.{Float}
 use Rattle.cut.specs.declared.Fitted.{Fitted}
 use Rattle.cut.specs.declared.Fitted.the-variants.{Curves, Refused}
 use Rattle.fit.specs.Fit.{Ending, fittedAnswer}
 use Rattle.lines.specs.Lines.{outlineLines, refusalLine}
 use Rattle.lines.specs.Handed.{shown}
-use Rattle.house.specs.Held.{fileAt, fileOf}
+use Rattle.house.specs.Bytes.{num, words}
+use Rattle.house.specs.File.{File}
+use Rattle.house.specs.Held.{fileAt}
 use Rattle.house.proofs.Rows.{length-words}
-use Rattle.grammar.proofs.Laid.{laid-candidate}
 use Rattle.form.specs.declared.Form.{Form}
 use Rattle.form.specs.declared.Form.the-variants.{Eight}
-use Rattle.heads.specs.Layout.{layoutOf}
-use Rattle.heads.specs.declared.Layout.the-variants as layout
-use Rattle.heads.proofs.Ways.{Told, untold}
+use Rattle.packed.specs.Unpacked.{heldOf}
+use Rattle.packed_heads.specs.declared.Joints.{Joints}
+use Rattle.packed_heads.specs.declared.Joints.the-variants.{Twice, Once}
+use Rattle.packed_heads.specs.declared.Held.the-variants as held
+use Rattle.packed_heads.specs.Layout.{heldLayoutOf}
+use Rattle.packed_heads.proofs.Told.{HeldTold, held-untold}
 use Rattle.desk.specs.Desk.{zeros, noMarks}
 use Rattle.file_fit.specs.FileFit.{fileFit, Left}
 use Rattle.outline.specs.Outline.{fitLines, roomyFit, linesOf, listingOf}
@@ -32,25 +36,34 @@ pub list-long : (b : List ℕ) → 65536 < length b → listingOf b ≡ refusalL
 unfolding linesOf
 list-long b h = rw (lt-leb (length b) 65536 h)
 
-pub list-broken : (b : List ℕ) → length b ≤ 65536 → layoutOf b ≡ layout.Broken → listingOf b ≡ refusalLine 9
-unfolding linesOf fileOf
-list-broken b h e = rw (le-leb (length b) 65536 h, untold b e)
+pub list-broken : (b : List ℕ) → length b ≤ 65536 → heldLayoutOf b ≡ held.Broken → listingOf b ≡ refusalLine 9
+unfolding linesOf
+list-broken b h e = rw (le-leb (length b) 65536 h, held-untold b e)
 
-module _ {b : List ℕ} {form : Form} {n k : ℕ} (h : length b ≤ 65536) (t : Told b form n k) where
-  lines-at : linesOf b ≡ unless 1 (leb 2 n) (unless 2 (leb n 512) (fitLines n (roomyFit (fileAt b Eight n 0))))
-  unfolding linesOf fileOf roomyFit fileFit
-  lines-at =
-      let half : 2 * n / 2 ≡ n = omega arith in
-      simp (le-leb (length b) 65536 h, t .file, laid-candidate (t .laid), length-words, half)
+-- what n marks give
+abbrev linesFor : List ℕ → ℕ → Answer (List ℕ)
+linesFor b n = unless 1 (leb 2 n) (unless 2 (leb n 512) (fitLines n (roomyFit (fileAt b Eight n 0))))
 
+lines-by : (b : List ℕ) (n : ℕ) (F : File) → length b ≤ 65536 → heldOf b ≡ ok F → F .tolerance ≡ num 8 b 6 → F .marks ≡ words (2 * n) (drop 20 b) → linesOf b ≡ linesFor b n
+unfolding linesOf roomyFit fileFit
+lines-by b n F h e t m =
+    let half : 2 * n / 2 ≡ n = omega arith in
+    simp (le-leb (length b) 65536 h, e, t, m, length-words, half)
+
+-- in either form the tolerance and the marks stand at the same places
+lines-at : (b : List ℕ) (joints : Joints) (form : Form) (n k : ℕ) → length b ≤ 65536 → HeldTold b joints form n k → linesOf b ≡ linesFor b n
+lines-at b Twice form n k h t = lines-by b n _ h (t .file) refl refl
+lines-at b Once form n k h t = lines-by b n _ h (t .file) refl refl
+
+module _ {b : List ℕ} {joints : Joints} {form : Form} {n k : ℕ} (h : length b ≤ 65536) (t : HeldTold b joints form n k) where
   pub list-few : n < 2 → listingOf b ≡ refusalLine 1
-  list-few f = rw (lines-at, lt-leb 2 n f)
+  list-few f = rw (lines-at b joints form n k h t, lt-leb 2 n f)
 
   pub list-many : 512 < n → listingOf b ≡ refusalLine 2
-  list-many m = rw (lines-at, le-leb 2 n (omega arith), lt-leb n 512 m)
+  list-many m = rw (lines-at b joints form n k h t, le-leb 2 n (omega arith), lt-leb n 512 m)
 
   pub list-fit : 2 ≤ n → n ≤ 512 → listingOf b ≡ shown (fitLines n (roomyFit (fileAt b Eight n 0)))
-  list-fit f m = rw (lines-at, le-leb 2 n f, le-leb n 512 m)
+  list-fit f m = rw (lines-at b joints form n k h t, le-leb 2 n f, le-leb n 512 m)
 
 -- ---- what a fit shows
 

@@ -10,7 +10,7 @@ use Rattle.lines.specs.Handed.{shown}
 use Rattle.desk.specs.Desk.{zeros, noMarks}
 use Rattle.house.specs.Limits.{tooMany, badlyFormed}
 use Rattle.house.specs.File.{File, marksIn}
-use Rattle.house.specs.Held.{fileOf}
+use Rattle.packed.specs.Unpacked.{heldOf}
 use Rattle.file_fit.specs.FileFit.{fileFit}
 
 abbrev pub tooFew : ℕ
@@ -33,10 +33,10 @@ fitLines n E = do
 unfoldable pub roomyFit : File → Ending
 roomyFit F = fileFit F (zeros 4599) (noMarks 511) (noMarks 511) (zeros 512)
 
--- 9, 1, 2, the fit's 5, 6 or 7, or the lines. Of the file's numbers only the tolerance and the marks count.
+-- 9, 1, 2, the fit's 5, 6 or 7, or the lines, of a file in either form. Of its numbers only the tolerance and the marks count.
 unfoldable pub linesOf : List ℕ → Answer (List ℕ)
 linesOf b = unless badlyFormed (leb (length b) mostBytes) do
-  F ← fileOf b
+  F ← heldOf b
   unless tooFew (leb 2 (marksIn F)) (unless tooMany (leb (marksIn F) mostListed) (fitLines (marksIn F) (roomyFit F)))
 
 -- the whole text

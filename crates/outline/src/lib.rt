@@ -15,12 +15,12 @@ use file_fit::refusal_of;
 use float::refusal::BADLY_FORMED;
 use float::refusal::TOO_FEW;
 use float::refusal::TOO_MANY;
-use heads::Layout;
-use heads::find_layout;
 use lines::Listed;
 use lines::hand_over;
 use lines::put_outline;
 use lines::put_refusal;
+use packed_heads::Held;
+use packed_heads::find_held;
 
 // The most bytes that a listed file has.
 pub const MOST_BYTES: usize = 65536;
@@ -71,12 +71,13 @@ fn put_listing(file: &[u8], text: &mut [u8]) -> usize
     if file.len() > MOST_BYTES {
         return put_refusal(text, BADLY_FORMED);
     }
-    let layout = find_layout(file);
-    let Layout::Counts {
+    let held = find_held(file);
+    let Held::Counts {
+        joints: _,
         form: _,
         marks: n,
         curves: _,
-    } = layout
+    } = held
     else {
         return put_refusal(text, BADLY_FORMED);
     };
@@ -89,7 +90,7 @@ fn put_listing(file: &[u8], text: &mut [u8]) -> usize
     put_fit(file, n, text)
 }
 
-// Lists the outline of a house file in the first bytes of `out`: a line for the counts and one for each curve, or one line that names a
+// Lists the outline of a house file, packed or not, in the first bytes of `out`: a line for the counts and one for each curve, or one line that names a
 // refusal. Where `out` is too short for the text the call itself is refused, and `out` stays as it is.
 pub fn list_outline(file: &[u8], out: &mut [u8]) -> Listed
     ensures { λ r. ⌜ handed (listedAnswer r) (now (out .exit)) ≡ handOver (listingOf (now (file .entry))) (now (out .entry)) ⌝ }

@@ -2,21 +2,21 @@
 use mathlib.Core.Path.{_≡_, refl, sym, ap, _∙_}
 use mathlib.Core.Bool.{true}
 use mathlib.Core.List.{List, [], _∷_, _++_, append-assoc}
-use Prim.Native.Nat.{ℕ, zero, suc, _+_, _-_, _*_, _/_, _<_, _≤_, _^_}
+use Prim.Native.Nat.{ℕ, zero, suc, _+_, _-_, _*_, _<_, _≤_, _^_}
 use native.Mathlib.Omega.{arith}
 use lib.ListN.{length, take, drop, getD, length-append, List·getD-append}
 use lib.Seq.{drop-drop, drop-at, drop-cons, take-add, take-all, getD-append-seam}
 use Rattle.form.specs.declared.Form.{Form}
-use Rattle.form.specs.declared.Form.the-variants.{Eight, Nine}
+use Rattle.form.specs.declared.Form.the-variants.{Eight}
 use Rattle.form.specs.Form.{width, worstsFor}
 use Rattle.house.specs.declared.sizes.Field.{Field}
 use Rattle.house.specs.declared.sizes.Field.the-variants.{Two, Four}
 use Rattle.house.specs.Limits.{fieldFor, markField, worstMarks}
 use Rattle.house.specs.Bytes.{le, num, row, words, rowBytes, les, allFit}
-use Rattle.house.specs.File.{File, rec, framed, flat, marksIn, curvesIn, paramsFor}
+use Rattle.house.specs.File.{File, rec, framed, flat, marksIn, paramsFor}
 use Rattle.house.proofs.Forms.{worsts-each}
-use Rattle.house.proofs.Numbers.{fit-head, fit-tail, fit-cons, fit-append, fit-at, fit-take, fit-drop, length-le, val-front, drop-front}
-use Rattle.house.proofs.Rows.{length-bytes, length-les, row-back}
+use Rattle.house.proofs.Numbers.{fit-head, fit-tail, fit-cons, fit-append, fit-at, fit-take, fit-drop, val-front, drop-front}
+use Rattle.house.proofs.Rows.{length-les, row-back, row-part}
 use Rattle.grammar.proofs.Records.{Head, framed-head, framed-body}
 use Rattle.grammar.proofs.Curves.{empty, row-one}
 use Rattle.grammar.proofs.Formed.{Turn, Sized, Fit, Formed, params-some}
@@ -25,10 +25,10 @@ use Rattle.grammar.proofs.Candidate.{same-out}
 use Rattle.packed.specs.Each.{each}
 use Rattle.packed.specs.Packed.{flag, restNumbers, entryBytes, startAt, endAt, restAt, worstAt, markAt, entryOf, packedBody, packedRest, packedBytes, meets}
 use Rattle.packed.specs.Unpacked.{flagAt, entryAt, firstPlace, startPlace, restPlace, worstPlace, firstsIn, worstsIn, numbersIn, packedAt}
-use Rattle.packed.proofs.Each.{each-same, each-cut, each-at, each-front}
-use Rattle.packed.proofs.Sizes.{rest-is, rest-long, rest-length, end-length, start-length, worsts-length, entry-length, entries-length, body-length, packed-none, packed-some, packed-are, packed-length, packed-size-none, packed-size-some}
-use Rattle.packed.proofs.Pieces.{row-part, part-of}
-use Rattle.packed.proofs.Laid.{Joined, PackedLaid, plain, full}
+use Rattle.packed.proofs.Each.{each-same, each-cut, each-at, each-piece}
+use Rattle.packed.proofs.Sizes.{flag-few, rest-is, rest-long, rest-length, end-length, start-length, worsts-length, entry-length, entries-length, body-length, packed-none, packed-some, packed-are, packed-length, packed-size-some}
+use Rattle.packed.proofs.Pieces.{part-of}
+use Rattle.packed.proofs.Laid.{PackedLaid, plain, full}
 
 -- what fits the field of mark numbers fits four bytes
 fit-four : (field : Field) (xs : List ℕ) → allFit (markField field) xs ≡ true → allFit 4 xs ≡ true
@@ -47,8 +47,8 @@ meets-at {F} {n} {k} s h i l =
     let lf : (j : ℕ) → j < k - 1 → length (f j) ≡ 2 = λ j m. end-length s j (omega arith) in
     let lg : (j : ℕ) → j < k - 1 → length (g j) ≡ 2 = λ j m. start-length s (suc j) (omega arith) in
     let m : i < k - 1 = omega arith in
-    let x : take 2 (drop (2 * i) (each (k - 1) f)) ≡ f i = each-front 2 f (k - 1) i lf m 2 (omega arith) ∙ take-all 2 (f i) (omega (arith, lf i m)) in
-    let y : take 2 (drop (2 * i) (each (k - 1) g)) ≡ g i = each-front 2 g (k - 1) i lg m 2 (omega arith) ∙ take-all 2 (g i) (omega (arith, lg i m)) in
+    let x : take 2 (drop (2 * i) (each (k - 1) f)) ≡ f i = each-piece 2 f (k - 1) i lf m in
+    let y : take 2 (drop (2 * i) (each (k - 1) g)) ≡ g i = each-piece 2 g (k - 1) i lg m in
     sym x ∙ ap (λ (l : List ℕ). take 2 (drop (2 * i) l)) e ∙ y
 
 -- where packed bytes are laid out for n marks and k curves, and hold the file there
@@ -118,12 +118,8 @@ module _ (F : File) (b : List ℕ) (n k : ℕ) (f : Fronted b n (F .tolerance) (
         let j : drop 6 (drop (20 + 16 * n) b) ≡ drop (flagAt n) b = drop-drop 6 (20 + 16 * n) b in
         sym j ∙ rw behind (framed-body 8 (2 + (21 + E * k)) (packedBody F) last body-size short-is kind-is ∙ rw (s .firsts) (simp append-assoc))
 
-    flag-few : (form : Form) → flag form < 256 ^ 1
-    flag-few Eight = omega arith
-    flag-few Nine = omega arith
-
     flag-read : num 1 b (flagAt n) ≡ flag form
-    flag-read = rw at-flag (val-front 1 (flag form) from1 (flag-few form))
+    flag-read = rw at-flag (val-front 1 (flag form) from1 (omega (arith, flag-few form)))
 
     at-1 : drop (flagAt n + 1) b ≡ from1
     at-1 = let j : drop 1 (drop (flagAt n) b) ≡ drop (flagAt n + 1) b = drop-drop 1 (flagAt n) b in sym j ∙ rw at-flag (drop-front 1 (flag form) from1)
@@ -182,7 +178,7 @@ module _ (F : File) (b : List ℕ) (n k : ℕ) (f : Fronted b n (F .tolerance) (
       end-read : words 2 (drop (restPlace form n i + 32) b) ≡ endAt F i
       end-read =
           let p : drop 32 (drop (restPlace form n i) b) ≡ drop (restPlace form n i + 32) b = drop-drop 32 (restPlace form n i) b in
-          let r : take 2 (drop 4 (words (restNumbers form) (drop (restPlace form n i) b))) ≡ words 2 (drop 32 (drop (restPlace form n i) b)) = row-part 8 4 2 (restNumbers form - 6) (restNumbers form) (drop (restPlace form n i) b) (omega (arith, rest-long form)) in
+          let r : take 2 (drop 4 (words (restNumbers form) (drop (restPlace form n i) b))) ≡ words 2 (drop 32 (drop (restPlace form n i) b)) = row-part 8 4 2 (restNumbers form) (drop (restPlace form n i) b) (omega (arith, rest-long form)) in
           let q : width form * i + 2 + 4 ≡ width form * i + 6 = omega arith in
           let t : take 2 (drop 4 (restAt F i)) ≡ endAt F i = part-of 4 2 (restNumbers form) (drop (width form * i + 2) (F .curves)) (omega (arith, rest-long form)) ∙ rw (drop-drop, q) in
           sym (ap (words 2) p) ∙ sym r ∙ rw rest-read t
@@ -235,17 +231,17 @@ module _ (F : File) (b : List ℕ) (n k : ℕ) (f : Fronted b n (F .tolerance) (
         let q = params-back b (entryAt form n k) n (F .params) (s .params ∙ eq) (g .params) (omega arith) d in
         record {
           laid = full (f .starts)
-          (record {
-            size = size;
-            some = some;
-            few = less;
-            head8 = head;
-            flag-is = flag-read;
-            last-is = mark-read k (omega arith) ∙ last-read;
-            firsts = rw firsts-read (g .firsts);
-            worsts = rw worsts-read (g .worsts);
-            head4 = q .0;
-          });
+              (record {
+                size = size;
+                some = some;
+                few = less;
+                head8 = head;
+                flag-is = flag-read;
+                last-is = mark-read k (omega arith) ∙ last-read;
+                firsts = rw firsts-read (g .firsts);
+                worsts = rw worsts-read (g .worsts);
+                head4 = q .0;
+              });
           file = same-file b n k F (f .tolerance) (f .marks) firsts-read worsts-read numbers-read (rw eq (q .1));
         }
 

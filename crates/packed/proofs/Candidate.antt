@@ -1,11 +1,11 @@
 -- The candidate: bytes are no other packed file, and the heads and numbers at fixed places tell whether they are it. And bytes are a file in one form only, unless it has no curves. Assumes nothing.
-use mathlib.Core.Path.{_≡_, refl, sym, ap, _∙_}
+use mathlib.Core.Path.{_≡_, refl, sym, _∙_}
 use mathlib.Core.Bool.{Bool, true, false, cond}
 use mathlib.Core.List.{List}
-use Prim.Native.Nat.{ℕ, zero, suc, _+_, _*_, _<_, _^_}
+use Prim.Native.Nat.{ℕ, zero, suc, _+_, _*_, _<_}
 use native.Mathlib.Omega.{arith}
 use borrow.Author.Tests.{ltb-true}
-use lib.ListN.{length, drop}
+use lib.ListN.{drop}
 use lib.Seq.{drop-drop}
 use Rattle.float.specs.Answer.{ok, refused}
 use Rattle.float.proofs.Truth.{both, not-so}
@@ -19,7 +19,7 @@ use Rattle.house.proofs.Forms.{kind-few}
 use Rattle.house.proofs.Numbers.{split}
 use Rattle.grammar.proofs.Curves.{lead-kind}
 use Rattle.grammar.proofs.Formed.{formed}
-use Rattle.grammar.proofs.Laid.{Laid, plain, full, laid-marks}
+use Rattle.grammar.proofs.Laid.{Laid, plain, full}
 use Rattle.grammar.proofs.Whole.{bytes-are, rest-none}
 use Rattle.grammar.proofs.Candidate.{same-in, same-out, holds-candidate, candidate-holds, candidate-is, file-laid}
 use Rattle.packed.specs.Packed.{packedBytes, Packs}

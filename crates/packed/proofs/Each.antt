@@ -1,5 +1,5 @@
 -- Laws of lists put together of pieces. Assumes nothing.
-use mathlib.Core.Path.{_≡_, refl, sym, ap, _∙_}
+use mathlib.Core.Path.{_≡_, refl, sym, _∙_}
 use mathlib.Core.Bool.{Bool, true, false}
 use mathlib.Core.List.{List, [], _++_, append-assoc, append-nil}
 use Prim.Native.Nat.{ℕ, zero, suc, _+_, _*_, _<_, _≤_}
@@ -8,7 +8,7 @@ use native.Mathlib.Omega.{arith}
 use borrow.Author.Tests.{ltb-true, ltb-false}
 use lib.Dec.{ltb}
 use lib.ListN.{length, take, drop, length-append, length-drop}
-use lib.Seq.{take-add, drop-drop, drop-at, take-append-le, drop-append-le}
+use lib.Seq.{take-add, drop-drop, drop-at, take-all, take-append-le, drop-append-le}
 use Rattle.house.specs.Bytes.{row, allFit}
 use Rattle.house.specs.Held.{inEach}
 use Rattle.house.proofs.Numbers.{fit-append}
@@ -87,6 +87,9 @@ module _ (e : ℕ) (g : ℕ → List ℕ) where
 
     pub each-front : (m : ℕ) → m ≤ e → take m (drop (e * i) (each k g)) ≡ take m (g i)
     each-front m n = rw each-whole (take-append-le m (g i) (drop (e * suc i) (each k g)) (omega (arith, h i l)))
+
+    pub each-piece : take e (drop (e * i) (each k g)) ≡ g i
+    each-piece = each-front e (omega arith) ∙ take-all e (g i) (omega (arith, h i l))
 
     pub each-part : (p m : ℕ) → p + m ≤ e → take m (drop (e * i + p) (each k g)) ≡ take m (drop p (g i))
     each-part p m n =

@@ -1,31 +1,29 @@
 -- Bytes that are laid out as a packed file are that file, packed. Assumes nothing.
 use mathlib.Core.Path.{_≡_, refl, sym, ap, _∙_}
 use mathlib.Core.Bool.{true}
-use mathlib.Core.List.{List, [], _++_, append-assoc}
+use mathlib.Core.List.{List, _++_, append-assoc}
 use Prim.Native.Nat.{ℕ, suc, _+_, _-_, _*_, _<_, _≤_, _^_}
 use native.Mathlib.Omega.{arith}
 use borrow.Author.Tests.{lt-ltb}
-use lib.ListN.{length, take, drop, length-append, length-drop, drop-of-length-le, take-append-drop}
+use lib.ListN.{length, take, drop, length-drop, drop-of-length-le, take-append-drop}
 use lib.Seq.{drop-drop, take-at}
 use Rattle.form.specs.declared.Form.{Form}
-use Rattle.form.specs.declared.Form.the-variants.{Eight}
-use Rattle.form.specs.Form.{width, worstsFor}
 use Rattle.house.specs.Limits.{fieldFor, markField, worstMarks}
-use Rattle.house.specs.Bytes.{le, num, row, words, rowBytes, les, same, allFit}
-use Rattle.house.specs.File.{File, rec, framed, flat, curvesIn, paramsFor, wellFormed}
+use Rattle.house.specs.Bytes.{le, num, row, words, rowBytes, les, allFit}
+use Rattle.house.specs.File.{File, rec, framed, flat, curvesIn, paramsFor}
 use Rattle.house.proofs.Forms.{within}
-use Rattle.house.proofs.Numbers.{fit-drop, length-le, le-front}
-use Rattle.house.proofs.Rows.{length-row, length-bytes, length-les, fit-num, fit-row, row-front}
-use Rattle.grammar.proofs.Records.{Head, framed-front}
+use Rattle.house.proofs.Numbers.{fit-drop, le-front}
+use Rattle.house.proofs.Rows.{fit-num, fit-row, row-front}
+use Rattle.grammar.proofs.Records.{framed-front}
 use Rattle.grammar.proofs.Formed.{Turn, Fit, Formed, forming, params-some}
 use Rattle.grammar.proofs.Laid.{Started}
 use Rattle.grammar.proofs.Held.{few-at, head-at, start-held, params-held}
 use Rattle.grammar.proofs.Candidate.{same-in}
 use Rattle.packed.specs.Each.{each}
-use Rattle.packed.specs.Packed.{flag, restNumbers, entryBytes, startAt, endAt, restAt, worstAt, markAt, entryOf, packedBody, packedRest, packedBytes, short, meets, Packs}
-use Rattle.packed.specs.Unpacked.{flagAt, entryAt, firstPlace, startPlace, restPlace, worstPlace, packedAt}
+use Rattle.packed.specs.Packed.{flag, restNumbers, entryBytes, startAt, endAt, restAt, worstAt, markAt, entryOf, packedBody, packedRest, short, meets, Packs}
+use Rattle.packed.specs.Unpacked.{flagAt, entryAt, restPlace, worstPlace, packedAt}
 use Rattle.packed.proofs.Each.{each-same, each-cut, each-fit}
-use Rattle.packed.proofs.Sizes.{entry-few, entry-some, entry-length, body-length, packed-none, packed-some, packed-are, short-none}
+use Rattle.packed.proofs.Sizes.{entry-length, body-length, packed-none, packed-some, packed-are, short-none}
 use Rattle.packed.proofs.Pieces.{sized-packed, start-piece, rest-piece, end-piece, worst-piece, mark-piece, fit-numbers}
 use Rattle.packed.proofs.Laid.{Joined, PackedLaid, plain, full}
 

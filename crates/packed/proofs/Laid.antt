@@ -2,7 +2,7 @@
 use mathlib.Core.Path.{_≡_, sym, _∙_}
 use mathlib.Core.Bool.{true}
 use mathlib.Core.List.{List, []}
-use Prim.Native.Nat.{ℕ, _+_, _-_, _*_, _<_, _≤_}
+use Prim.Native.Nat.{ℕ, _+_, _-_, _*_, _<_}
 use native.Mathlib.Omega.{arith}
 use borrow.Author.Tests.{eqb-true, eq-eqb, ltb-true, lt-ltb}
 use lib.ListN.{length, drop, drop-of-length-le}
@@ -17,7 +17,7 @@ use Rattle.grammar.proofs.Records.{Head, head-out, head-in}
 use Rattle.grammar.proofs.Laid.{Started}
 use Rattle.packed.specs.Packed.{flag, entryBytes}
 use Rattle.packed.specs.Unpacked.{flagAt, entryAt, firstPlace, firstsIn, worstsIn, packedAt, packedForm, packedCurves, packedCandidate}
-use Rattle.packed.specs.Layout.{leadsPacked, marksPacked, endsPacked}
+use Rattle.packed.specs.Layout.{endsPacked}
 use Rattle.packed.proofs.Sizes.{entries-of}
 
 -- kind 8 with k curves, and kind 4, fill the rest

@@ -1,46 +1,29 @@
 -- The pieces of what stands at the places of a packed file. Assumes nothing.
 use mathlib.Core.Path.{_≡_, refl, sym, ap, _∙_}
 use mathlib.Core.Bool.{Bool, true, false}
-use mathlib.Core.List.{List, [], _∷_, _++_, append-nil}
+use mathlib.Core.List.{List, [], _∷_, _++_}
 use Prim.Native.Nat.{ℕ, zero, suc, _+_, _-_, _*_, _/_, _<_, _≤_}
-use native.Mathlib.Nat.{mul-zero}
 use native.Mathlib.Omega.{arith}
 use borrow.Author.Tests.{ltb-true, ltb-false}
 use lib.Dec.{ltb}
-use lib.ListN.{length, take, drop, getD, length-append, List·getD-append}
+use lib.ListN.{length, take, drop, getD, length-append}
 use lib.Seq.{drop-drop, take-at, drop-at, take-all, take-take, drop-cons, getD-append-seam}
 use Rattle.form.specs.declared.Form.{Form}
 use Rattle.form.specs.declared.Form.the-variants.{Eight, Nine}
 use Rattle.form.specs.Form.{width, worstsFor}
 use Rattle.house.specs.Limits.{worstMarks}
-use Rattle.house.specs.Bytes.{val, num, row, words, allFit}
+use Rattle.house.specs.Bytes.{num, row, words, allFit}
 use Rattle.house.specs.File.{File, marksIn, paramsFor}
 use Rattle.house.proofs.Forms.{worsts-each}
-use Rattle.house.proofs.Rows.{length-row, length-words, fit-row}
+use Rattle.house.proofs.Rows.{length-row, length-words, fit-row, row-part}
 use Rattle.house.proofs.Numbers.{fit-drop, fit-append}
 use Rattle.grammar.proofs.Curves.{row-one}
 use Rattle.grammar.proofs.Formed.{Sized}
 use Rattle.packed.specs.Each.{each}
 use Rattle.packed.specs.Packed.{restNumbers, startAt, endAt, restAt, worstAt, markAt}
 use Rattle.packed.specs.Unpacked.{entryAt, firstPlace, startPlace, restPlace, worstPlace, firstsIn, worstsIn, packedAt}
-use Rattle.packed.proofs.Each.{each-length, each-fit, each-at, each-front, each-part}
+use Rattle.packed.proofs.Each.{each-length, each-fit, each-at, each-front, each-piece, each-part}
 use Rattle.packed.proofs.Sizes.{rest-is, rest-long}
-
--- ---- rows
-
-row-add : (f i m : ℕ) (d : List ℕ) → row f (i + m) d ≡ row f i d ++ row f m (drop (f * i) d)
-unfolding row
-row-add f zero m d = let z : 0 + m ≡ m = omega arith in rw (z, mul-zero f)
-row-add f (suc i) m d =
-    let z : suc i + m ≡ suc (i + m) = omega arith in
-    let e : f + f * i ≡ f * suc i = omega arith in
-    rw z (ap (λ (l : List ℕ). val (take f d) ∷ l) (row-add f i m (drop f d) ∙ rw (drop-drop, e)))
-
--- a part of a row is the row there
-pub row-part : (f i n q m : ℕ) (d : List ℕ) → m ≡ i + (n + q) → take n (drop i (row f m d)) ≡ row f n (drop (f * i) d)
-row-part f i n q m d e =
-    let a : row f m d ≡ row f i d ++ (row f n (drop (f * i) d) ++ row f q (drop (f * n) (drop (f * i) d))) = rw (e, row-add f i (n + q) d, row-add f n q (drop (f * i) d)) in
-    rw (a, drop-at (row f i d) _ i (length-row f i d)) (take-at (row f n (drop (f * i) d)) _ n (length-row f n (drop (f * i) d)))
 
 -- a part of the front of a list is one of the list
 pub part-of : (p m r : ℕ) (l : List ℕ) → p + m ≤ r → take m (drop p (take r l)) ≡ take m (drop p l)
@@ -115,14 +98,13 @@ module _ (b : List ℕ) (form : Form) (n k : ℕ) where
     end-piece =
         let a : take 2 (drop 6 (curveIn i)) ≡ take 2 (drop 4 (drop 2 (curveIn i))) = rw (drop-drop 4 2 (curveIn i)) in
         let r : take 2 (drop 4 (words (restNumbers form) (drop (restPlace form n i) b))) ≡ words 2 (drop (8 * 4) (drop (restPlace form n i) b)) =
-        row-part 8 4 2 (restNumbers form - 6) (restNumbers form) (drop (restPlace form n i) b) (omega (arith, rest-long form)) in
+        row-part 8 4 2 (restNumbers form) (drop (restPlace form n i) b) (omega (arith, rest-long form)) in
         let p : drop 32 (drop (restPlace form n i) b) ≡ drop (restPlace form n i + 32) b = drop-drop 32 (restPlace form n i) b in
         each-part (width form) curveIn k i curve-length h 6 2 (omega (arith, rest-is form, rest-long form)) ∙ a ∙ rw rest-there (r ∙ ap (words 2) p)
 
     pub worst-piece : worstAt X i ≡ row 4 (worstMarks form) (drop (worstPlace form n i) b)
     worst-piece =
-        rw (worsts-each form i) (each-front (worstMarks form) worstIn k i worst-length h (worstMarks form) (omega arith)
-        ∙ take-all (worstMarks form) (worstIn i) (omega (arith, worst-length i h)))
+        rw (worsts-each form i) (each-piece (worstMarks form) worstIn k i worst-length h)
 
   -- a first mark, and behind the last one the number that stands as the last
   first-get : (i : ℕ) (r : List ℕ) → i < k → getD (firstsIn b form n k ++ r) i 0 ≡ num 4 b (firstPlace form n i)

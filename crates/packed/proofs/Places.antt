@@ -1,6 +1,6 @@
 -- Where the parts of a packed file stand. Assumes nothing.
 use mathlib.Core.Path.{_≡_, refl}
-use Prim.Native.Nat.{ℕ, zero, suc, _+_, _-_, _*_, _<_, _≤_}
+use Prim.Native.Nat.{ℕ, zero, suc, _+_, _-_, _<_, _≤_}
 use native.Mathlib.Omega.{arith}
 use Rattle.form.specs.declared.Form.{Form}
 use Rattle.packed.specs.Packed.{entryBytes}

@@ -21,12 +21,16 @@ use Rattle.grammar.proofs.Records.{length-framed}
 use Rattle.grammar.proofs.Formed.{Sized, params-some}
 use Rattle.grammar.proofs.Whole.{length-start}
 use Rattle.packed.specs.Each.{each}
-use Rattle.packed.specs.Packed.{restNumbers, entryBytes, startAt, endAt, restAt, worstAt, entryOf, packedBody, packedRest, packedRecords, packedBytes, short}
+use Rattle.packed.specs.Packed.{flag, restNumbers, entryBytes, startAt, endAt, restAt, worstAt, entryOf, packedBody, packedRest, packedRecords, packedBytes, short}
 use Rattle.packed.specs.Unpacked.{entryAt}
 use Rattle.packed.specs.Layout.{packedSize}
 use Rattle.packed.proofs.Each.{each-length}
 
 -- ---- forms
+
+pub flag-few : (form : Form) → flag form < 256
+flag-few Eight = omega arith
+flag-few Nine = omega arith
 
 pub rest-few : (form : Form) → restNumbers form ≤ 7
 rest-few Eight = omega arith

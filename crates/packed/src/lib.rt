@@ -84,5 +84,7 @@ pub fn start_place(form: Form, n: usize, i: usize) -> usize
     if i == 0 {
         return flag_at(n) + FLAG_FIELD + PACKED_MARK;
     }
-    entry_at(form, n, i - 1) + PACKED_MARK + sizes::NUMBER_FIELD * (BEFORE_END - sizes::MARK_NUMBERS)
+    entry_at(form, n, i - 1)
+        + PACKED_MARK
+        + sizes::NUMBER_FIELD * (BEFORE_END - sizes::MARK_NUMBERS)
 }

@@ -1,7 +1,7 @@
 -- Turns of the loops that copy what stands in each curve of a packed file. Assumes nothing.
 use mathlib.Core.Path.{_≡_, refl, sym, ap, _∙_}
 use mathlib.Core.List.{List, [], _∷_, _++_}
-use Prim.Native.Nat.{ℕ, zero, suc, _+_, _-_, _*_, _<_, _≤_}
+use Prim.Native.Nat.{ℕ, _+_, _-_, _*_, _<_, _≤_}
 use native.Mathlib.Nat.{mul-zero}
 use native.Mathlib.Numerals.{add-one}
 use native.Mathlib.Omega.{arith}
@@ -10,7 +10,7 @@ use Rattle.float.specs.Slices.{written}
 use Rattle.form.specs.declared.Form.{Form}
 use Rattle.form.specs.declared.Form.the-variants.{Eight, Nine}
 use Rattle.form.specs.Form.{width, worstsFor}
-use Rattle.house.specs.Bytes.{num, row, words}
+use Rattle.house.specs.Bytes.{num, words}
 use Rattle.house.specs.File.{paramsFor}
 use Rattle.house.proofs.Forms.{within}
 use Rattle.house.proofs.Rows.{length-row, length-words}

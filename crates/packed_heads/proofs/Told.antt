@@ -1,5 +1,5 @@
 -- What a layout that was found tells. Assumes nothing.
-use mathlib.Core.Path.{_≡_, refl, sym, ap, _∙_}
+use mathlib.Core.Path.{_≡_, refl}
 use mathlib.Core.Bool.{Bool, true, false, cond}
 use mathlib.Core.List.{List}
 use Prim.Native.Nat.{ℕ, _+_, _*_, _≤_}
@@ -7,24 +7,23 @@ use native.Mathlib.Omega.{arith}
 use lib.ListN.{length}
 use Rattle.float.specs.Answer.{ok, refused}
 use Rattle.form.specs.declared.Form.{Form}
-use Rattle.house.specs.File.{File, wellFormed}
-use Rattle.house.specs.Held.{marksHeld, candidate, isFile}
-use Rattle.grammar.proofs.Formed.{Formed, formed, Sized}
+use Rattle.house.specs.File.{wellFormed}
+use Rattle.house.specs.Held.{marksHeld}
+use Rattle.grammar.proofs.Formed.{formed}
 use Rattle.grammar.proofs.Laid.{Laid, Started, laid-started, laid-candidate, marks-in}
 use Rattle.grammar.proofs.Candidate.{holds-candidate}
 use Rattle.heads.specs.declared.Layout.{Layout}
 use Rattle.heads.specs.declared.Layout.the-variants as layout
 use Rattle.heads.specs.Layout.{layoutOf}
-use Rattle.heads.proofs.Ways.{Told, told, untold}
-use Rattle.packed.specs.Packed.{packedBytes}
-use Rattle.packed.specs.Unpacked.{packedForm, packedCurves, packedAt, packedCandidate, isPacked, packedOf, heldOf}
+use Rattle.heads.proofs.Ways.{told, untold}
+use Rattle.packed.specs.Unpacked.{packedForm, packedCurves, isPacked, packedOf, heldOf}
 use Rattle.packed.proofs.Laid.{PackedLaid, plain, full, packed-started, packed-candidate}
 use Rattle.packed.proofs.Candidate.{packs-candidate, packed-laid}
 use Rattle.packed_heads.specs.declared.Joints.{Joints}
 use Rattle.packed_heads.specs.declared.Joints.the-variants.{Twice, Once}
 use Rattle.packed_heads.specs.declared.Held.{Held}
 use Rattle.packed_heads.specs.declared.Held.the-variants as held
-use Rattle.packed_heads.specs.Layout.{packedCounts, packedLayoutOf, onceOf, eitherOf, heldLayoutOf, heldAt}
+use Rattle.packed_heads.specs.Layout.{packedCounts, packedLayoutOf, eitherOf, heldLayoutOf, heldAt}
 
 -- ---- a packed file
 

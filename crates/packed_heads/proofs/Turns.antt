@@ -1,12 +1,11 @@
 -- Mark numbers that fit: one more, and one that does not. Assumes nothing.
 use mathlib.Core.Path.{_≡_, refl, _∙_}
 use mathlib.Core.Bool.{true, false}
-use mathlib.Core.List.{List, [], _∷_, _++_}
-use Prim.Native.Nat.{ℕ, suc, _+_, _*_, _<_, _^_}
+use mathlib.Core.List.{List, [], _∷_}
+use Prim.Native.Nat.{ℕ, suc, _+_, _*_, _<_}
 use native.Mathlib.Numerals.{add-one}
-use native.Mathlib.Omega.{arith}
 use borrow.Author.Tests.{lt-ltb, ltb-true}
-use lib.ListN.{length, drop}
+use lib.ListN.{drop}
 use Rattle.float.proofs.Truth.{true-false}
 use Rattle.house.specs.Bytes.{num, row, fits, allFit}
 use Rattle.house.proofs.Numbers.{fit-head, fit-cons, fit-append, fit-drop}

@@ -1,6 +1,6 @@
 -- What each way through the search for a packed layout answers. Assumes nothing.
-use mathlib.Core.Path.{_≡_, refl, sym, ap, ap₂, _∙_}
-use mathlib.Core.Bool.{Bool, true, false, _&&_, cond}
+use mathlib.Core.Path.{_≡_, refl, sym, ap, _∙_}
+use mathlib.Core.Bool.{Bool, true, false, _&&_}
 use mathlib.Core.List.{List, [], _∷_, _++_}
 use Prim.Native.Nat.{ℕ, zero, suc, _+_, _-_, _*_, _/_, _<_, _≤_}
 use native.Mathlib.Nat.{mul-zero}
@@ -20,13 +20,13 @@ use Rattle.grammar.proofs.Records.{head-in}
 use Rattle.heads.specs.declared.Layout.the-variants as layout
 use Rattle.packed.specs.Each.{each}
 use Rattle.packed.specs.Packed.{entryBytes, restNumbers}
-use Rattle.packed.specs.Unpacked.{flagAt, entryAt, firstPlace, worstPlace, firstsIn, worstsIn, packedForm, packedCurves, isPacked}
+use Rattle.packed.specs.Unpacked.{entryAt, firstPlace, worstPlace, firstsIn, worstsIn, packedForm, packedCurves, isPacked}
 use Rattle.packed.specs.Layout.{leadsPacked, marksPacked, endsPacked}
 use Rattle.packed.proofs.Each.{each-same, each-first}
 use Rattle.packed.proofs.Pieces.{mark, worsts-as}
 use Rattle.packed.proofs.Laid.{joined, PackedLaid, packed-marks, packed-form, packed-curves}
 use Rattle.packed.proofs.Candidate.{laid-packed, packed-laid}
-use Rattle.packed_heads.specs.Layout.{packedLayoutOf, packedCounts}
+use Rattle.packed_heads.specs.Layout.{packedLayoutOf}
 
 -- ---- mark numbers that fit, in two parts
 

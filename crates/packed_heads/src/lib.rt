@@ -21,7 +21,7 @@ use packed::rest_numbers;
 ghost use mathlib.Core.Path.{_≡_};
 ghost use mathlib.Core.Bool.{_&&_, cond};
 ghost use lib.Dec.{eqb};
-ghost use Prim.Native.Nat.{_+_, _-_, _*_, _^_, _<_, _≤_};
+ghost use Prim.Native.Nat.{_+_, _-_, _*_, _<_, _≤_};
 ghost use lib.ListN.{length, drop};
 ghost use Rattle.form.specs.declared.Form.the-variants.{Eight, Nine};
 ghost use Rattle.house.specs.Limits.{fieldFor, markField, numberField, headBytes};
@@ -177,7 +177,11 @@ pub fn find_packed(b: &[u8]) -> Layout
                 curves: 0,
             };
         }
-        let least = end + sizes::HEAD_BYTES + LEAD_BYTES + sizes::HEAD_BYTES + sizes::NUMBER_FIELD * n;
+        let least = end
+            + sizes::HEAD_BYTES
+            + LEAD_BYTES
+            + sizes::HEAD_BYTES
+            + sizes::NUMBER_FIELD * n;
         if len < least {
             return Layout::Broken;
         }

@@ -2,11 +2,11 @@
 use mathlib.Core.Path.{_≡_, sym, _∙_}
 use mathlib.Core.Bool.{true, false}
 use mathlib.Core.List.{List}
-use Prim.Native.Nat.{ℕ, suc, _+_, _-_, _*_, _<_}
+use Prim.Native.Nat.{ℕ, suc, _+_, _-_, _<_}
 use native.Mathlib.Numerals.{add-one}
 use native.Mathlib.Omega.{arith}
 use lib.Dec.{eqb}
-use lib.ListN.{take, drop}
+use lib.ListN.{drop}
 use Rattle.float.proofs.Truth.{and-true, not-so}
 use Rattle.form.specs.declared.Form.{Form}
 use Rattle.house.specs.Bytes.{num, words, same}
@@ -17,9 +17,9 @@ use Rattle.grammar.proofs.Formed.{Sized}
 use Rattle.grammar.proofs.Held.{sized-at}
 use Rattle.packed.specs.Each.{each}
 use Rattle.packed.specs.Packed.{startAt, endAt, meets}
-use Rattle.packed.proofs.Sizes.{start-length, end-length}
+use Rattle.packed.proofs.Back.{meets-at}
 use Rattle.packer.specs.Layout.{numbersPlace}
-use Rattle.packer.proofs.Pieces.{two-words, piece, start-is, end-is}
+use Rattle.packer.proofs.Pieces.{two-words, start-is, end-is}
 
 -- two points: by both numbers, or not by the first
 module _ (b : List ℕ) (p q : ℕ) where
@@ -56,18 +56,9 @@ module _ (b : List ℕ) (form : Form) (n k : ℕ) where
   unfolding meets
   meet-all e = rw (sized .firsts, e) (same-in (each (k - 1) next))
 
-  meet-each : (i : ℕ) → i < k - 1 → meets F ≡ true → endAt F i ≡ next i
-  unfolding meets
-  meet-each i h e =
-      let m : same (each (k - 1) (endAt F)) (each (k - 1) next) ≡ true = rw (sized .firsts) at e in
-      let t : each (k - 1) (endAt F) ≡ each (k - 1) next = same-out _ _ m in
-      let l : take 2 (drop (2 * i) (each (k - 1) (endAt F))) ≡ endAt F i = piece 2 (endAt F) (k - 1) (λ j g. end-length sized j (omega arith)) i h in
-      let r : take 2 (drop (2 * i) (each (k - 1) next)) ≡ next i = piece 2 next (k - 1) (λ j g. start-length sized (suc j) (omega arith)) i h in
-      sym l ∙ rw t r
-
   pub meet-not : (i : ℕ) → i < k - 1 → (joint i (i + 1) → ⊥) → false ≡ meets F
   meet-not i h never =
       sym
       (not-so (meets F) (λ e.
-      let t : words 2 (drop (numbersPlace form n i + 48) b) ≡ words 2 (drop (numbersPlace form n (i + 1)) b) = sym (end-is b form n k i (omega arith)) ∙ meet-each i h e ∙ rw (add-one i) (start-is b form n k (suc i) (omega arith)) in
+      let t : words 2 (drop (numbersPlace form n i + 48) b) ≡ words 2 (drop (numbersPlace form n (i + 1)) b) = sym (end-is b form n k i (omega arith)) ∙ meets-at sized e i (omega arith) ∙ rw (add-one i) (start-is b form n k (suc i) (omega arith)) in
       never (rw t (same-in (words 2 (drop (numbersPlace form n (i + 1)) b))))))

@@ -34,10 +34,6 @@ unfolding le
 flag-put l at Eight = refl
 flag-put l at Nine = refl
 
-pub flag-few : (form : Form) → flag form < 256
-flag-few Eight = omega arith
-flag-few Nine = omega arith
-
 -- the worst mark: none, or one
 pub worst-none : (l : List ℕ) (at : ℕ) (form : Form) (f : ℕ) (d : List ℕ) → form ≡ Eight → l ≡ sets l at (rowBytes 4 (row f (worstMarks form) d))
 unfolding row rowBytes

@@ -14,7 +14,7 @@ use Rattle.lines.specs.Lines.{newline}
 use Rattle.lines.specs.Handed.{shown}
 use Rattle.house.specs.Limits.{tooMany, badlyFormed}
 use Rattle.house.specs.File.{File, marksIn}
-use Rattle.house.specs.Held.{fileOf}
+use Rattle.packed.specs.Unpacked.{heldOf}
 use Rattle.desk.specs.Desk.{zeros, noMarks, floats}
 use Rattle.export.specs.Export.{exportText}
 
@@ -46,10 +46,10 @@ fitPath ring E = do
   k ← E .answer
   lineOf ring (E .curves) k
 
--- 9, 2, the fit's refusals, export's, or the line. Of the file's numbers only the tolerance and the marks count.
+-- 9, 2, the fit's refusals, export's, or the line, of a file in either form. Of its numbers only the tolerance and the marks count.
 unfoldable pub pathLine : Bool → List ℕ → Answer (List ℕ)
 pathLine ring b = unless badlyFormed (leb (length b) mostBytes) do
-  F ← fileOf b
+  F ← heldOf b
   unless tooMany (leb (marksIn F) mostTaken) (fitPath ring (ringFit ring F))
 
 -- the whole text

@@ -20,13 +20,13 @@ use float::of_bits;
 use float::refusal::BADLY_FORMED;
 use float::refusal::TOO_MANY;
 use form::Form;
-use heads::Layout;
-use heads::find_layout;
 use house::bytes::eight;
 use house::sizes;
 use lines::Listed;
 use lines::hand_over;
 use lines::put_refusal;
+use packed_heads::Held;
+use packed_heads::find_held;
 use text::put_bytes;
 
 // The most bytes that a file has.
@@ -147,12 +147,13 @@ fn put_path(file: &[u8], ring: bool, text: &mut [u8]) -> usize
     if file.len() > MOST_BYTES {
         return put_refusal(text, BADLY_FORMED);
     }
-    let layout = find_layout(file);
-    let Layout::Counts {
+    let held = find_held(file);
+    let Held::Counts {
+        joints: _,
         form: _,
         marks: n,
         curves: _,
-    } = layout
+    } = held
     else {
         return put_refusal(text, BADLY_FORMED);
     };
@@ -162,7 +163,7 @@ fn put_path(file: &[u8], ring: bool, text: &mut [u8]) -> usize
     put_fit(file, n, ring, text)
 }
 
-// Writes the joined fit of a house file, or its ring fit, as path data and a newline into the first bytes of `out`; or one line that names a refusal. Where `out` is
+// Writes the joined fit of a house file, packed or not, or its ring fit, as path data and a newline into the first bytes of `out`; or one line that names a refusal. Where `out` is
 // too short the call itself is refused, and `out` stays as it is.
 pub fn path_file(file: &[u8], ring: bool, out: &mut [u8]) -> Listed
     ensures { λ r. ⌜ handed (listedAnswer r) (now (out .exit)) ≡ handOver (pathFileOf ring (now (file .entry))) (now (out .entry)) ⌝ }

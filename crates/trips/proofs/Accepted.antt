@@ -10,8 +10,7 @@ use Rattle.float.specs.Answer.{Answer, ok, refused}
 use Rattle.form.specs.declared.Form.{Form}
 use Rattle.limits.specs.Limits.{mostMarks}
 use Rattle.house.specs.Limits.{badlyFormed}
-use Rattle.house.specs.File.{File, Holds, bytesOf, marksIn, curvesIn, fewer}
-use Rattle.house.specs.Held.{fileOf}
+use Rattle.house.specs.File.{File, bytesOf, marksIn, curvesIn, fewer}
 use Rattle.float.specs.Slices.{written}
 use Rattle.house.specs.Slices.{room}
 use Rattle.reader.specs.Reader.{Found, foundIn, Outcome, outcome, within, judged, settled, readOf}
@@ -20,21 +19,22 @@ use Rattle.writer.specs.Writer.{fileFor, marksFit, checked, Writing, writing, p
 use Rattle.float.proofs.Answers.{not-refused, unless-ok}
 use Rattle.house.proofs.Numbers.{split}
 use Rattle.grammar.proofs.Rooms.{Places, places, placing}
-use Rattle.grammar.proofs.Grammar.{holds-file, file-holds, no-file}
+use Rattle.packed.specs.Unpacked.{heldOf}
+use Rattle.packed.proofs.Candidate.{Stored, stored-held, held-stored, no-held}
 
 -- ---- the reader
 
 module _ {b : List ℕ} where
   module _ (M P W C Q : List ℕ) where
     -- a file is taken within the limits, for what it is
-    pub reads : {F : File} → Holds b F → readOf b M P W C Q ≡ settled (within F (length M) (length P) (length W) (length C) (length Q)) M P W C Q
+    pub reads : {F : File} → Stored b F → readOf b M P W C Q ≡ settled (within F (length M) (length P) (length W) (length C) (length Q)) M P W C Q
     unfolding readOf judged
-    reads h = rw (holds-file h)
+    reads h = rw (stored-held h)
 
     -- whatever else is refused by 9
-    pub refuses : ((F : File) → Holds b F → ⊥) → readOf b M P W C Q ≡ settled (refused badlyFormed) M P W C Q
+    pub refuses : ((F : File) → Stored b F → ⊥) → readOf b M P W C Q ≡ settled (refused badlyFormed) M P W C Q
     unfolding readOf judged
-    refuses never = rw (no-file never)
+    refuses never = rw (no-held never)
 
 -- the file is small enough, and there is room for it
 pub record Taken (F : File) (M P W C Q : List ℕ) : Type 0 where
@@ -42,7 +42,7 @@ pub record Taken (F : File) (M P W C Q : List ℕ) : Type 0 where
   pub marks : length (F .marks) ≤ length M
   pub places : Places (F .form) (marksIn F) (curvesIn F) (length P) (length W) (length C) (length Q)
 
-pub read-accepts : {b M P W C Q : List ℕ} {F : File} → Holds b F → Taken F M P W C Q
+pub read-accepts : {b M P W C Q : List ℕ} {F : File} → Stored b F → Taken F M P W C Q
     → readOf b M P W C Q ≡ outcome (ok (foundIn F)) (written (F .marks) M) (written (F .firsts) P) (written (F .worsts) W) (written (F .curves) C) (written (F .params) Q)
 read-accepts {b} {M} {P} {W} {C} {Q} {F} h t =
     reads M P W C Q h
@@ -50,7 +50,7 @@ read-accepts {b} {M} {P} {W} {C} {Q} {F} h t =
 
 pub record Accepted (b M P W C Q : List ℕ) (f : Found) (M′ P′ W′ C′ Q′ : List ℕ) : Type 0 where
   pub file : File
-  pub holds : Holds b file
+  pub stored : Stored b file
   pub taken : Taken file M P W C Q
   pub answer : f ≡ foundIn file
   pub marks : M′ ≡ written (file .marks) M
@@ -61,14 +61,14 @@ pub record Accepted (b M P W C Q : List ℕ) (f : Found) (M′ P′ W′ C′ Q�
 
 pub read-accepted : {b M P W C Q : List ℕ} {f : Found} {M′ P′ W′ C′ Q′ : List ℕ} → outcome (ok f) M′ P′ W′ C′ Q′ ≡ readOf b M P W C Q → Accepted b M P W C Q f M′ P′ W′ C′ Q′
 unfolding readOf judged
-read-accepted {b} {M} {P} {W} {C} {Q} {f} {M′} {P′} {W′} {C′} {Q′} e = first (fileOf b) refl e
+read-accepted {b} {M} {P} {W} {C} {Q} {f} {M′} {P′} {W′} {C′} {Q′} e = first (heldOf b) refl e
   where
-    third : (F : File) → Holds b F → Taken F M P W C Q → outcome (ok f) M′ P′ W′ C′ Q′ ≡ settled (ok F) M P W C Q → Accepted b M P W C Q f M′ P′ W′ C′ Q′
+    third : (F : File) → Stored b F → Taken F M P W C Q → outcome (ok f) M′ P′ W′ C′ Q′ ≡ settled (ok F) M P W C Q → Accepted b M P W C Q f M′ P′ W′ C′ Q′
     third F h t q =
         let a : ok f ≡ ok (foundIn F) = ap (λ (o : Outcome). o .answer) q in
         record {
           file = F;
-          holds = h;
+          stored = h;
           taken = t;
           answer = cc;
           marks = ap (λ (o : Outcome). o .marks) q;
@@ -78,7 +78,7 @@ read-accepted {b} {M} {P} {W} {C} {Q} {f} {M′} {P′} {W′} {C′} {Q′} e =
           params = ap (λ (o : Outcome). o .params) q;
         }
 
-    second : (F : File) → Holds b F → (a : Answer File) → within F (length M) (length P) (length W) (length C) (length Q) ≡ a → outcome (ok f) M′ P′ W′ C′ Q′ ≡ settled a M P W C Q → Accepted b M P W C Q f M′ P′ W′ C′ Q′
+    second : (F : File) → Stored b F → (a : Answer File) → within F (length M) (length P) (length W) (length C) (length Q) ≡ a → outcome (ok f) M′ P′ W′ C′ Q′ ≡ settled a M P W C Q → Accepted b M P W C Q f M′ P′ W′ C′ Q′
     second F h (ok G) w q =
         let u = unless-ok 2 (leb (marksIn F) mostMarks) _ w in
         let v = unless-ok 4 (leb (length (F .marks)) (length M) && room (F .form) (marksIn F) (curvesIn F) (length P) (length W) (length C) (length Q)) (ok F) (u .1) in
@@ -87,8 +87,8 @@ read-accepted {b} {M} {P} {W} {C} {Q} {f} {M′} {P′} {W′} {C′} {Q′} e =
         third F h (record { few = leb-true _ _ (u .0); marks = leb-true _ _ (r .0); places = places _ _ _ _ _ _ _ (r .1) }) (rw g q)
     second F h (refused n) w q = not-refused n (ap (λ (o : Outcome). o .answer) q)
 
-    first : (a : Answer File) → fileOf b ≡ a → outcome (ok f) M′ P′ W′ C′ Q′ ≡ readOf b M P W C Q → Accepted b M P W C Q f M′ P′ W′ C′ Q′
-    first (ok F) x q = second F (file-holds x) (within F (length M) (length P) (length W) (length C) (length Q)) refl (rw x at q)
+    first : (a : Answer File) → heldOf b ≡ a → outcome (ok f) M′ P′ W′ C′ Q′ ≡ readOf b M P W C Q → Accepted b M P W C Q f M′ P′ W′ C′ Q′
+    first (ok F) x q = second F (held-stored x) (within F (length M) (length P) (length W) (length C) (length Q)) refl (rw x at q)
     first (refused n) x q = let y : outcome (ok f) M′ P′ W′ C′ Q′ ≡ outcome (refused n) M P W C Q = rw x at q in not-refused n (ap (λ (o : Outcome). o .answer) y)
 
 -- ---- the writer

@@ -1,9 +1,11 @@
 -- Bytes are cut into records in one way only. So records that are not a file's, a kind out of turn among them, are refused by 9. Assumes nothing.
 use mathlib.Core.Path.{_≡_, refl, sym, ap, _∙_}
-use mathlib.Core.Bool.{true}
+use mathlib.Core.Bool.{Bool, true, false, cond}
 use mathlib.Core.List.{List, [], _∷_, _++_}
-use Prim.Native.Nat.{ℕ, _+_, _*_, _/_, _<_, _^_}
+use Prim.Native.Nat.{ℕ, zero, suc, _+_, _*_, _/_, _<_, _≤_, _^_}
 use native.Mathlib.Omega.{arith}
+use borrow.Author.Tests.{ltb-true}
+use lib.Dec.{eqb}
 use lib.ListN.{length, take, drop, getD, length-append, length-drop}
 use lib.Seq.{take-at, drop-at}
 use Rattle.float.specs.Answer.{refused}
@@ -12,7 +14,7 @@ use Rattle.form.specs.Form.{width}
 use Rattle.house.specs.declared.sizes.Field.{Field}
 use Rattle.house.specs.Limits.{badlyFormed, fieldFor, worstMarks, curveKind, bodyBytes}
 use Rattle.house.specs.Bytes.{num, le, les}
-use Rattle.house.specs.File.{Record, rec, framed, flat, File, bodyOf, curveRecords, fitRecords, recordsOf, fieldIn, marksIn, wellFormed}
+use Rattle.house.specs.File.{Record, rec, framed, flat, File, bodyOf, curveRecords, fitRecords, recordsOf, fieldIn, marksIn, curvesIn, paramsFor, wellFormed}
 use Rattle.reader.specs.Reader.{settled, readOf}
 use Rattle.house.proofs.Forms.{body-few, worsts-each, kind-few}
 use Rattle.house.proofs.Numbers.{length-le}
@@ -20,6 +22,8 @@ use Rattle.house.proofs.Rows.{length-les}
 use Rattle.grammar.proofs.Records.{length-framed, framed-head, framed-body}
 use Rattle.grammar.proofs.Curves.{length-body}
 use Rattle.grammar.proofs.Formed.{Sized, Formed, formed, params-some}
+use Rattle.packed.specs.Packed.{packedKind, packedBody, packedRecords}
+use Rattle.packed.proofs.Candidate.{Stored, twice, once}
 use Rattle.trips.proofs.Accepted.{refuses}
 
 -- records whose kind and length fit their fields
@@ -93,10 +97,30 @@ framable {F} {n} {k} f =
         let c : length (F .curves) ≡ width (F .form) * length (p ∷ P) = rw h (s .curves) in
         append (curves-framable (F .form) (fieldIn F) (p ∷ P) (F .worsts) (F .curves) w c) (more {r = rec 4 (les (F .params))} (omega arith) (omega (arith, length-les (F .params), f .few)) none)
 
+-- and so can a packed file's
+params-few : (Q : List ℕ) (n k : ℕ) → length Q ≡ paramsFor n k → length Q ≤ n
+params-few Q n zero e = omega arith
+params-few Q n (suc k) e = omega (arith, params-some n {k = suc k} (omega arith))
+
+packed-framable : {F : File} {n k : ℕ} → Formed F n k → 2 + length (packedBody F) < 256 ^ 4 → Framable (packedRecords F)
+unfolding packedRecords
+packed-framable {F} {n} {k} f short =
+    more {r = rec 1 (le 8 (F .tolerance))} (omega arith) (simp length-le (omega arith))
+    (more {r = rec 2 (les (F .marks))} (omega arith) (omega (arith, length-les (F .marks), f .sized .marks, f .few)) (rest (eqb (curvesIn F) 0)))
+  where
+    rest : (b : Bool) → Framable (cond b [] (rec 8 (packedBody F) ∷ (rec 4 (les (F .params)) ∷ [])))
+    rest true = none
+    rest false = more {r = rec 8 (packedBody F)} (omega arith) short (more {r = rec 4 (les (F .params))} (omega arith) (omega (arith, length-les (F .params), params-few (F .params) n k (f .sized .params), f .few)) none)
+
 -- ---- what is out of turn
 
-pub out-of-turn : {rs : List Record} → Framable rs → ((F : File) → wellFormed F ≡ true → recordsOf F ≡ rs → ⊥) → (M P W C Q : List ℕ) → readOf (flat rs) M P W C Q ≡ settled (refused badlyFormed) M P W C Q
-out-of-turn f never M P W C Q = refuses M P W C Q (λ F h. never F (h .formed) (one-cut (framable (formed F (h .formed))) f (h .bytes)))
+pub out-of-turn : {rs : List Record} → Framable rs → ((F : File) → wellFormed F ≡ true → recordsOf F ≡ rs → ⊥) → ((F : File) → wellFormed F ≡ true → packedRecords F ≡ rs → ⊥)
+    → (M P W C Q : List ℕ) → readOf (flat rs) M P W C Q ≡ settled (refused badlyFormed) M P W C Q
+out-of-turn {rs} f never nor M P W C Q = refuses M P W C Q neither
+  where
+    neither : (F : File) → Stored (flat rs) F → ⊥
+    neither F (twice h) = never F (h .formed) (one-cut (framable (formed F (h .formed))) f (h .bytes))
+    neither F (once p) = nor F (p .formed) (one-cut (packed-framable (formed F (p .formed)) (ltb-true _ _ (p .short))) f (p .bytes))
 
 -- behind the marks stands a curve's kind, or nothing
 behind : (form : Form) (field : Field) (P W C Q : List ℕ) {kind : ℕ} {body : List ℕ} {rs : List Record} → fitRecords form field P W C Q ≡ rec kind body ∷ rs → kind ≡ curveKind form field
@@ -104,12 +128,17 @@ unfolding fitRecords curveRecords
 behind form field [] W C Q {rs = rs} e = let z : 0 ≡ length (rec 0 [] ∷ rs) = ap length e in absurd (omega arith)
 behind form field (p ∷ P) W C Q e = sym (ap (λ (l : List Record). getD l 0 (rec 0 []) .kind) e)
 
--- so a kind that does not suit the mark count is refused by 9
+-- or that of all curves
+packed-behind : (b : Bool) (r s : Record) {kind : ℕ} {body : List ℕ} {rs : List Record} → cond b [] (r ∷ (s ∷ [])) ≡ rec kind body ∷ rs → kind ≡ r .kind
+packed-behind true r s {rs = rs} e = let z : 0 ≡ length (rec 0 [] ∷ rs) = ap length e in absurd (omega arith)
+packed-behind false r s e = sym (ap (λ (l : List Record). getD l 0 (rec 0 []) .kind) e)
+
+-- so a kind that is neither, for so many marks, is refused by 9
 pub unsuited : (t M body : List ℕ) (kind : ℕ) (rs : List Record) → Framable (rec 1 t ∷ (rec 2 (les M) ∷ (rec kind body ∷ rs)))
-    → ((form : Form) → kind ≡ curveKind form (fieldFor (length M / 2)) → ⊥) → (N P W C Q : List ℕ)
+    → ((form : Form) → kind ≡ curveKind form (fieldFor (length M / 2)) → ⊥) → (kind ≡ packedKind → ⊥) → (N P W C Q : List ℕ)
     → readOf (flat (rec 1 t ∷ (rec 2 (les M) ∷ (rec kind body ∷ rs)))) N P W C Q ≡ settled (refused badlyFormed) N P W C Q
-unfolding recordsOf
-unsuited t M body kind rs f never =
+unfolding recordsOf packedRecords
+unsuited t M body kind rs f never nor =
     out-of-turn f
     (λ F h e.
     let m : les (F .marks) ≡ les M = ap (λ (l : List Record). getD l 1 (rec 0 []) .body) e in
@@ -117,3 +146,4 @@ unsuited t M body kind rs f never =
     let n : marksIn F ≡ length M / 2 = omega arith in
     let k : kind ≡ curveKind (F .form) (fieldIn F) = behind (F .form) (fieldIn F) (F .firsts) (F .worsts) (F .curves) (F .params) (ap (drop 2) e) in
     never (F .form) (k ∙ ap (λ (x : ℕ). curveKind (F .form) (fieldFor x)) n))
+    (λ F h e. nor (packed-behind (eqb (curvesIn F) 0) (rec 8 (packedBody F)) (rec 4 (les (F .params))) (ap (drop 2) e)))

@@ -5,8 +5,8 @@ use mathlib.Core.List.{List, _++_, append-nil}
 use Prim.Native.Nat.{ℕ, _+_, _*_, _≤_}
 use native.Mathlib.Numerals.{add-one}
 use native.Mathlib.Omega.{arith}
-use lib.ListN.{length, take, drop, length-append, length-drop}
-use lib.Seq.{take-all, take-at, sets}
+use lib.ListN.{length, take, drop, length-append}
+use lib.Seq.{take-all, sets}
 use Rattle.text.proofs.Stores.{sets-append}
 use Rattle.form.specs.declared.Form.{Form}
 use Rattle.form.specs.declared.Form.the-variants.{Eight, Nine}
@@ -15,8 +15,7 @@ use Rattle.house.specs.declared.sizes.Field.{Field}
 use Rattle.house.specs.Limits.{markField, worstMarks, besideBytes, curveKind, bodyBytes, curveBytes}
 use Rattle.house.specs.Bytes.{le, num, row, rowBytes, words, les, allFit}
 use Rattle.house.specs.File.{bodyOf}
-use Rattle.house.proofs.Numbers.{fit-drop}
-use Rattle.house.proofs.Rows.{length-row, length-words, length-les, bytes-append, row-front}
+use Rattle.house.proofs.Rows.{length-row, length-words, length-les, bytes-append, bytes-there}
 use Rattle.house.proofs.Turns.{put-both}
 use Rattle.grammar.proofs.Records.{length-framed}
 use Rattle.grammar.proofs.Curves.{length-body, curve-put}
@@ -42,14 +41,6 @@ pub worst-within : (form : Form) (n i : ℕ) → form ≡ Nine → worstPlace fo
 worst-within form n i e = rw e (omega arith)
 
 -- ---- numbers
-
--- the bytes of numbers are those that they were read from
-pub bytes-there : (b : List ℕ) (p m : ℕ) → allFit 1 b ≡ true → p + 8 * m ≤ length b → take (8 * m) (drop p b) ≡ les (words m (drop p b))
-bytes-there b p m g h =
-    let d : List ℕ = drop p b in
-    let z : length (les (words m d)) ≡ 8 * m = length-les (words m d) ∙ rw length-words in
-    let e : les (words m d) ++ drop (8 * m) d ≡ d = row-front 8 m d (fit-drop 1 p b g) (simp length-drop (omega arith)) in
-    sym (ap (λ (x : List ℕ). take (8 * m) x) e) ∙ take-at (les (words m d)) (drop (8 * m) d) (8 * m) z
 
 -- the start and the rest, one behind the other
 pub numbers-put : (l : List ℕ) (at : ℕ) (b : List ℕ) (p q m : ℕ) → allFit 1 b ≡ true → p + 16 ≤ length b → q + 8 * m ≤ length b

@@ -14,53 +14,33 @@ use Rattle.house.specs.declared.sizes.Field.{Field}
 use Rattle.house.specs.declared.sizes.Field.the-variants.{Two, Four}
 use Rattle.house.specs.Limits.{fieldFor, worstMarks, curveBytes}
 use Rattle.house.specs.Bytes.{le, les}
-use Rattle.house.specs.File.{File, rec, framed, flat, curveRecords, bytesOf, fieldIn, paramsFor}
+use Rattle.house.specs.File.{File, rec, framed, flat, curveRecords, bytesOf, fieldIn}
 use Rattle.house.specs.Held.{paramsAt}
 use Rattle.house.specs.Layout.{sizeFor}
 use Rattle.house.proofs.Forms.{worsts-each}
 use Rattle.house.proofs.Numbers.{length-le}
-use Rattle.house.proofs.Rows.{length-row, length-words, length-les}
+use Rattle.house.proofs.Rows.{length-les}
 use Rattle.grammar.proofs.Records.{length-framed}
 use Rattle.grammar.proofs.Curves.{row-one, curves-snoc}
 use Rattle.grammar.proofs.Formed.{Sized, field-is}
 use Rattle.grammar.proofs.Whole.{bytes-are, rest-none, rest-some, length-records, length-bytes}
 use Rattle.packed.specs.Each.{each}
 use Rattle.packed.specs.Packed.{entryBytes, packedBody, packedBytes}
-use Rattle.packed.specs.Unpacked.{entryAt, firstPlace, worstPlace, firstsIn, worstsIn, numbersIn, packedAt}
-use Rattle.packed.proofs.Each.{each-length}
+use Rattle.packed.specs.Unpacked.{entryAt, firstsIn, worstsIn, numbersIn, packedAt}
+use Rattle.packed.proofs.Pieces.{sized-packed}
 use Rattle.packed.proofs.Sizes.{packed-are, packed-none, packed-some, packed-size-some, packed-length, body-length}
-use Rattle.unpacker.specs.Records.{numbersHere, recordHere}
-use Rattle.unpacker.proofs.Pieces.{length-numbers}
-
--- ---- what a packed file's lists have, whatever the bytes are
+use Rattle.unpacker.specs.Records.{recordHere}
 
 module _ (b : List ℕ) (form : Form) (n : ℕ) where
-  length-firsts : (k : ℕ) → length (firstsIn b form n k) ≡ k
-  length-firsts k = each-length 1 _ k (λ i h. length-row 4 1 (drop (firstPlace form n i) b)) ∙ omega arith
-
-  length-worsts : (k : ℕ) → length (worstsIn b form n k) ≡ worstMarks form * k
-  length-worsts k = each-length (worstMarks form) _ k (λ i h. length-row 4 (worstMarks form) (drop (worstPlace form n i) b))
-
-  length-curves : (k : ℕ) → length (numbersIn b form n k) ≡ width form * k
-  length-curves k = each-length (width form) (numbersHere b form n) k (λ i h. length-numbers b form n i)
-
-  pub sized-packed : (k : ℕ) → Sized (packedAt b form n k) n k
-  sized-packed k = record {
-    marks = length-words (2 * n) (drop 20 b);
-    firsts = length-firsts k;
-    worsts = length-worsts k ∙ sym (worsts-each form k);
-    curves = length-curves k;
-    params = length-words (paramsFor n k) (drop (entryAt form n k + 6) b);
-  }
-
   -- the records of its curves
   records-are : (field : Field) (k : ℕ) → each k (recordHere b form field n) ≡ flat (curveRecords form field (firstsIn b form n k) (worstsIn b form n k) (numbersIn b form n k))
   unfolding each flat curveRecords recordHere
   records-are field zero = refl
   records-are field (suc k) =
-      let p : length (firstsIn b form n k) ≡ k = length-firsts k in
-      let w : length (worstsIn b form n k) ≡ worstMarks form * length (firstsIn b form n k) = rw p (length-worsts k) in
-      let c : length (numbersIn b form n k) ≡ width form * length (firstsIn b form n k) = rw p (length-curves k) in
+      let s = sized-packed b form n k in
+      let p : length (firstsIn b form n k) ≡ k = s .firsts in
+      let w : length (worstsIn b form n k) ≡ worstMarks form * length (firstsIn b form n k) = rw p (s .worsts ∙ worsts-each form k) in
+      let c : length (numbersIn b form n k) ≡ width form * length (firstsIn b form n k) = rw p (s .curves) in
       rw (records-are field k, row-one) (sym (curves-snoc form field (firstsIn b form n k) (worstsIn b form n k) (numbersIn b form n k) _ _ _ w c))
 
 -- ---- the whole, in pieces

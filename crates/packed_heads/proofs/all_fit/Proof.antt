@@ -6,7 +6,7 @@ use native.Mathlib.Omega.{arith}
 use lib.ListN.{drop}
 use Rattle.float.proofs.Truth.{not-so}
 use Rattle.house.specs.Limits.{markField}
-use Rattle.house.specs.Bytes.{row, allFit, fits}
+use Rattle.house.specs.Bytes.{row, allFit}
 use Rattle.house.proofs.Forms.{within}
 use Rattle.packed.specs.Each.{each}
 use Rattle.packed_heads.proofs.Turns.{fits-more, fits-stop}

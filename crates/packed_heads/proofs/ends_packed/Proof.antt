@@ -1,5 +1,5 @@
 -- `packed_heads::ends_packed` meets its contract. Assumes nothing.
-use mathlib.Core.Path.{_≡_, sym, _∙_}
+use mathlib.Core.Path.{sym, _∙_}
 use native.Mathlib.Omega.{arith}
 use Rattle.float.proofs.Truth.{not-so, true-false}
 use Rattle.packed.proofs.Laid.{joined}

@@ -1,6 +1,6 @@
 -- `packed_heads::find_held` meets its contract. Assumes nothing.
 use mathlib.Core.Path.{refl, sym, _∙_}
-use Rattle.packed_heads.specs.Layout.{heldLayoutOf, eitherOf, onceOf}
+use Rattle.packed_heads.specs.Layout.{heldLayoutOf}
 use borrow.Author.Needs.{needs}
 use Rattle.packed_heads.proofs.find_held.Statement.{statement}
 use Rattle.packed_heads.proofs.find_held.Tie as tie

@@ -2,7 +2,6 @@
 use mathlib.Core.Path.{_≡_, refl, sym, ap, _∙_}
 use mathlib.Core.Bool.{true}
 use Prim.Native.Nat.{ℕ, _+_, _-_, _*_, _/_, _≤_}
-use native.Mathlib.Nat.{mul-zero}
 use native.Mathlib.Omega.{arith}
 use lib.ListN.{length}
 use Rattle.float.proofs.Truth.{true-false}
@@ -11,7 +10,7 @@ use Rattle.house.specs.Held.{marksHeld}
 use Rattle.house.proofs.Numbers.{fit-each}
 use Rattle.grammar.proofs.Laid.{Started, started, starting}
 use Rattle.packed.specs.Packed.{entryBytes}
-use Rattle.packed.specs.Unpacked.{packedForm, packedCurves}
+use Rattle.packed.specs.Unpacked.{packedCurves}
 use Rattle.packed.proofs.Sizes.{entry-some, entries-under}
 use Rattle.packed.proofs.Laid.{plain, full, joined, joining, packed-started, packed-joined}
 use Rattle.packed_heads.proofs.Ways.{packed-counted, packed-broken, counted-by}

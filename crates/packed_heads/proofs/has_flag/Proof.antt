@@ -1,6 +1,5 @@
 -- `packed_heads::has_flag` meets its contract. Assumes nothing.
-use mathlib.Core.Path.{_≡_, refl}
-use native.Mathlib.Omega.{arith}
+use mathlib.Core.Path.{refl}
 use Rattle.house.proofs.Numbers.{num-one}
 use borrow.Author.Needs.{needs}
 use Rattle.packed_heads.proofs.has_flag.Statement.{statement}

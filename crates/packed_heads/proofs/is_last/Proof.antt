@@ -1,6 +1,5 @@
 -- `packed_heads::is_last` meets its contract. Assumes nothing.
 use mathlib.Core.Path.{refl}
-use native.Mathlib.Omega.{arith}
 use borrow.Author.Needs.{needs}
 use Rattle.packed_heads.proofs.is_last.Statement.{statement}
 use Rattle.packed_heads.proofs.is_last.Tie as tie

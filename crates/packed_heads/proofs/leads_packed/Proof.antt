@@ -1,8 +1,7 @@
 -- `packed_heads::leads_packed` meets its contract. Assumes nothing.
 use mathlib.Core.Path.{_≡_, refl, sym, ap, _∙_}
-use Prim.Native.Nat.{ℕ, _+_, _*_}
+use Prim.Native.Nat.{ℕ, _*_}
 use native.Mathlib.Omega.{arith}
-use Rattle.house.specs.Layout.{headAt}
 use Rattle.packed.specs.Packed.{entryBytes}
 use borrow.Author.Needs.{needs}
 use Rattle.packed_heads.proofs.leads_packed.Statement.{statement}

@@ -1,7 +1,6 @@
 -- `packed_heads::marks_packed` meets its contract. Assumes nothing.
-use mathlib.Core.Path.{_≡_, refl, sym, _∙_}
+use mathlib.Core.Path.{refl, sym, _∙_}
 use native.Mathlib.Omega.{arith}
-use Rattle.packed.proofs.Sizes.{entry-some}
 use Rattle.packed.proofs.Places.{first-before}
 use Rattle.packed_heads.proofs.marks_packed.Statement.{statement}
 use Rattle.packed_heads.proofs.marks_packed.Tie as tie

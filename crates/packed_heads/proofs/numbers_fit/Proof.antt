@@ -1,12 +1,11 @@
 -- `packed_heads::numbers_fit` meets its contract. Assumes nothing.
-use mathlib.Core.Path.{_≡_, refl, sym, ap, _∙_}
+use mathlib.Core.Path.{_≡_, sym, ap, _∙_}
 use Prim.Native.Nat.{ℕ, _+_, _-_, _*_, _≤_}
 use native.Mathlib.Nat.{mul-zero}
 use native.Mathlib.Omega.{arith}
-use Rattle.form.specs.Form.{worstsFor}
-use Rattle.house.proofs.Forms.{within, worsts-few}
-use Rattle.packed.specs.Packed.{entryBytes, restNumbers}
-use Rattle.packed.proofs.Sizes.{entry-few, entry-some, rest-few, rest-within}
+use Rattle.house.proofs.Forms.{within}
+use Rattle.packed.specs.Packed.{entryBytes}
+use Rattle.packed.proofs.Sizes.{entry-some, rest-few, rest-within}
 use Rattle.packed_heads.proofs.Ways.{first-unfit, next-unfit, numbers-by, worsts-room}
 use borrow.Author.Needs.{needs}
 use Rattle.packed_heads.proofs.numbers_fit.Statement.{statement}

@@ -1,6 +1,5 @@
 -- `unpacker::unpack_file` meets its contract. Assumes nothing.
-use mathlib.Core.Path.{_≡_, sym, _∙_}
-use Rattle.packed.specs.Unpacked.{packedAt, packedCandidate}
+use mathlib.Core.Path.{sym, _∙_}
 use Rattle.packed.proofs.Laid.{packed-candidate}
 use Rattle.packed_heads.proofs.Told.{PackedTold, packed-told, packed-untold}
 use Rattle.unpacker.proofs.Ways.{unpack-broken, packed-there, unpack-whole}

@@ -1,6 +1,7 @@
 -- `packer::records::put_flag` meets its contract. Assumes nothing.
 use native.Mathlib.Omega.{arith}
-use Rattle.packer.proofs.Puts.{flag-put, flag-few}
+use Rattle.packed.proofs.Sizes.{flag-few}
+use Rattle.packer.proofs.Puts.{flag-put}
 use borrow.Author.Needs.{needs}
 use Rattle.packer.proofs.records.put_flag.Statement.{statement}
 use Rattle.packer.proofs.records.put_flag.Tie as tie
