@@ -458,7 +458,8 @@ static void expect_apart(size_t size, size_t joint) {
     composed[joint] ^= 1;
 }
 
-/* A file there and back, in just the room, in more, and in too little; what is read is the same list. Each call refuses what the other takes. */
+/* A file there and back, in just the room, in more, and in too little; what is read is the same list. Each call refuses what the other
+   takes. */
 static void there_and_back(unsigned kind, size_t n, size_t count) {
     size_t width = width_of(kind), size, small;
     draw_some(kind, n, count);
@@ -474,7 +475,8 @@ static void there_and_back(unsigned kind, size_t n, size_t count) {
     if (count > 1) expect_apart(size, 20 + 16 * n + 2 * record_size(kind) - 8 * width);
 }
 
-/* The last mark's number, the flag, and a mark number for which two bytes are too few. The second curve of two has the last mark's number before it. */
+/* Another number for the last mark, which the second curve of two begins with; another flag; a mark number for which two bytes are too few;
+   and bytes that are missing. */
 static void bad_packed(unsigned kind, size_t n) {
     size_t width = width_of(kind), body = 20 + 16 * n + 6, last = body + 21 + (width == 9 ? 64 : 52), small;
     draw_some(kind, n, 2);
@@ -508,7 +510,8 @@ static void packed_files(void) {
     expect_refused("nothing, unpacked", wes_unpack_file, NULL, 0, 64, 9);
 }
 
-/* cushion.house is packed, and has 85 marks and 8 curves by examples/README.md: the judge and the listing say the same of it as of the file that it was packed from. */
+/* cushion.house is packed, and has 85 marks and 8 curves by examples/README.md: the judge and the listing say the same of it as of the file
+   that it was packed from. */
 static void cushion(void) {
     static uint8_t same[BENCH_FILE];
     static char listing[LONGEST_LISTING];

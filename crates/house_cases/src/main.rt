@@ -161,7 +161,16 @@ fn prefixes(
         let next = i + 1;
         t = count(
             t,
-            answer_of(what, &file[from..i], marks, firsts, worsts, curves, params, out),
+            answer_of(
+                what,
+                &file[from..i],
+                marks,
+                firsts,
+                worsts,
+                curves,
+                params,
+                out,
+            ),
         );
         i = next;
     }
@@ -239,7 +248,19 @@ fn changes(
     while i < file.len() {
         let next = i + 1;
         let values = values_at(runs, i);
-        t = change_at(what, file, i, values, t, marks, firsts, worsts, curves, params, out);
+        t = change_at(
+            what,
+            file,
+            i,
+            values,
+            t,
+            marks,
+            firsts,
+            worsts,
+            curves,
+            params,
+            out,
+        );
         i = next;
     }
     t
