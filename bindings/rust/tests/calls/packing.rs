@@ -55,7 +55,9 @@ fn one_curve() {
     for (kind, n, more) in [(3, 9, 7), (6, 9, 9), (5, 4097, 5), (7, 4097, 5)] {
         let mut house = house(kind, n);
         let width = house.curves.len() / 2;
-        (house.curves.truncate(width), house.firsts.truncate(1), house.worsts.truncate(1));
+        house.curves.truncate(width);
+        house.firsts.truncate(1);
+        house.worsts.truncate(1);
         let whole = write_file(&house).unwrap();
         let small = pack_file(&whole).unwrap();
         assert_eq!((small.len(), unpack_file(&small)), (whole.len() + more, Ok(whole)), "kind {kind}");
