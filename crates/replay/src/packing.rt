@@ -77,6 +77,7 @@ fn say_file(file: &[u8]) {
     print_bytes(file);
 }
 
+// The one call or the other, so that what is said of an answer is said once.
 fn packed_or_unpacked(packs: bool, file: &[u8], out: &mut [u8]) -> Listed {
     if packs {
         return pack_file(file, out);
