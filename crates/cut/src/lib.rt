@@ -21,7 +21,7 @@ pub enum Fitted {
 }
 
 // A curve's eight numbers and its largest distance, at the front of the slice.
-fn put_record(curves: &mut [f64], c: Curve, far: f64)
+pub fn put_record(curves: &mut [f64], c: Curve, far: f64)
     requires { ⌜ recordNumbers ≤ length (now curves) ⌝ }
     ensures { λ _. ⌜ now (curves .exit) ≡ written (flat c far) (now (curves .entry)) ⌝ }
 {

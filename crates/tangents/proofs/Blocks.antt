@@ -18,7 +18,8 @@ use Rattle.ring.specs.declared.Outline.{Outline}
 use Rattle.ring.specs.declared.Outline.the-variants.{Open, Closed}
 use Rattle.ring.proofs.Whole.{again-small, whole-length, halves, as-closed}
 use Rattle.joints.specs.Joints.{Inner, jointAt, seamOf, leftEnd, rightStart}
-use Rattle.tangents.specs.Ways.{over, outlineOf, marksOf, startAt, endAt, meets, startOf, endOf}
+use Rattle.joints.specs.declared.Joint.{Joint}
+use Rattle.tangents.specs.Ways.{tangentAt, waysAt, over, outlineOf, marksOf, startAt, endAt, meets, startOf, endOf}
 
 pub over-small : (k : Cutting) → over k ≤ 1
 unfolding over
@@ -123,3 +124,8 @@ pub seam-of : (k : Cutting) (ms : List Float) (n : ℕ) → length (marksOf k ms
 seam-of k ms n l h o =
     let e : 1 + count ms ≡ n = sym (ap (λ (o : Outline). again o + count ms) o) ∙ marks-of k ms n l h .1 in
     rw (o, e) refl
+
+-- and so the tangents at a cut
+pub ways-as-closed : (o : Outline) (ms : List Float) (k : ℕ) → Inner o ms k → waysAt (whole Closed ms) k ≡ waysAt (whole o ms) k
+unfolding waysAt tangentAt
+ways-as-closed o ms k i = let e = joint-as-closed o ms k i in rw (ap (λ (j : Joint). j .before) e, ap (λ (j : Joint). j .at) e, ap (λ (j : Joint). j .after) e)

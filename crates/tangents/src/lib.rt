@@ -5,6 +5,7 @@ ghost use lib.ListN.{length};
 ghost use Rattle.float.specs.Answer.{outcome};
 ghost use Rattle.limits.specs.Limits.{mostNumbered};
 ghost use Rattle.marks.specs.Answers.{wayAnswer};
+ghost use Rattle.ring.specs.Ring.{whole};
 ghost use Rattle.ring.specs.declared.Outline.the-variants as outline;
 ghost use Rattle.joints.specs.Joints.{Inner};
 ghost use Rattle.tangents.specs.Ways.{turnAnswer, tangentAt, waysAt, over, outlineOf, marksOf, startAt, endAt, meets, startOf, endOf, waysOf};
@@ -24,19 +25,19 @@ pub enum Turn {
     Lost,
 }
 
-// The tangent at mark `at`, from its two neighbours.
+// The tangent at mark `at`, from its two neighbours; behind the last mark stands mark 0.
 fn tangent_at(marks: &[f64], at: usize) -> Way
-    requires { ⌜ Inner outline.Open (now marks) at ⌝ }
-    ensures { λ r. ⌜ wayAnswer r ≡ outcome (tangentAt (now (marks .entry)) at) ⌝ }
+    requires { ⌜ Inner outline.Closed (now marks) at ⌝ }
+    ensures { λ r. ⌜ wayAnswer r ≡ outcome (tangentAt (whole outline.Closed (now (marks .entry))) at) ⌝ }
 {
     let joint = joints::joint_at(marks, at);
     marks::tangent_between(joint.before, joint.at, joint.after)
 }
 
-// The tangents at a cut at mark `at`.
-pub fn ways_at(marks: &[f64], at: usize) -> Turn
-    requires { ⌜ Inner outline.Open (now marks) at ⌝ }
-    ensures { λ r. ⌜ turnAnswer r ≡ outcome (waysAt (now (marks .entry)) at) ⌝ }
+// The tangents at a cut at mark `at`, where mark 0 stands behind the last.
+pub fn ways_round(marks: &[f64], at: usize) -> Turn
+    requires { ⌜ Inner outline.Closed (now marks) at ⌝ }
+    ensures { λ r. ⌜ turnAnswer r ≡ outcome (waysAt (whole outline.Closed (now (marks .entry))) at) ⌝ }
 {
     let Way::Toward(end) = tangent_at(marks, at) else {
         return Turn::Lost;
@@ -45,6 +46,14 @@ pub fn ways_at(marks: &[f64], at: usize) -> Turn
         return Turn::Lost;
     };
     Turn::At(Ways { end, start })
+}
+
+// The same where all three marks are among those given.
+pub fn ways_at(marks: &[f64], at: usize) -> Turn
+    requires { ⌜ Inner outline.Open (now marks) at ⌝ }
+    ensures { λ r. ⌜ turnAnswer r ≡ outcome (waysAt (now (marks .entry)) at) ⌝ }
+{
+    ways_round(marks, at)
 }
 
 // How an outline is cut into blocks.
@@ -130,7 +139,7 @@ fn meets(cutting: Cutting, a: usize, b: usize) -> bool
 }
 
 // The tangent at the start of a block from mark `from`, where n marks are cut into blocks.
-fn start_of(cutting: Cutting, marks: &[f64], n: usize, from: usize) -> Way
+pub fn start_of(cutting: Cutting, marks: &[f64], n: usize, from: usize) -> Way
     requires { ⌜ length (marksOf cutting (now marks)) ≡ 2 * n ⌝ }
     requires { ⌜ (from + 2 ≤ n) × (n ≤ mostNumbered) ⌝ }
     ensures { λ r. ⌜ wayAnswer r ≡ outcome (startOf cutting (marksOf cutting (now (marks .entry))) n from) ⌝ }
@@ -148,7 +157,7 @@ fn start_of(cutting: Cutting, marks: &[f64], n: usize, from: usize) -> Way
 }
 
 // The tangent at the end of a block up to mark `to`, which is not in it.
-fn end_of(cutting: Cutting, marks: &[f64], n: usize, to: usize) -> Way
+pub fn end_of(cutting: Cutting, marks: &[f64], n: usize, to: usize) -> Way
     requires { ⌜ length (marksOf cutting (now marks)) ≡ 2 * n ⌝ }
     requires { ⌜ (2 ≤ to) × (to ≤ n) × (n ≤ mostNumbered) ⌝ }
     ensures { λ r. ⌜ wayAnswer r ≡ outcome (endOf cutting (marksOf cutting (now (marks .entry))) n to) ⌝ }
