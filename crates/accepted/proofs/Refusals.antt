@@ -83,7 +83,7 @@ one-of : (b : Bool) (q n : ℕ) → q ≤ 5 → n ≤ 5 → refuse b q n ≤ 5
 one-of true q n h l = h
 one-of false q n h l = l
 
-gate-most : (top : ℕ) (o : Outline) (form : Form) (k : ℕ) (ms : List Float) (tol : Float) (c f w p : ℕ) → gateFor top o form k ms tol c f w p ≤ 5
+pub gate-most : (top : ℕ) (o : Outline) (form : Form) (k : ℕ) (ms : List Float) (tol : Float) (c f w p : ℕ) → gateFor top o form k ms tol c f w p ≤ 5
 unfolding gateFor
 gate-most top o form k ms tol c f w p =
     one-of (not (eqb (length ms % 2) 0)) 3 _ (omega arith)
@@ -94,7 +94,7 @@ gate-most top o form k ms tol c f w p =
     (one-of (not (inRange ms)) 5 _ (omega arith)
     (one-of (not (tolerable tol)) 5 0 (omega arith) (omega arith)))))))
 
-cubic-most : (ms : List Float) (s e : Point) (tol : Float) (c f w p : ℕ) → cubicGate ms s e tol c f w p ≤ 5
+pub cubic-most : (ms : List Float) (s e : Point) (tol : Float) (c f w p : ℕ) → cubicGate ms s e tol c f w p ≤ 5
 unfolding cubicGate
 cubic-most ms s e tol c f w p = go (eqb (gateOf 512 Open ms tol c f w p) 0)
   where

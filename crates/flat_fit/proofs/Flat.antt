@@ -7,7 +7,7 @@ use mathlib.Core.List.{List}
 use lib.ListN.{length, replicate}
 use lib.Dec.{eqb, ltb}
 use lib.Ieee.{Float}
-use borrow.Author.Tests.{eq-eqb, ne-eqb, ltb-false}
+use borrow.Author.Tests.{eq-eqb, ne-eqb, ltb-true, ltb-false}
 use Rattle.limits.specs.Limits.{mostMarks, mostNumbered}
 use Rattle.marks.specs.Marks.{count}
 use Rattle.marks.specs.Block.{blockSize}
@@ -32,9 +32,23 @@ use Rattle.flat_fit.specs.Sizes.{Joins, SizeIn}
 
 -- ---- the tests
 
--- with room for open parts the tests are the first engine's
-pub roomy : (g o n : ℕ) → ltb o (2 * n) ≡ false → openGate g o n ≡ g
-roomy g o n h = rw h
+module _ (g o n : ℕ) where
+  -- with room for open parts the tests are the first engine's
+  pub roomy : 2 * n ≤ o → g ≡ openGate g o n
+  roomy h = go (ltb o (2 * n)) refl
+    where
+      go : (b : Bool) → ltb o (2 * n) ≡ b → g ≡ cond (b && (eqb g 0 || eqb g 5)) 4 g
+      go true e = let l = ltb-true o (2 * n) e in absurd (omega arith)
+      go false e = refl
+
+  module _ (short : o < 2 * n) where
+    -- without it they are where they refuse by another number than 5
+    pub shorter : (b : Bool) → (eqb g 0 || eqb g 5) ≡ b → cond b 4 g ≡ openGate g o n
+    shorter b e = go (ltb o (2 * n)) refl
+      where
+        go : (a : Bool) → ltb o (2 * n) ≡ a → cond b 4 g ≡ cond (a && (eqb g 0 || eqb g 5)) 4 g
+        go true x = rw e
+        go false x = let l = ltb-false o (2 * n) x in absurd (omega arith)
 
 -- an open gate: the first engine's is open, and there is room
 pub opened : (g o n : ℕ) → openGate g o n ≡ 0 → (g ≡ 0) × (2 * n ≤ o)

@@ -54,7 +54,10 @@ fn open_gate(refusal: u32, marks: &[f64], room: usize) -> u32
     ensures { λ r. ⌜ r ≡ openGate refusal «room» (count (now (marks .entry))) ⌝ }
 {
     let wanted = 2 * (marks.len() / 2);
-    if (room < wanted) & ((refusal == 0) | (refusal == OUT_OF_RANGE)) {
+    if wanted <= room {
+        return refusal;
+    }
+    if (refusal == 0) | (refusal == OUT_OF_RANGE) {
         return NO_ROOM;
     }
     refusal

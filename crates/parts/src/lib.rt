@@ -77,8 +77,8 @@ pub fn start_in(heading: Heading, marks: &[f64], n: usize, size: usize, at: usiz
     let Turn::At(ways) = tangents::ways_round(marks, at) else {
         return Way::Lost;
     };
-    let start = ways.start;
-    Way::Toward(start)
+    let turned = ways.start;
+    Way::Toward(turned)
 }
 
 // The tangent with which a part ends at mark `at`: the block's, or at a cut the shared one.
@@ -93,6 +93,6 @@ pub fn end_in(heading: Heading, marks: &[f64], n: usize, size: usize, at: usize)
     let Turn::At(ways) = tangents::ways_round(marks, at) else {
         return Way::Lost;
     };
-    let end = ways.end;
-    Way::Toward(end)
+    let shared = ways.end;
+    Way::Toward(shared)
 }

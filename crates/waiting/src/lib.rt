@@ -110,16 +110,16 @@ fn wait_blocks(last: usize, size: usize, open: &mut [u32]) -> Waiting
     requires { ⌜ (0 < last) × ((0 < size) × ((last < mostNumbered) × (last ≤ length (now «open»)))) ⌝ }
     ensures { λ r. ⌜ Blocks size last 0 (r .to) (waits (r .depth) (now («open» .exit))) ⌝ }
 {
-    let mut to = last;
+    let mut stop = last;
     let mut depth = 0;
     let mut from = (last - 1) / size * size;
     while 0 < from {
-        open[depth] = to as u32;
+        open[depth] = stop as u32;
         depth += 1;
-        to = from;
+        stop = from;
         from -= size;
     }
-    Waiting { to, depth }
+    Waiting { to: stop, depth }
 }
 
 // The curves of all open parts, from left to right. A part that is over the tolerance is cut: its own end waits, and its left side is next.
@@ -172,9 +172,10 @@ fn work_off(
                 to = open[depth] as usize;
             }
             Tried::Cut(at) => {
+                let cut = from + at;
                 open[depth] = to as u32;
                 depth += 1;
-                to = from + at;
+                to = cut;
             }
             Tried::Refused(q) => return Fitted::Refused(q),
         }

@@ -7,10 +7,10 @@ use Rattle.waiting.proofs.wait_blocks.Statement.{statement}
 use Rattle.waiting.proofs.wait_blocks.Tie as tie
 
 abbrev Inv-loop : tie.InvT-loop
-Inv-loop last size open₀ to₀ depth₀ from₀ «open» to depth from = Laying last size open₀ «open» to depth from
+Inv-loop last size open₀ stop₀ depth₀ from₀ «open» stop depth from = Laying last size open₀ «open» stop depth from
 
 abbrev μ-loop : tie.MeasureT-loop
-μ-loop last size open₀ to₀ depth₀ from₀ «open» to depth from = from
+μ-loop last size open₀ stop₀ depth₀ from₀ «open» stop depth from = from
 
 sub-from : tie.Need-sub-from Inv-loop μ-loop
 sub-from c = omega (arith, c .pre)

@@ -109,8 +109,11 @@ loop-again c = so-next (opened (c .before .before .before .before .before .befor
 enum-known-tried-2 : tie.Need-enum-known-tried-2 Inv-loop μ-loop
 enum-known-tried-2 c = search needs
 
+add-cut : tie.Need-add-cut Inv-loop μ-loop
+add-cut c = omega (arith, numbers (opened (c .before .before .before)), cut-inside (opened (c .before .before .before)) (ran (c .before .before .before)) (c .before .tried2 .given .0 .0) (c .before .tried2 .given .1))
+
 cast-open : tie.Need-cast-open Inv-loop μ-loop
-cast-open c = omega (arith, numbers (opened (c .before .before .before)))
+cast-open c = omega (arith, numbers (opened (c .before .before .before)), cut-inside (opened (c .before .before .before)) (ran (c .before .before .before)) (c .before .tried2 .given .0 .0) (c .before .tried2 .given .1))
 
 mul-open : tie.Need-mul-open Inv-loop μ-loop
 mul-open c = omega (arith, numbers (opened (c .before .before .before)))
@@ -120,9 +123,6 @@ slice-write-open c = omega (arith, numbers (opened (c .before .before .before)))
 
 add-depth : tie.Need-add-depth Inv-loop μ-loop
 add-depth c = omega (arith, numbers (opened (c .before .before .before)))
-
-add-to : tie.Need-add-to Inv-loop μ-loop
-add-to c = omega (arith, numbers (opened (c .before .before .before)), cut-inside (opened (c .before .before .before)) (ran (c .before .before .before)) (c .before .tried2 .given .0 .0) (c .before .tried2 .given .1))
 
 loop-less-2 : tie.Need-loop-less-2 Inv-loop μ-loop
 loop-less-2 c = omega (arith, numbers (opened (c .before .before .before)))
@@ -182,11 +182,11 @@ work-off-spec =
     loop-less
     loop-again
     enum-known-tried-2
+    add-cut
     cast-open
     mul-open
     slice-write-open
     add-depth
-    add-to
     loop-less-2
     loop-again-2
     enum-known-tried-3
