@@ -1,13 +1,14 @@
 #!/usr/bin/env python3
-"""graph.py ARCHIVE: which functions of libwesalondo.a call which, and how much stack they take, read out of its code.
+"""graph.py ARCHIVE HEADER: which functions of libwesalondo.a call which, and how much stack they take, read out of its code.
 
-The second engine is for boards with a small stack. So of each of its calls this tests that no function which it leads to calls itself, not by way of others either;
-that all these calls are to functions that stand in the code, and out of the archive only to memcpy and memset; and that no function of them has a large frame. With
-that, what a call can take of the stack at most follows from the code, on whatever input. The first engine calls itself, and that must be found.
+The second engine is for boards with a small stack. So of each of its calls this tests that no function which it leads to calls itself, not by way of others
+either; that every call on the way names a function, and out of the archive only memcpy and memset; and that no function on it has a large frame. What a call can
+take of the stack at most follows from the code then, whatever the input, and must be within the header's figure. The first engine calls itself, and that must be found.
 
-It needs Python alone. The code is taken apart here, by the instructions of x86-64 that the kit's compiler writes: one that is not known here, or that does not fit the
-others, is told as a failure. Exit status: 0 all passed; 1 something failed; 2 there is no such archive.
+It needs Python alone. The code is taken apart here, by the instructions of x86-64 that the kit's compiler writes: one that is not known here, or that does not
+fit the others, is told as a failure. Exit status: 0 all passed; 1 something failed; 2 there is no such archive or header.
 """
+import re
 import struct
 import sys
 
@@ -73,9 +74,9 @@ class Object:
                     self.tables[section[7]] = filled
 
     def target(self, place, info, addend):
-        """(place, section's number or the name of what is not here, where in it): a place in code or data is filled from its own address, by PC32 or PLT32."""
+        """(place, section's number or the name of what is not here, where in it), as it is counted from the place itself: by PC32 or PLT32. Else it is None there."""
         name, _, index, value = self.symbols[info >> 32]
-        return place, index if index else name, value + addend
+        return place, index if index else name, value + addend if info & 0xFFFFFFFF in (2, 4) else None
 
 
 # ---- one instruction
@@ -114,10 +115,11 @@ SHAPES = shapes()
 
 
 class Instruction:
-    """Its opcode, its byte of operands (or None), the operand that stands in the code, as a number, and where it begins, where its operands do, and where it ends."""
+    """Its opcode, its byte of operands (or None), the operand that stands in the code, as a number, and where it begins, where its operands do, and where it ends.
+    `below` is how far below rsp it reaches: a function that calls none may keep things there."""
 
     def __init__(self, code, at):
-        self.at, self.rex, self.operands, self.value, small = at, 0, None, 0, False
+        self.at, self.rex, self.operands, self.value, self.below, small = at, 0, None, 0, 0, False
         while code[at] in PREFIXES:
             small |= code[at] == 0x66
             at += 1
@@ -132,6 +134,7 @@ class Instruction:
         self.inner = at
         if follows:
             self.operands = code[at]
+            self.below = 0 if self.rex & 1 else below(code, at)
             at += 1 + beyond(code, at)
             if self.opcode in (0xF6, 0xF7) and self.group < 2:
                 size = SHORT if self.opcode == 0xF6 else LONG
@@ -160,6 +163,14 @@ def beyond(code, at):
     return more + (1 if mode == 1 else 4)
 
 
+def below(code, at):
+    """How far below rsp an address lies, if it is by rsp at all."""
+    mode, base = code[at] >> 6, code[at] & 7
+    if mode not in (1, 2) or base != 4 or code[at + 1] & 7 != 4:
+        return 0
+    return max(0, -int.from_bytes(code[at + 2:at + 2 + (1 if mode == 1 else 4)], 'little', signed=True))
+
+
 # ---- one function
 
 CALL, JUMP, SHORT_JUMP, RETURN, TRAP = 0xE8, 0xE9, 0xEB, 0xC3, 0x0F0B
@@ -186,8 +197,8 @@ class Walk:
         starts, found = sorted(self.steps), {}
         for place, where, offset in function.filled:
             step = self.steps[max(start for start in starts if start <= place)]
-            if not step.inner <= place <= step.end - 4:
-                raise Unknown(f'{self.name} has an address at {place:X}, and no operand there')
+            if offset is None or not step.inner <= place <= step.end - 4:
+                raise Unknown(f'{self.name} has an address at {place:X}, and no operand for it')
             found[step.at] = where, offset + step.end - place
         return found
 
@@ -202,7 +213,7 @@ class Walk:
                 raise Unknown(f'{self.name} goes to {at:X}, where no instruction is')
             step = self.steps[at]
             after = depth + self.grown(step)
-            self.frame = max(self.frame, after)
+            self.frame = max(self.frame, after, depth + step.below)
             waiting += [(to, after) for to in self.next(step, after) if to not in depths or depths[to] != after]
 
     def grown(self, step):
@@ -252,16 +263,15 @@ class Walk:
         return self.obj.functions[where].name if where in self.obj.functions else where
 
     def by_table(self):
-        """All places of the tables that it reads: each is to be in the function itself."""
-        fronts = sorted({where for where in self.filled.values() if where[0] in self.obj.tables})
-        to = []
-        for section in {section for section, _ in fronts}:
+        """All places of the tables that it reads, each as it is counted from its table's front: they are to be in the function itself."""
+        tables, to = {where for where in self.filled.values() if where[0] in self.obj.tables}, []
+        for section in {section for section, _ in tables}:
             for place, where, offset in self.obj.tables[section]:
-                front = max(front for owner, front in fronts if owner == section and front <= place)
-                if where != self.index:
-                    self.faults.append(f'{self.name} has a table of other functions')
+                fronts = [front for owner, front in tables if owner == section and front <= place]
+                if where == self.index and offset is not None and fronts:
+                    to.append(offset - place + max(fronts))
                 else:
-                    to.append(offset - (place - front))
+                    self.faults.append(f'{self.name} has a table of other places than its own')
         if not to:
             self.faults.append(f'{self.name} jumps by an address')
         return to
@@ -273,8 +283,7 @@ class Graph:
     """Every function that a call leads to, what each takes of the stack with all that it calls, and the ways back."""
 
     def __init__(self, archive):
-        with open(archive, 'rb') as file:
-            found = [Object(data) for data in objects(file.read())]
+        found = [Object(data) for data in objects(archive)]
         self.places = {function.name: (obj, index) for obj in found for index, function in obj.functions.items()}
         self.walks = {}
 
@@ -331,7 +340,7 @@ def check(holds, told):
         print(told)
 
 
-def check_second(graph, name):
+def check_second(graph, name, header):
     inside, outside, back = graph.reached(name)
     check(back is None, f'{name} leads to a function that calls itself: {" > ".join(back or [])}')
     check(outside <= OUTSIDE, f'{name} leads out of the archive: {", ".join(sorted(outside - OUTSIDE))}')
@@ -341,28 +350,31 @@ def check_second(graph, name):
     frame = graph.walk(largest).frame
     check(frame <= LARGE, f'{name} leads to {largest}, which has a frame of {frame} bytes')
     if back is None:
-        print(f'{name}: {len(inside)} functions, the largest frame {frame} bytes ({largest}), at most {graph.stack(name)} bytes of stack')
+        most, figures = graph.stack(name), re.findall(rf'{name} ([0-9]+) bytes', header)
+        print(f'{name}: {len(inside)} functions, the largest frame {frame} bytes ({largest}), at most {most} bytes of stack')
+        check(len(figures) == 1 and most <= int(figures[0]), f'{name} can take {most} bytes of stack, and the header says {" and ".join(figures) or "nothing"}')
 
 
-def check_first(graph, name):
+def check_first(graph, name, _):
     back = graph.reached(name)[2]
     check(back is not None, f'{name} calls itself, and that is not found')
 
 
-def test(graph):
+def test(graph, header):
     for names, tested in ((SECOND, check_second), (FIRST, check_first)):
         for name in names:
             check(name in graph.places, f'there is no {name} in the archive')
             if name in graph.places:
-                tested(graph, name)
+                tested(graph, name, header)
 
 
 def main(given):
-    if len(given) != 1:
-        print('usage: bindings/c/graph.py ARCHIVE')
+    if len(given) != 2:
+        print('usage: bindings/c/graph.py ARCHIVE HEADER')
         return 2
     try:
-        test(Graph(given[0]))
+        with open(given[0], 'rb') as archive, open(given[1], encoding='utf-8') as header:
+            test(Graph(archive.read()), header.read())
     except OSError as error:
         print(error)
         return 2
