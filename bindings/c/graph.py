@@ -3,7 +3,8 @@
 
 The second engine is for boards with a small stack. So of each of its calls this tests that no function which it leads to calls itself, not by way of others
 either; that every call on the way names a function, and out of the archive only memcpy and memset; and that no function on it has a large frame. What a call can
-take of the stack at most follows from the code then, whatever the input, and must be within the header's figure. The first engine calls itself, and that must be found.
+take of the stack at most follows from the code then, whatever the input, and must be within the header's figure. The first engine calls itself, and that must
+be found.
 
 It needs Python alone. The code is taken apart here, by the instructions of x86-64 that the kit's compiler writes: one that is not known here, or that does not
 fit the others, is told as a failure. Exit status: 0 all passed; 1 something failed; 2 there is no such archive or header.
@@ -11,11 +12,12 @@ fit the others, is told as a failure. Exit status: 0 all passed; 1 something fai
 import re
 import struct
 import sys
+from collections import namedtuple
 
 SECOND = ('wes_fit_curve_cubic_flat', 'wes_fit_joined_flat', 'wes_fit_ring_flat')
 FIRST = ('wes_fit_curve_cubic', 'wes_fit_joined', 'wes_fit_ring')
 OUTSIDE = {'memcpy', 'memset'}  # what the archive asks of whoever links it; their own stack is not counted
-LARGE = 4096 + 256  # more than this is a large frame
+LARGE = 4096 + 256  # more than this is a large frame: a block of a ring is 200 marks, in 3,200 bytes
 
 
 class Unknown(Exception):
@@ -23,13 +25,6 @@ class Unknown(Exception):
 
 
 # ---- the archive: its functions, each a section of its own
-
-class Function:
-    """Its code, and what the linker is to fill in: (place, symbol's section or name, where in it)."""
-
-    def __init__(self, name, code):
-        self.name, self.code, self.filled = name, code, []
-
 
 def objects(data):
     """The files in an archive, but for its index and its table of names."""
@@ -45,38 +40,37 @@ def text(data, at):
     return data[at:data.index(b'\0', at)].decode()
 
 
+Section = namedtuple('Section', 'name kind flags address at size link owner aligned each')
+Symbol = namedtuple('Symbol', 'name kind other section value size')
+SYMBOLS, FILLED, IS_CODE, IS_FUNCTION, FROM_PLACE = 2, 4, 4, 2, (2, 4)  # numbers of the format: kinds of sections, a flag, a kind of symbol, PC32 and PLT32
+
+
 class Object:
-    """An ELF file's functions by their sections' numbers, and its tables: for each section that is no code, what is to be filled in there."""
+    """An ELF file's functions: name and code, by the section's number. And for each section what the linker is to fill in there: (place, a section's number or the
+    name of what is elsewhere, where in it)."""
 
     def __init__(self, data):
-        table, = struct.unpack_from('<Q', data, 0x28)
-        size, count, _ = struct.unpack_from('<3H', data, 0x3A)
-        self.sections = [struct.unpack_from('<2I4Q2I2Q', data, table + size * i) for i in range(count)]
-        held = lambda section: data[section[4]:section[4] + section[5]]
-        symbols, = [section for section in self.sections if section[1] == 2]
-        names = held(self.sections[symbols[6]])
-        self.symbols = [(text(names, name), kind & 15, index, value) for name, kind, _, index, value, _ in struct.iter_unpack('<IBBHQQ', held(symbols))]
-        is_code = lambda index: 0 < index < count and self.sections[index][2] & 4 and self.sections[index][5] > 0
-        self.functions, self.tables = {}, {}
-        for name, kind, index, value in self.symbols:
-            if kind == 2 and is_code(index):
-                if index in self.functions or value != 0:
-                    raise Unknown(f'{name} is not alone in its section')
-                self.functions[index] = Function(name, held(self.sections[index]))
-        if len(self.functions) != sum(1 for index in range(count) if is_code(index)):
-            raise Unknown('there is code of no function')
+        front, size, count = *struct.unpack_from('<Q', data, 0x28), *struct.unpack_from('<2H', data, 0x3A)
+        self.data, self.filled = data, {}
+        self.sections = [Section(*struct.unpack_from('<2I4Q2I2Q', data, front + size * i)) for i in range(count)]
+        table, = [section for section in self.sections if section.kind == SYMBOLS]
+        names = self.held(self.sections[table.link])
+        self.symbols = [Symbol(text(names, name), *rest) for name, *rest in struct.iter_unpack('<IBBHQQ', self.held(table))]
+        self.functions = {symbol.section: (symbol.name, self.held(self.sections[symbol.section])) for symbol in self.symbols if symbol.kind & 15 == IS_FUNCTION}
+        alone = [symbol.section for symbol in self.symbols if symbol.kind & 15 == IS_FUNCTION and symbol.value == 0]
+        if sorted(alone) != [i for i, section in enumerate(self.sections) if section.flags & IS_CODE and section.size > 0]:
+            raise Unknown('not every function is alone in its section')
         for section in self.sections:
-            if section[1] == 4:
-                filled = [self.target(*entry) for entry in struct.iter_unpack('<QQq', held(section))]
-                if section[7] in self.functions:
-                    self.functions[section[7]].filled = filled
-                else:
-                    self.tables[section[7]] = filled
+            if section.kind == FILLED:
+                self.filled[section.owner] = [self.target(*entry) for entry in struct.iter_unpack('<QQq', self.held(section))]
+
+    def held(self, section):
+        return self.data[section.at:section.at + section.size]
 
     def target(self, place, info, addend):
-        """(place, section's number or the name of what is not here, where in it), as it is counted from the place itself: by PC32 or PLT32. Else it is None there."""
-        name, _, index, value = self.symbols[info >> 32]
-        return place, index if index else name, value + addend if info & 0xFFFFFFFF in (2, 4) else None
+        """As it is counted from the place itself; None where it is counted in another way."""
+        symbol = self.symbols[info >> 32]
+        return place, symbol.section or symbol.name, symbol.value + addend if info & 0xFFFFFFFF in FROM_PLACE else None
 
 
 # ---- one instruction
@@ -173,37 +167,36 @@ def below(code, at):
 
 # ---- one function
 
-CALL, JUMP, SHORT_JUMP, RETURN, TRAP = 0xE8, 0xE9, 0xEB, 0xC3, 0x0F0B
+CALL, JUMP, SHORT_JUMP, RETURN, TRAP, NOTHING = 0xE8, 0xE9, 0xEB, 0xC3, 0x0F0B, (0x90, 0x0F1F)
 
 
 class Walk:
     """A function, gone through along its own jumps: its frame, and whom it calls with how much on the stack."""
 
     def __init__(self, obj, index):
-        function = obj.functions[index]
-        self.name, self.frame, self.calls, self.faults = function.name, 0, [], []
+        self.obj, self.index, self.frame, self.calls, self.faults = obj, index, 0, [], []
+        self.name, code = obj.functions[index]
         self.steps, at = {}, 0
-        while at < len(function.code):
-            self.steps[at] = Instruction(function.code, at)
+        while at < len(code):
+            self.steps[at] = Instruction(code, at)
             at = self.steps[at].end
-        if at != len(function.code):
+        if at != len(code):
             raise Unknown(f'{self.name} does not end with an instruction')
-        self.index, self.obj = index, obj
-        self.filled = self.by_instruction(function)
+        self.filled = self.by_instruction(obj.filled.get(index, []))
         self.go()
 
-    def by_instruction(self, function):
+    def by_instruction(self, filled):
         """What is filled into each instruction: into its operands, or it was not taken apart as it should be."""
-        starts, found = sorted(self.steps), {}
-        for place, where, offset in function.filled:
-            step = self.steps[max(start for start in starts if start <= place)]
+        found = {}
+        for place, where, offset in filled:
+            step = self.steps[max(start for start in self.steps if start <= place)]
             if offset is None or not step.inner <= place <= step.end - 4:
                 raise Unknown(f'{self.name} has an address at {place:X}, and no operand for it')
             found[step.at] = where, offset + step.end - place
         return found
 
     def go(self):
-        """The stack is as deep wherever an instruction is come to from, and empty at the end."""
+        """The stack is as deep wherever an instruction is come to from, and empty at the end. All instructions are come to, but for those that do nothing."""
         depths, waiting = {}, [(0, 0)]
         while waiting:
             at, depth = waiting.pop()
@@ -215,6 +208,9 @@ class Walk:
             after = depth + self.grown(step)
             self.frame = max(self.frame, after, depth + step.below)
             waiting += [(to, after) for to in self.next(step, after) if to not in depths or depths[to] != after]
+        left = [at for at, step in self.steps.items() if at not in depths and step.opcode not in NOTHING]
+        if left:
+            raise Unknown(f'{self.name} has an instruction at {left[0]:X}, and nothing leads there')
 
     def grown(self, step):
         """By how much the stack grows."""
@@ -260,13 +256,13 @@ class Walk:
             self.calls.append((where[0], depth + (8 if step.opcode == CALL else 0)))
 
     def told(self, where):
-        return self.obj.functions[where].name if where in self.obj.functions else where
+        return self.obj.functions[where][0] if where in self.obj.functions else where
 
     def by_table(self):
         """All places of the tables that it reads, each as it is counted from its table's front: they are to be in the function itself."""
-        tables, to = {where for where in self.filled.values() if where[0] in self.obj.tables}, []
+        tables, to = {where for where in self.filled.values() if where[0] in self.obj.filled and where[0] not in self.obj.functions}, []
         for section in {section for section, _ in tables}:
-            for place, where, offset in self.obj.tables[section]:
+            for place, where, offset in self.obj.filled[section]:
                 fronts = [front for owner, front in tables if owner == section and front <= place]
                 if where == self.index and offset is not None and fronts:
                     to.append(offset - place + max(fronts))
@@ -284,7 +280,7 @@ class Graph:
 
     def __init__(self, archive):
         found = [Object(data) for data in objects(archive)]
-        self.places = {function.name: (obj, index) for obj in found for index, function in obj.functions.items()}
+        self.places = {name: (obj, index) for obj in found for index, (name, _) in obj.functions.items()}
         self.walks = {}
 
     def walk(self, name):
@@ -316,13 +312,13 @@ class Graph:
 
     def stack(self, name):
         """At most, with the way back to who called. Only where no function calls itself."""
-        return 8 + self.below(name, {})
+        return 8 + self.within(name, {})
 
-    def below(self, name, known):
+    def within(self, name, known):
         if name not in self.places:
             return 0
         if name not in known:
-            known[name] = max([self.walk(name).frame] + [depth + self.below(other, known) for other, depth in self.calls(name)])
+            known[name] = max([self.walk(name).frame] + [depth + self.within(other, known) for other, depth in self.calls(name)])
         return known[name]
 
 
