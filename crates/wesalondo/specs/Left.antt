@@ -31,13 +31,13 @@ leftBy E = fitLeft (countCrossed (E .answer)) (E .curves) (E .firsts) (E .worsts
 
 pub record FlatLeft : Type 0 where
   pub fit : FitLeft
-  pub «open» : List ℕ
+  pub parts : List ℕ
 
 abbrev pub flatLeft : Crossed ℕ → List Float → List ℕ → List ℕ → List Float → List ℕ → FlatLeft
-flatLeft a C F W P O = record { fit = fitLeft a C F W P; «open» = O }
+flatLeft a C F W P O = record { fit = fitLeft a C F W P; parts = O }
 
 abbrev pub leftByFlat : FlatEnding → FlatLeft
-leftByFlat E = record { fit = leftBy (E .fit); «open» = E .«open» }
+leftByFlat E = record { fit = leftBy (E .fit); parts = E .parts }
 
 -- ---- a curve in its points
 
