@@ -175,7 +175,13 @@ pub fn direct_case(flat: bool, line: &[u8], at: usize, curves: &mut [f64]) -> bo
     let end = take_point(line, start.then);
     let from = start.p;
     let to = end.p;
-    fit_case(direct_by(flat, from, to), tolerance.x, line, end.then, curves)
+    fit_case(
+        direct_by(flat, from, to),
+        tolerance.x,
+        line,
+        end.then,
+        curves,
+    )
 }
 
 // source, loop, joined, ring, joined_flat, ring_flat TOL X0 Y0 ..
