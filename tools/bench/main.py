@@ -273,7 +273,7 @@ def parser():
                     'wesalondo fit cover.house --save fitted.house')
     verb.add_argument('files', metavar='FILE', nargs='+', help='a house file, or - for standard input; curves that it has are not looked at')
     verb.add_argument('--ring', action='store_true', help='a closed outline, which comes back to its first mark')
-    add_flat(verb, ', and --save is not for it')
+    add_flat(verb, '; not with --save')
     verb.add_argument('--curves', action='store_true', help='print a line for each curve besides: how far off it is, and at which mark')
     verb.add_argument('--listing', action='store_true', help='print the curves of one file: a line OUTLINE, then a line PIECE for each')
     verb.add_argument('--save', metavar='OUT.house', help='write one file with its curves')
@@ -288,7 +288,7 @@ def parser():
                     'wesalondo plot cover.house --tiles A4 --out cover.html')
     verb.add_argument('file', metavar='FILE', help='a house file, or - for standard input')
     verb.add_argument('--ring', action='store_true', help='fit and draw a closed outline; curves that the file has are not looked at')
-    add_flat(verb, ', and curves that the file has are drawn as they are')
+    add_flat(verb)
     verb.add_argument('--out', metavar='OUT.svg', help='the file to write; without it the drawing goes to standard output')
     verb.add_argument('--tiles', metavar='A4|A3|WxH', help='an HTML file with a page for every sheet of this paper, to print and glue; W and H in millimetres')
 
