@@ -610,7 +610,8 @@ class Long(Case):
 
     def test_engines(self):
         """Every part is cut until it has two marks: both engines give a curve for each two, the same ones."""
-        teeth = words(patterns_of(*(value for i in range(LINE_MARKS) for value in (i, i * i % 11))))
+        from vectors import outlines
+        teeth = words(outlines.saw(LINE_MARKS))
         for kind, count in (('joined', LINE_MARKS - 1), ('ring', LINE_MARKS)):
             first, second = self.answers([f'{one} {word_of(0.0)} {teeth}' for one in (kind, f'{kind}_flat')])
             self.assertEqual((first == second, first.split(' ', 2)[:2]), (True, ['0', str(count)]))
