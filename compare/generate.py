@@ -1,7 +1,7 @@
 #!/usr/bin/env python3
 """generate.py [SEED]: prints cases for replay and for the Rust, one a line; the same seed gives the same lines.
 
-Single curves, nearest points, outlines (smooth, noisy, long, damaged), distances, numbers of blocks and their sizes, lists for the checker, path data, house files to pack and to unpack, and both sides of every limit.
+Single curves, nearest points, outlines (smooth, noisy, long, damaged; by both engines where both have the fit), distances, numbers of blocks and their sizes, lists for the checker, path data, house files to pack and to unpack, and both sides of every limit.
 """
 import math
 import os
@@ -20,7 +20,7 @@ from shared.pack_cases import files, large_files, random_cases
 from shared.path_cases import TEXTS, meeting, random_list, random_number, random_soup, random_text
 from shared.path_cases import lists as path_lists
 from shared.path_data import exported
-from shared.table import LINE_MARKS, Refused
+from shared.table import LINE_MARKS, Refused, by_both, flat_line
 from shared.ties import CURVE, PARAMS, TIES
 from shared.words import word_of
 
@@ -434,6 +434,7 @@ def nonsense():
     yield 'sqrt  3FF0000000000000'
     yield 'check 3FF0000000000000 2 0000000000000000 0000000000000000'
     yield 'ring'
+    yield from ['source_flat 3FF0000000000000', 'loop_flat 3FF0000000000000', 'ring_flats 3FF0000000000000']
     yield 'check_ring'
     yield 'check_ringx 3FF0000000000000 0 0 0000000000000000'
     yield 'blocks'
@@ -469,7 +470,7 @@ def main(words):
         raise Stop('usage: compare/generate.py [SEED], SEED a whole number')
     hand.seed(int(words[0]) if words else 1)
     for part in (single, near, outlines, ends, joints, rings, limits, measures, lists, sizes, paths, packing, nonsense):
-        for case in part():
+        for case in by_both(part(), flat_line):
             print(case)
     return 0
 

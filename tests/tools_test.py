@@ -26,7 +26,7 @@ from shared import house, pack_cases, path_cases
 from shared.blocks import size_of
 from shared.checker import FAULT_A, FAULT_B, FAULT_C, FAULT_D, FAULT_E, PASSED, REFUSED, check, kept_for
 from shared.path_data import exported, imported, written
-from shared.table import LINE_BYTES, LINE_FILE, LINE_MARKS, MOST_MARKS, Refused, fit_refusal
+from shared.table import FITS, FLAT_FITS, LINE_BYTES, LINE_FILE, LINE_MARKS, MOST_MARKS, Refused, fit_refusal
 from shared.ties import CURVE, PARAMS, TIES
 from shared.words import NAN, numbers, pattern_of, patterns_of, word_of, words
 
@@ -119,7 +119,7 @@ class Compare(Case):
         self.compare(2, 'line 2 is not plain text', flo, write('accent.txt', LINES[0] + '\nsqrt é\n'))
         self.compare(2, 'line 1 is not plain text', flo, write('bytes.txt', bytes(range(128, 256))))
         mark = words(patterns_of(1.0, 2.0))
-        for kind in ('joined', 'ring'):
+        for kind in ('joined', 'ring', 'joined_flat', 'ring_flat'):
             long_fit = ' '.join([kind, word_of(0.5)] + [mark] * (LINE_MARKS + 1))
             self.compare(2, 'line 2 has more than the 21,000 marks', flo, write('long.txt', f'{LINES[0]}\n{long_fit}\n'))
         for kind in ('check', 'check_ring', 'check_worst', 'check_worst_ring'):
@@ -166,6 +166,9 @@ class Compare(Case):
         self.assertLessEqual({0, 0.5, 1, 2, 3, 4, 199, 200, 201, 4095, 4096, 4097, 20000, 20001, LINE_MARKS}, sizes)
         self.assertEqual(max(sizes), LINE_MARKS)
         self.assertGreater(sum(line[0] == 'check_ring' for line in lines), 1000)
+        twins = [(line, after) for line, after in zip(lines, lines[1:]) if f'{line[0]}_flat' in FLAT_FITS]
+        self.assertGreater(len(twins), 1000)
+        self.assertTrue(all(after == [f'{line[0]}_flat', *line[1:]] for line, after in twins))
         self.assertGreater(min(sum(line[0] == kind for line in lines) for kind in ('export', 'import', 'pack', 'unpack')), 500)
         for kind in ('check_worst', 'check_worst_ring'):
             said = self.answers([' '.join(line) for line in lines if line[0] == kind])
@@ -341,10 +344,20 @@ class Rings(Case):
 
     def test_table(self):
         """The refusals of the fit itself, by the document's table."""
-        for count, short, want in ((5, False, 3), (0, False, 1), (4, True, 1), (6, False, 0), (6, True, 4), (2 * MOST_MARKS, False, 0), (2 * MOST_MARKS + 2, True, 2)):
-            self.assertEqual(fit_refusal(['ring', word_of(0.5)] + [word_of(1.0)] * count, short), want)
+        for kind, (count, short, want) in itertools.product(('ring', 'ring_flat'), (
+                (5, False, 3), (0, False, 1), (4, True, 1), (6, False, 0), (6, True, 4), (2 * MOST_MARKS, False, 0), (2 * MOST_MARKS + 2, True, 2))):
+            self.assertEqual(fit_refusal([kind, word_of(0.5)] + [word_of(1.0)] * count, short), want)
         self.assertEqual(fit_refusal(['joined', word_of(0.5)] + [word_of(1.0)] * 4), 0)
         self.assertEqual(MOST_MARKS, 100000)
+
+    def test_table_of_both_engines(self):
+        """A kind of the second engine is refused as that of the first, with 2 above 512 marks and 5 for a tangent where it is the direct one's."""
+        good, one = [word_of(1.0)] * 4, [word_of(3.0)]
+        for kind in FLAT_FITS:
+            direct = kind == 'direct_flat'
+            for ways, count, want in ((good, 1024, 0), (good, 1026, 2 * direct), (good[:3] + one, 1024, 5 * direct), (good, 0, int(kind != 'joined_flat'))):
+                said = [fit_refusal([name, word_of(0.5), *ways] + [word_of(1.0)] * count) for name in (kind, kind.removesuffix('_flat'))]
+                self.assertEqual(said, [want, want])
 
     def test_refusals(self):
         self.judged((REFUSED, 3, 0), marks=TRIANGLE[:5])
@@ -587,11 +600,21 @@ class Long(Case):
 
     def test_fits(self):
         mark, other = words(patterns_of(1, 2)), word_of(1.0)
-        for kind in ('source', 'loop', 'joined', 'ring'):
+        direct = ('direct', 'direct_flat')
+        for kind in [kind for kind in FITS if kind not in direct]:
             line = ' '.join([kind, word_of(0.5)] + [mark] * LINE_MARKS)
             self.assertEqual(self.answers([line, f'{line} {other}', f'{line} {mark}', f'{kind} {word_of(0.5)} {mark} {mark} {mark}']), ['6', 'BAD', 'BAD', '6'])
-        line = ' '.join([f'direct {words(patterns_of(0.5, 1, 0, 0, 1))}'] + [mark] * LINE_MARKS)
-        self.assertEqual(self.answers([line, f'{line} {mark}', f'{line} {other}']), ['2', 'BAD', 'BAD'])
+        for kind in direct:
+            line = ' '.join([f'{kind} {words(patterns_of(0.5, 1, 0, 0, 1))}'] + [mark] * LINE_MARKS)
+            self.assertEqual(self.answers([line, f'{line} {mark}', f'{line} {other}']), ['2', 'BAD', 'BAD'])
+
+    def test_engines(self):
+        """Every part is cut until it has two marks: both engines give a curve for each two, the same ones."""
+        from vectors import outlines
+        teeth = words(outlines.saw(LINE_MARKS))
+        for kind, count in (('joined', LINE_MARKS - 1), ('ring', LINE_MARKS)):
+            first, second = self.answers([f'{one} {word_of(0.0)} {teeth}' for one in (kind, f'{kind}_flat')])
+            self.assertEqual((first == second, first.split(' ', 2)[:2]), (True, ['0', str(count)]))
 
     def test_packing(self):
         """A curve between each two of 5,000 marks, both ways; as long a file as there is room for, and a mark more."""

@@ -239,10 +239,13 @@ fn check_line(ring: bool, kept: bool, w: &[&str]) -> Option<String> {
     Some(check(ring, number(w[0])?, &points(&numbers(&w[2..count_at])?), &firsts, if kept { Some(&worsts) } else { None }, &curves, &numbers(&w[end..])?))
 }
 
+/// The kinds of the port's second engine are fits of the crate like those of the first.
+fn fit_of(kind: &str) -> &str { kind.strip_suffix("_flat").filter(|fit| ["direct", "joined", "ring"].contains(fit)).unwrap_or(kind) }
+
 /// One line's answer; None for a line that is none of replay's.
 fn answer(line: &str) -> Option<String> {
     let w: Vec<&str> = line.split(' ').collect();
-    let (kind, w) = (w[0], &w[1..]);
+    let (kind, w) = (fit_of(w[0]), &w[1..]);
     let marks = |v: &[f64]| -> Vec<Mark> { points(v).into_iter().map(|c| Mark(c, None)).collect() };
     let show = |v: &[Mark]| -> String { let f: Vec<f64> = v.iter().flat_map(|m| [m.0.0, m.0.1]).collect(); format!("0{}", hex(&f)) };
     let wanted = match kind {

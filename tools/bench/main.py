@@ -30,13 +30,18 @@ def curve_table(listed):
     return ['  ' + ''.join(f'  {cell:>{wide}}' for cell, wide in zip(row, wides)) for row in rows]
 
 
-def fitted(path, words):
-    """The fit of one file, and the house file that holds it; a ring's list stands in none."""
-    data, name = files.read(path), files.shown(path)
-    if words.ring:
-        return outline.ring(name, data), None
+def fit_of(name, data, words):
+    """The fit of a file's bytes, and the house file that holds it, which save writes; a ring's list stands in none, and the second engine's is not written."""
+    if words.ring or words.flat:
+        return outline.by_replay(name, data, words.ring, words.flat), None
     made = outline.saved(data)
     return outline.joined(name, made), made
+
+
+def fitted(path, words):
+    """The fit of one file, and the house file that holds it, if there is one."""
+    data = files.read(path)
+    return fit_of(files.shown(path), data, words)
 
 
 def fit_lines(path, words, wide):
@@ -76,6 +81,8 @@ def fit(words):
         raise Stop('give --listing or --curves, not both')
     if words.ring and words.save is not None:
         raise Stop('--save is not for --ring: a house file holds no list of a closed outline')
+    if words.flat and words.save is not None:
+        raise Stop('--save is not for --flat: the program that writes house files fits by the first engine')
     hold_names(words)
     programs.ready()
     if words.listing:
@@ -145,11 +152,9 @@ def check(words):
 def to_draw(path, words):
     """The list that a file holds, with the checker's verdict; of a file without curves, and of a closed outline, the fit."""
     name, data = os.path.basename(files.shown(path)), files.read(path)
-    if words.ring:
-        return outline.ring(name, data)
-    kind, *rest = outline.judged(data)
+    kind, *rest = ['NO CURVES'] if words.ring else outline.judged(data)
     if kind == 'NO CURVES':
-        return outline.joined(name, outline.saved(data))
+        return fit_of(name, data, words)[0]
     listed = outline.own(name, data)
     listed.verdict = outline.Verdict(True, 'passed') if kind == 'PASSED' else outline.Verdict(False, fault_words(listed, *rest))
     if listed.verdict.passed or rest[0] != 'A':
@@ -253,6 +258,11 @@ def add_verb(verbs, call, words, example):
     return verb
 
 
+def add_flat(verb, more=''):
+    """The option of the verbs that fit, with what one of them says more of it."""
+    verb.add_argument('--flat', action='store_true', help=f'fit by the second engine, made for controllers with a small stack: the answer is the same{more}')
+
+
 def parser():
     whole = Parser(prog='wesalondo', allow_abbrev=False, description='Fits the marks of house files by smooth curves, checks curves, draws them, writes them for a cutter, and packs files for keeping.',
                    epilog='example: wesalondo fit examples/cover.house. The programs behind it are proved and built on first use. '
@@ -263,6 +273,7 @@ def parser():
                     'wesalondo fit cover.house --save fitted.house')
     verb.add_argument('files', metavar='FILE', nargs='+', help='a house file, or - for standard input; curves that it has are not looked at')
     verb.add_argument('--ring', action='store_true', help='a closed outline, which comes back to its first mark')
+    add_flat(verb, '; not with --save')
     verb.add_argument('--curves', action='store_true', help='print a line for each curve besides: how far off it is, and at which mark')
     verb.add_argument('--listing', action='store_true', help='print the curves of one file: a line OUTLINE, then a line PIECE for each')
     verb.add_argument('--save', metavar='OUT.house', help='write one file with its curves')
@@ -277,6 +288,7 @@ def parser():
                     'wesalondo plot cover.house --tiles A4 --out cover.html')
     verb.add_argument('file', metavar='FILE', help='a house file, or - for standard input')
     verb.add_argument('--ring', action='store_true', help='fit and draw a closed outline; curves that the file has are not looked at')
+    add_flat(verb)
     verb.add_argument('--out', metavar='OUT.svg', help='the file to write; without it the drawing goes to standard output')
     verb.add_argument('--tiles', metavar='A4|A3|WxH', help='an HTML file with a page for every sheet of this paper, to print and glue; W and H in millimetres')
 
@@ -284,6 +296,7 @@ def parser():
                     'wesalondo path cover.house --ring --svg > cover.svg')
     verb.add_argument('file', metavar='FILE', help='a house file, or - for standard input; curves that it has are not looked at')
     verb.add_argument('--ring', action='store_true', help='a closed outline, which comes back to its first mark')
+    add_flat(verb)
     verb.add_argument('--svg', action='store_true', help='print an SVG file with the path, which a browser or Inkscape opens at true scale')
 
     for call, words, example in (

@@ -6,6 +6,7 @@ from bench import files, programs
 from shared import house
 from shared.checker import closed, first_marks_fault
 from shared.command import Stop
+from shared.table import FLAT
 from shared.words import number, numbers, pattern_of, word, words
 
 WORD = '[0-9A-F]{16}'
@@ -210,23 +211,24 @@ def joined(name, made):
     return listed
 
 
-def ring(name, data):
-    """The ring fit of a file's marks. Whether the file can be read, and has too many, is judge's answer; the rest is the fit's own."""
+def by_replay(name, data, ring, flat):
+    """The fit of a file's marks that replay makes: that of a closed outline, and those of the second engine. Whether the file can be read, and has too many, is judge's answer; the rest is the fit's own."""
     try:
         judged(data)
     except Refused as refusal:
         if refusal.refusal in (2, 9):
             raise
     held = taken_apart(data, 'judge')
-    (answer,) = ask([f'ring {words([held.tolerance] + held.marks)}'])
+    kind, times = ('ring' if ring else 'joined') + FLAT * flat, held.count + ring
+    (answer,) = ask([f'{kind} {words([held.tolerance] + held.marks)}'])
     if re.fullmatch('[1-9]', answer):
         raise Refused(answer)
     head = re.match('0 ([0-9]{1,4})(?= )', answer)
-    if not head or not re.fullmatch(f'(?: {PIECE}){{{head[1]}}}(?: {WORD}){{{held.count + 1}}}', answer[head.end():]):
-        raise Stop(f'replay gives no curves of a closed outline: it says {answer[:60]!r}')
+    if not head or not re.fullmatch(f'(?: {PIECE}){{{head[1]}}}(?: {WORD}){{{times}}}', answer[head.end():]):
+        raise Stop(f'replay gives no curves of {"a closed" if ring else "an"} outline: it says {answer[:60]!r}')
     pieces = list(re.finditer(f' {PIECE}', answer))
     curves, worsts = [(int(piece[1]), patterns(piece[3])) for piece in pieces], [int(piece[2]) for piece in pieces]
-    listed = Listed(name, house.File(held.tolerance, held.marks, curves, patterns(answer)[-held.count - 1:], worsts), ring=True)
+    listed = Listed(name, house.File(held.tolerance, held.marks, curves, patterns(answer)[-times:], worsts), ring)
     hold(listed, 'replay')
     measure_fit(listed)
     return listed

@@ -12,7 +12,10 @@ LINE_MARKS = 21000      # that a line of replay holds
 LINE_BYTES = 4600000    # of such a line
 LINE_FILE = 1512000     # of a house file that it packs or unpacks
 MOST_DIRECT = 512       # marks of the direct fit and of the listing
-FITS = ('source', 'loop', 'direct', 'joined', 'ring')
+FLAT = '_flat'          # behind a fit's name: by the second engine, which has the last three
+FIRST_FITS = ('source', 'loop', 'direct', 'joined', 'ring')
+FLAT_FITS = tuple(kind + FLAT for kind in FIRST_FITS[2:])
+FITS = FIRST_FITS + FLAT_FITS
 
 
 class Refused(Exception):
@@ -31,9 +34,29 @@ def good_tolerance(word):
     return 0.0 <= value_of(word) < math.inf
 
 
+def fit_of(kind):
+    """Which fit a kind is, by either engine."""
+    return kind.removesuffix(FLAT)
+
+
+def flat_line(line):
+    """The line of a fit, for the second engine; None where that has no such fit."""
+    kind, *rest = line.split(' ', 1)
+    return ' '.join([kind + FLAT, *rest]) if kind + FLAT in FLAT_FITS else None
+
+
+def by_both(cases, flat):
+    """Each case, and behind it what `flat` makes of it for the second engine, if that is anything."""
+    for case in cases:
+        yield case
+        other = flat(case)
+        if other is not None:
+            yield other
+
+
 def fit_marks(words):
     """The words of the marks of a fit's case."""
-    return words[6:] if words[0] == 'direct' else words[2:]
+    return words[6:] if fit_of(words[0]) == 'direct' else words[2:]
 
 
 def marks_refusal(count, most, ring=False):
@@ -47,14 +70,15 @@ def marks_refusal(count, most, ring=False):
 
 def fit_range(words):
     """5 for a fit's numbers, or 0."""
-    tangents = words[2:6] if words[0] == 'direct' else []
+    tangents = words[2:6] if fit_of(words[0]) == 'direct' else []
     bad = outside(fit_marks(words), LARGEST) or outside(tangents, LARGEST_TANGENT) or not good_tolerance(words[1])
     return 5 if bad else 0
 
 
 def fit_refusal(words, room_is_short=False):
-    most = MOST_DIRECT if words[0] == 'direct' else MOST_MARKS
-    return marks_refusal(len(fit_marks(words)), most, words[0] == 'ring') or (4 if room_is_short else fit_range(words))
+    fit = fit_of(words[0])
+    most = MOST_DIRECT if fit == 'direct' else MOST_MARKS
+    return marks_refusal(len(fit_marks(words)), most, fit == 'ring') or (4 if room_is_short else fit_range(words))
 
 
 def refusal(words):

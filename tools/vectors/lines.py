@@ -3,14 +3,15 @@
 Square roots, nearest points and border cases are those of the other programs; single curves, outlines and lists that are read from the kept
 input are asked of the Rust again, and so are distances; how many blocks there are, and their size, is counted by the document (shared/blocks.py); lists with one thing changed are judged by the document's rules (shared/checker.py), and
 path data and packed files are by modules of their own (shared/path_data.py, shared/house.py). A line that is no case is
-BAD; the Rust side, which reads lines too, has to say so as well, but for what is only too long for the program. The last line has no newline."""
+BAD; the Rust side, which reads lines too, has to say so as well, but for what is only too long for the program. Behind each outline of a direct, a joined or a ring fit comes the
+same for the second engine. The last line has no newline."""
 import math
 
 from shared import kept
 from shared.blocks import blocks_of, size_of
 from shared.checker import PASSED
 from shared.command import Stop
-from shared.table import FITS, LINE_MARKS
+from shared.table import FIRST_FITS, FITS, LINE_MARKS, by_both, flat_line
 from shared.words import INFINITY, MINUS, NAN, bits, numbers, pattern_of, patterns_of, word, word_of, words
 from vectors import lists, near, outlines, packing, paths, roots, single
 
@@ -19,7 +20,7 @@ KEPT_CURVES = 230  # calls on single curves, 30 of them refused by 6
 KEPT_OUTLINES = 186
 KEPT_LISTS = 24    # sound lists, seven of them with changed copies
 CHECKS = ('check', 'check_ring', 'check_worst', 'check_worst_ring')
-COLLECTED = {'curves': single.KINDS, 'outlines': FITS, 'lists': CHECKS[:2]}  # lists in the record of nine are made from those
+COLLECTED = {'curves': single.KINDS, 'outlines': FIRST_FITS, 'lists': CHECKS[:2]}  # lists in the record of nine are made from those
 
 
 def values(*floats):
@@ -191,7 +192,8 @@ GOOD = [
     f'check {HALF} 2 {TWO} 1 0 {values(0, 0, 1.32, 0, 2.64, 0, 4, 0)} {values(0, 1)}', f'ring {HALF} {THREE}',
     f'check_ring {HALF} 3 {THREE} 1 0 {values(0, 0, 8, 0, 4, 8, 0, 0)} {values(0, 0.25, 0.75, 1)}',
     f'check_worst {HALF} 2 {TWO} 1 0 0 {values(0, 0, 1.32, 0, 2.64, 0, 4, 0, 0)} {values(0, 1)}',
-    f'check_worst_ring {HALF} 3 {THREE} 1 0 1 {values(0, 0, 8, 0, 4, 8, 0, 0, 0)} {values(0, 0.25, 0.75, 1)}', f'distance {ARCH} {QUERY} {HALF}', 'blocks 7', 'size 7']
+    f'check_worst_ring {HALF} 3 {THREE} 1 0 1 {values(0, 0, 8, 0, 4, 8, 0, 0, 0)} {values(0, 0.25, 0.75, 1)}', f'distance {ARCH} {QUERY} {HALF}', 'blocks 7', 'size 7',
+    f'direct_flat {HALF} {values(1, 0, -1, 0)} {TWO}', f'joined_flat {HALF} {TWO}', f'ring_flat {HALF} {THREE}']
 
 
 def misspelt(line):
@@ -256,7 +258,8 @@ def bad():
         yield from misspelt(line)
     yield from paths.bad()
     yield from packing.bad()
-    yield from [f'direct {HALF} {values(1, 0, -1)}', f'direct {HALF}']
+    yield from by_both([f'direct {HALF} {values(1, 0, -1)}', f'direct {HALF}'], flat_line)
+    yield from [f'source_flat {HALF} {TWO}', f'loop_flat {HALF} {TWO}', '_flat']  # the second engine has no such fits
     yield from miscounted()
     yield from [f'sqrt {HALF}\0', '\0', 'sqrt\xa0' + HALF, '\x7f' * 200, f'sqrt {HALF} ', f'sqrt {HALF} ' + ' ' * 70000]
 
@@ -310,6 +313,12 @@ def to_ask(lines):
     return [(line, None) for line in lines]
 
 
+def flat_row(row):
+    """A case of a fit for the second engine, with the same answer."""
+    line = flat_line(row[0])
+    return None if line is None else (line, row[1])
+
+
 def made_rows():
     """The cases that are made here or by the other programs' modules, in their parts."""
     return {
@@ -351,7 +360,7 @@ def cases(before):
     fits = kept.at_least(by_kind['outlines'], KEPT_OUTLINES, NAME)
     claims = kept.at_least(collected_lists(by_kind['lists']), KEPT_LISTS, NAME)
     rows = made['roots'] + to_ask(curves) + made['curve borders'] + made['nearest']
-    rows += to_ask(fits) + made['outline borders'] + made['whole'] + made['roundings'] + made['nans'] + made['distances'] + made['blocks'] + made['sizes']
+    rows += [*by_both(to_ask(fits) + made['outline borders'], flat_row)] + made['whole'] + made['roundings'] + made['nans'] + made['distances'] + made['blocks'] + made['sizes']
     return rows + list(list_rows(claims)) + made['paths'] + made['packing']
 
 
@@ -385,7 +394,7 @@ def hold_roundings(rust):
 def make(rust):
     before = kept.read_stdin(NAME).decode('latin-1').split('\n')
     wrong = list(bad())
-    end = long_lines() + LAST
+    end = [*by_both(long_lines(), flat_row)] + LAST
     rows = cases(kept.without(before, wrong + [line for line, _ in end]))
     hold(wrong, rust)
     hold_alike(rows, CHECKS, 'checkers', rust)

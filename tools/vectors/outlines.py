@@ -1,25 +1,25 @@
-"""fit_cases: outlines by the five fits.
+"""fit_cases: outlines by the five fits, and by the three that the second engine makes too.
 
-A record is twelve words (which fit, how many numbers the marks have, the rooms for curves, first marks, worst marks and parameters, whether lists are
+A record is thirteen words (which fit, how many numbers the marks have, the rooms for curves, first marks, worst marks, parameters and open parts, whether lists are
 printed, tolerance, tangents) and the marks. A line says 0 and how many curves, or the refusal, and of each lent slice how many places are as
 before, how many are plus zero, and a digest. The lists are the Rust's, 6 is where one of its operations was not finite, and what else is refused,
 and what the slices hold then, is by the document's table. The first KEPT outlines are read from the kept input; both sides of each line of the document
-come from `borders`."""
+come from `borders`. Behind each outline of a direct, a joined or a ring fit comes the same for the second engine, whose answers are to be those of the first."""
 import itertools
 import math
 
 from shared import kept
 from shared.ends import ENDS
 from shared.meetings import ABOUTS
-from shared.table import FITS, fit_refusal
+from shared.table import FIRST_FITS, FITS, FLAT, FLAT_FITS, by_both, fit_of, fit_refusal
 from shared.words import INFINITY, MINUS, NAN, bits, digest_of, number, numbers, pattern_of, patterns_of, words
 
 NAME = 'fit_cases'
 KEPT = 580
-HEAD = 12
-ROOMS = 4   # lent slices: curves, first marks, worst marks, parameters
+HEAD = 13
+ROOMS = 4   # lent slices: curves, first marks, worst marks, parameters; behind them comes that for open parts
 SHORT = 64  # marks of which lists are printed
-BEFORE = [bits(7.5), 7, 7, bits(7.5)]  # what the lent slices hold
+BEFORE = [bits(7.5), 7, 7, bits(7.5), 7]  # what the lent slices hold
 NO_TANGENTS = [0] * 4
 NO_ROOM = [0] * ROOMS
 ABOVE = bits(math.nextafter(1e6, math.inf))
@@ -28,23 +28,28 @@ ABOVE_TWO = bits(math.nextafter(2.0, math.inf))
 
 def room_for(kind, count, *more):
     """The room that so many marks want, with more or less of each. A ring has a curve and a parameter more."""
-    most = count if kind == 'ring' else count - 1
+    most = count if fit_of(kind) == 'ring' else count - 1
     return [want + extra for want, extra in zip([9 * most, most, most, most + 1], more or NO_ROOM)]
+
+
+def open_for(kind, count):
+    """The room for open parts: the first engine has none."""
+    return 2 * count if kind in FLAT_FITS else 0
 
 
 class Outline:
     """A case of one fit. Marks, tolerance and tangents are patterns."""
 
-    def __init__(self, kind, tolerance, marks, room=None, tangents=None, lists=None):
+    def __init__(self, kind, tolerance, marks, room=None, tangents=None, lists=None, open_=None):
         self.kind, self.tolerance, self.marks = kind, tolerance, marks
         self.tangents = tangents or NO_TANGENTS
         self.count = len(marks) // 2
-        self.room = room or room_for(kind, self.count)
+        self.room = (room or room_for(kind, self.count)) + [open_for(kind, self.count) if open_ is None else open_]
         self.lists = self.count <= SHORT if lists is None else lists
 
     def line(self):
         """The line of replay."""
-        tangents = self.tangents if self.kind == 'direct' else []
+        tangents = self.tangents if fit_of(self.kind) == 'direct' else []
         return f'{self.kind} {words([self.tolerance] + tangents + self.marks)}'
 
     def record(self):
@@ -52,9 +57,15 @@ class Outline:
 
     def refusal(self):
         """The table's, with 4 in its place."""
-        wanted = room_for(self.kind, self.count)
+        wanted = room_for(self.kind, self.count) + [open_for(self.kind, self.count)]
         short = any(have < want for have, want in zip(self.room, wanted))
         return fit_refusal(self.line().split(' '), short)
+
+    def flat(self):
+        """The same for the second engine, with as much room for open parts as it asks for; None where that has no such fit."""
+        if self.kind + FLAT not in FLAT_FITS:
+            return None
+        return Outline(self.kind + FLAT, self.tolerance, self.marks, self.room[:ROOMS], self.tangents, self.lists)
 
 
 def read():
@@ -62,8 +73,8 @@ def read():
     source = kept.Words(NAME)
     while source:
         kind, length, *rest = source.take(HEAD)
-        room, (lists, tolerance, *tangents) = rest[:ROOMS], rest[ROOMS:]
-        yield Outline(FITS[kind], tolerance, source.take(length), room, tangents, bool(lists))
+        room, (open_, lists, tolerance, *tangents) = rest[:ROOMS], rest[ROOMS:]
+        yield Outline(FITS[kind], tolerance, source.take(length), room, tangents, bool(lists), open_)
 
 
 # ---- both sides of each line of the document
@@ -98,9 +109,9 @@ def own_tangents(marks):
     return patterns_of(*unit(x1 - x0, y1 - y0), *unit(x2 - x3, y2 - y3))
 
 
-def taken(kind, tolerance, marks, room=None):
+def taken(kind, tolerance, marks, room=None, open_=None):
     """An outline that the fit takes; the direct one with the outline's own tangents."""
-    return Outline(kind, tolerance, marks, room, own_tangents(marks) if kind == 'direct' else None)
+    return Outline(kind, tolerance, marks, room, own_tangents(marks) if fit_of(kind) == 'direct' else None, open_=open_)
 
 
 THOUSANDTH = bits(0.001)
@@ -198,7 +209,7 @@ def meetings():
 
 
 def borders(arc):
-    for kind in FITS:
+    for kind in FIRST_FITS:
         yield from few_marks(kind)
         yield from rooms(kind, arc)
         yield from ranges(kind, arc)
@@ -215,13 +226,34 @@ def borders(arc):
             yield taken(kind, THOUSANDTH, arc(count))
     yield from rings(arc)
     yield from meetings()
-    for kind, marks in itertools.product(FITS, ENDS):  # minus zero is the least tolerance
+    for kind, marks in itertools.product(FIRST_FITS, ENDS):  # minus zero is the least tolerance
         yield taken(kind, MINUS, patterns_of(*marks))
+
+
+def kept_arcs():
+    """The half circles that are kept."""
+    return arcs(outline.marks for outline in read())
 
 
 def kept_borders():
     """The border cases, with the kept half circles."""
-    return borders(arcs(outline.marks for outline in read()))
+    return borders(kept_arcs())
+
+
+# ---- the second engine
+
+def open_rooms(arc):
+    """The room for open parts: as much as is asked for, one more, one less, and none. 4 by it alone comes before 5, and after 3, 1 and 2. Of a ring too every mark that is given counts once."""
+    for kind in FLAT_FITS:
+        for count, more in itertools.product((3, 9, 200), (-1, 0, 1)):
+            yield taken(kind, THOUSANDTH, arc(count), None, 2 * count + more)
+        for have in (0, 17, 18):
+            yield taken(kind, NAN, arc(9), None, have)
+        yield taken(kind, THOUSANDTH, arc(9), room_for(kind, 9, -1, 0, 0, 0), 17)
+        yield taken(kind, THOUSANDTH, ON_ONE_SPOT, None, 7)
+        for marks in ([], patterns_of(1, 2), patterns_of(*range(5))):
+            yield Outline(kind, THOUSANDTH, marks, [72, 8, 8, 9], open_=0)
+    yield Outline('direct_flat', NAN, arc(513), NO_ROOM, open_=0)
 
 
 # ---- answers
@@ -259,7 +291,7 @@ def written(lent, new):
 
 
 def text(outline, said):
-    """What the program has to write."""
+    """What the program has to write. A run leaves zeros for open parts."""
     lent = [[before] * length for before, length in zip(BEFORE, outline.room)]
     more = ''
     if said == '6':
@@ -267,7 +299,7 @@ def text(outline, said):
     if said.startswith('0 '):
         lists = Lists(said)
         said = f'0 {len(lists.curves)}'
-        lent = [written(part, new) for part, new in zip(lent, (lists.nines(), lists.firsts, lists.worsts, lists.params))]
+        lent = [written(part, new) for part, new in zip(lent, (lists.nines(), lists.firsts, lists.worsts, lists.params, [0] * outline.room[ROOMS]))]
         more = lists.text() if outline.lists else ''
     return said + ''.join(map(state, lent, BEFORE)) + '\n' + more
 
@@ -281,7 +313,9 @@ def answers(outlines, rust):
 
 def make(rust):
     before = list(read())
-    outlines = kept.at_least(before[:KEPT], KEPT, NAME) + list(kept_borders())
+    collected = [outline for outline in before if outline.kind in FIRST_FITS][:KEPT]
+    first = [*kept.at_least(collected, KEPT, NAME), *kept_borders()]
+    outlines = [*by_both(first, Outline.flat), *open_rooms(kept_arcs())]
     said = answers(outlines, rust)
     stdin = b''.join(outline.record() for outline in outlines)
     stdout = ''.join(text(outline, answer) for outline, answer in zip(outlines, said))

@@ -37,16 +37,19 @@ fn single_case(kind: usize, line: &[u8], end: usize) -> bool {
 // The same of kinds that have room for curves.
 fn large_case(kind: usize, line: &[u8], end: usize, curves: &mut [f64]) -> bool {
     match kind {
-        12 => outline::direct_case(line, end, curves),
+        12 => outline::direct_case(false, line, end, curves),
         13 => outline::blocks_case(Fit::Source, line, end, curves),
         14 => outline::blocks_case(Fit::Loop, line, end, curves),
         15 => outline::blocks_case(Fit::Joined, line, end, curves),
         16 => outline::blocks_case(Fit::Ring, line, end, curves),
-        17 => listing::check_case(Outline::Open, Form::Eight, line, end, curves),
-        18 => listing::check_case(Outline::Closed, Form::Eight, line, end, curves),
-        19 => listing::check_case(Outline::Open, Form::Nine, line, end, curves),
-        20 => listing::check_case(Outline::Closed, Form::Nine, line, end, curves),
-        21 => paths::import_case(line, end, curves),
+        17 => outline::direct_case(true, line, end, curves),
+        18 => outline::blocks_case(Fit::JoinedFlat, line, end, curves),
+        19 => outline::blocks_case(Fit::RingFlat, line, end, curves),
+        20 => listing::check_case(Outline::Open, Form::Eight, line, end, curves),
+        21 => listing::check_case(Outline::Closed, Form::Eight, line, end, curves),
+        22 => listing::check_case(Outline::Open, Form::Nine, line, end, curves),
+        23 => listing::check_case(Outline::Closed, Form::Nine, line, end, curves),
+        24 => paths::import_case(line, end, curves),
         _ => false,
     }
 }

@@ -8,6 +8,7 @@
 //     nearest C8 PX PY
 //     direct TOL SX SY EX EY X0 Y0 X1 Y1 ..
 //     source TOL X0 Y0 .., loop TOL X0 Y0 .., joined TOL X0 Y0 .., ring TOL X0 Y0 ..
+//     direct_flat, joined_flat, ring_flat                                    as direct, joined and ring, by the second engine
 //     check TOL N X0 Y0 .. K F0 C8 F1 C8 .. T0 .. T(N-1)
 //     check_ring TOL N X0 Y0 .. K F0 C8 F1 C8 .. T0 .. TN                    a ring has a parameter more than it has marks
 //     check_worst TOL N X0 Y0 .. K F0 W0 C9 F1 W1 C9 .. T0 .. T(N-1)         C9: eight numbers and the largest distance, which is of mark W

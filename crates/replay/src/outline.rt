@@ -1,4 +1,4 @@
-// Cases of an outline: the five fits. A line of more than 21,000 marks is bad. That is fewer than the fits by blocks take, so only the direct fit's own limit shows.
+// Cases of an outline: the five fits, and the three that the second engine makes too. A line of more than 21,000 marks is bad. That is fewer than the fits by blocks take, so only the direct fit's own limit shows.
 use crate::cursor::front;
 use crate::cursor::front_marks;
 use crate::cursor::take_float;
@@ -8,17 +8,21 @@ use crate::print::print_accepted;
 use crate::print::print_floats;
 use crate::print::print_refused;
 use crate::room;
+use cases::parts::lent_firsts;
 use cut::Fitted;
 use form::RECORD_NUMBERS;
 use plane::Point;
 
-// Which fit.
+// Which fit, and by which engine: the flat ones keep their open parts in a lent slice.
 pub enum Fit {
     Direct(Point, Point),
     Source,
     Loop,
     Joined,
     Ring,
+    DirectFlat(Point, Point),
+    JoinedFlat,
+    RingFlat,
 }
 
 fn fit_by(
@@ -29,6 +33,7 @@ fn fit_by(
     firsts: &mut [u32],
     worsts: &mut [u32],
     params: &mut [f64],
+    open: &mut [u32],
 ) -> Fitted {
     match fit {
         Fit::Direct(start, end) => {
@@ -38,16 +43,34 @@ fn fit_by(
         Fit::Loop => fit::fit_curve_loop(marks, tolerance, curves, firsts, worsts, params),
         Fit::Joined => fit::fit_joined(marks, tolerance, curves, firsts, worsts, params),
         Fit::Ring => fit::fit_ring(marks, tolerance, curves, firsts, worsts, params),
+        Fit::DirectFlat(start, end) => flat_fit::fit_curve_cubic_flat(
+            marks,
+            start,
+            end,
+            tolerance,
+            curves,
+            firsts,
+            worsts,
+            params,
+            open,
+        ),
+        Fit::JoinedFlat => {
+            flat_fit::fit_joined_flat(marks, tolerance, curves, firsts, worsts, params, open)
+        }
+        Fit::RingFlat => {
+            flat_fit::fit_ring_flat(marks, tolerance, curves, firsts, worsts, params, open)
+        }
     }
 }
 
 // How many parameters a fit of these marks has: a ring comes back to its first mark.
 fn params_of(fit: Fit, marks: &[f64]) -> usize {
     let n = marks.len() / 2;
-    let Fit::Ring = fit else {
-        return n;
-    };
-    n + 1
+    match fit {
+        Fit::Ring => n + 1,
+        Fit::RingFlat => n + 1,
+        _ => n,
+    }
 }
 
 // How many numbers a line has behind a place: each is a blank and 16 digits.
@@ -103,6 +126,7 @@ fn say_fit(fit: Fit, marks: &[f64], tolerance: f64, curves: &mut [f64]) {
     let mut firsts = room::indices();
     let mut worsts = room::indices();
     let mut params = room::params();
+    let mut open = room::open();
     let fitted = fit_by(
         fit,
         marks,
@@ -111,6 +135,7 @@ fn say_fit(fit: Fit, marks: &[f64], tolerance: f64, curves: &mut [f64]) {
         &mut firsts,
         &mut worsts,
         &mut params,
+        lent_firsts(&mut open, marks.len()),
     );
     match fitted {
         Fitted::Curves(k) => print_fit(
@@ -135,17 +160,31 @@ fn fit_case(fit: Fit, tolerance: f64, line: &[u8], at: usize, curves: &mut [f64]
     true
 }
 
-// direct TOL SX SY EX EY X0 Y0 ..
-pub fn direct_case(line: &[u8], at: usize, curves: &mut [f64]) -> bool {
+// The direct fit with these tangents, by either engine.
+fn direct_by(flat: bool, start: Point, end: Point) -> Fit {
+    if flat {
+        return Fit::DirectFlat(start, end);
+    }
+    Fit::Direct(start, end)
+}
+
+// direct, direct_flat TOL SX SY EX EY X0 Y0 ..
+pub fn direct_case(flat: bool, line: &[u8], at: usize, curves: &mut [f64]) -> bool {
     let tolerance = take_float(line, at);
     let start = take_point(line, tolerance.then);
     let end = take_point(line, start.then);
     let from = start.p;
     let to = end.p;
-    fit_case(Fit::Direct(from, to), tolerance.x, line, end.then, curves)
+    fit_case(
+        direct_by(flat, from, to),
+        tolerance.x,
+        line,
+        end.then,
+        curves,
+    )
 }
 
-// source, loop, joined, ring TOL X0 Y0 ..
+// source, loop, joined, ring, joined_flat, ring_flat TOL X0 Y0 ..
 pub fn blocks_case(fit: Fit, line: &[u8], at: usize, curves: &mut [f64]) -> bool {
     let tolerance = take_float(line, at);
     fit_case(fit, tolerance.x, line, tolerance.then, curves)

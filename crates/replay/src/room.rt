@@ -43,6 +43,11 @@ pub fn indices() -> [u32; MOST] {
     [0; MOST]
 }
 
+// For the open parts of a flat fit: two numbers for each mark.
+pub fn open() -> [u32; MARKS] {
+    [0; MARKS]
+}
+
 pub fn params() -> [f64; PARAMS] {
     [0.0; PARAMS]
 }
