@@ -26,8 +26,8 @@ use Rattle.parts.specs.Headings.{marksIn}
 use Rattle.waiting.specs.Waiting.{runIn}
 use Rattle.fit.specs.Fit.{Ending, fittedAnswer, ending, ended, entered, fitOf, cubicOf}
 use Rattle.fit.proofs.Agree.{same-fitted}
-use Rattle.flat_fit.specs.Flat.{FlatEnding, flatEnding, gateIn, openGate, flatOf}
-use Rattle.flat_fit.proofs.Flat.{opened}
+use Rattle.flat_fit.specs.Flat.{FlatEnding, flatEnding, gateIn, openGate, noneOpen, flatOf}
+use Rattle.flat_fit.proofs.Flat.{opened, none-open}
 use Rattle.accepted.proofs.Theorem.{joined-passes, ring-passes, direct-passes}
 use Rattle.accepted.proofs.Refusals.{gate-most, cubic-most}
 use Rattle.engines.specs.Engines.{firstOf, Agree, FlatPasses, JoinedFlatPasses, RingFlatPasses, DirectFlatPasses, Untouched, Leaves}
@@ -89,9 +89,9 @@ flat-leaves h ms tol r C C′ F F′ W W′ P P′ O O′ e =
     most : g ≤ 5
     most = open-most (gateIn h ms tol (length C) (length F) (length W) (length P)) (length O) (count ms) (in-most h ms tol (length C) (length F) (length W) (length P))
 
-    go : (b : Bool) → eqb g 0 ≡ b → ending (fittedAnswer r) C′ F′ W′ P′ ≡ cond b (ended (runIn h (marksIn h ms) (blockSize (count (marksIn h ms))) tol) C F W P) (ending (no g) C F W P) → O′ ≡ cond b (replicate (length O) 0) O
+    go : (b : Bool) → eqb g 0 ≡ b → ending (fittedAnswer r) C′ F′ W′ P′ ≡ cond b (ended (runIn h (marksIn h ms) (blockSize (count (marksIn h ms))) tol) C F W P) (ending (no g) C F W P) → O′ ≡ cond b (noneOpen (runIn h (marksIn h ms) (blockSize (count (marksIn h ms))) tol) O) O
         → Untouched r C C′ F F′ W W′ P P′ O O′ ⊎ (O′ ≡ replicate (length O) 0)
-    go true t x y = inr y
+    go true t x y = inr (y ∙ sym (none-open (runIn h (marksIn h ms) (blockSize (count (marksIn h ms))) tol) O))
     go false t x y = inl (record {
       number = g;
       is = same-fitted r (Refused g) (ap (λ (x : Ending). x .answer) x);

@@ -14,7 +14,7 @@ use Rattle.marks.specs.Block.{blockSize}
 use Rattle.ring.specs.declared.Outline.the-variants.{Closed}
 use Rattle.gate.specs.Gate.{gateOf}
 use Rattle.gate.proofs.Tests.{Passed, passed}
-use Rattle.cut.specs.Run.{Run}
+use Rattle.cut.specs.Run.{Run, refused, done}
 use Rattle.cut.specs.Lent.{Left}
 use Rattle.cut.specs.declared.Fitted.{Fitted}
 use Rattle.tangents.specs.declared.Ways.{Ways}
@@ -27,7 +27,7 @@ use Rattle.parts.specs.declared.Heading.the-variants.{Given, By}
 use Rattle.parts.specs.Headings.{outlineIn}
 use Rattle.waiting.specs.Waiting.{runIn}
 use Rattle.waiting.specs.Lent.{Meeting}
-use Rattle.flat_fit.specs.Flat.{gateIn, openGate, flatEntered}
+use Rattle.flat_fit.specs.Flat.{gateIn, openGate, noneOpen, flatEntered}
 use Rattle.flat_fit.specs.Sizes.{Joins, SizeIn}
 
 -- ---- the tests
@@ -97,13 +97,17 @@ sized (By k) ms tol n s r C C₁ F F₁ W W₁ p e i left = subst (λ (j : ℕ).
 
 -- ---- the ends of a fit
 
+pub none-open : (R : Run) (O : List ℕ) → replicate (length O) 0 ≡ noneOpen R O
+none-open (refused q) O = refl
+none-open (done cs bs ps) O = refl
+
 -- what it leaves, and the slice of open parts: as it was where the gate refused, and else zeros
 module _ {X : Ending} (g q : ℕ) (R : Run) (C : List Float) (F W : List ℕ) (P : List Float) (O : List ℕ) (tested : q ≡ g) (e : X ≡ entered g R C F W P) where
   pub shut : (q ≡ 0 → ⊥) → record { fit = X; parts = O } ≡ flatEntered g R C F W P O
-  shut h = let o : O ≡ cond (eqb g 0) (replicate (length O) 0) O = rw (← tested, ne-eqb q 0 h) in λ i. record { fit = e i; parts = o i }
+  shut h = let o : O ≡ cond (eqb g 0) (noneOpen R O) O = rw (← tested, ne-eqb q 0 h) in λ i. record { fit = e i; parts = o i }
 
   pub through : q ≡ 0 → (O₁ O₂ : List ℕ) → O₂ ≡ replicate (length O₁) 0 → length O₁ ≡ length O → record { fit = X; parts = O₂ } ≡ flatEntered g R C F W P O
-  through h O₁ O₂ z l = let o : O₂ ≡ cond (eqb g 0) (replicate (length O) 0) O = rw (← tested, eq-eqb q 0 h, z, l) in λ i. record { fit = e i; parts = o i }
+  through h O₁ O₂ z l = let o : O₂ ≡ cond (eqb g 0) (noneOpen R O) O = rw (← tested, eq-eqb q 0 h, z, l) (none-open R O) in λ i. record { fit = e i; parts = o i }
 
 -- ---- by cases of the heading
 

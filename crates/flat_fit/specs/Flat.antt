@@ -10,7 +10,7 @@ use Rattle.limits.specs.Limits.{mostMarks}
 use Rattle.marks.specs.Marks.{count}
 use Rattle.marks.specs.Block.{blockSize}
 use Rattle.gate.specs.Gate.{gateOf}
-use Rattle.cut.specs.Run.{Run}
+use Rattle.cut.specs.Run.{Run, refused, done}
 use Rattle.tangents.specs.Ways.{outlineOf}
 use Rattle.parts.specs.declared.Heading.{Heading}
 use Rattle.parts.specs.declared.Heading.the-variants.{Given, By}
@@ -35,9 +35,14 @@ gateIn (By k) ms tol c f v p = gateOf mostMarks (outlineOf k) ms tol c f v p
 abbrev pub openGate : ℕ → ℕ → ℕ → ℕ
 openGate g o n = cond (ltb o (2 * n) && (eqb g 0 || eqb g 5)) 4 g
 
--- a call that is refused before its run leaves all as it was; else it ends as its run, and no open part is left
+-- no open part is left behind a run, whether it is refused or done
+abbrev pub noneOpen : Run → List ℕ → List ℕ
+noneOpen (refused q) O = replicate (length O) 0
+noneOpen (done cs bs ps) O = replicate (length O) 0
+
+-- a call that its gate refuses leaves all as it was; else it ends as its run
 abbrev pub flatEntered : ℕ → Run → List Float → List ℕ → List ℕ → List Float → List ℕ → FlatEnding
-flatEntered g R C F W P O = record { fit = entered g R C F W P; parts = cond (eqb g 0) (replicate (length O) 0) O }
+flatEntered g R C F W P O = record { fit = entered g R C F W P; parts = cond (eqb g 0) (noneOpen R O) O }
 
 -- the run is the first engine's: of all marks as one part, or of the blocks of the joined fit or the ring
 unfoldable pub flatOf : Heading → List Float → Float → List Float → List ℕ → List ℕ → List Float → List ℕ → FlatEnding

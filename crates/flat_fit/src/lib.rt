@@ -74,7 +74,7 @@ fn size_in(heading: Heading, n: usize) -> usize
     }
 }
 
-// A fit of the second engine. Whether it is refused or not, no part is left open.
+// A fit of the second engine. Whether its run is refused or not, no part is left open.
 fn fit_flat(
     heading: Heading,
     marks: &[f64],
