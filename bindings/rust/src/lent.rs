@@ -16,7 +16,7 @@ pub struct Lent<'a> {
     pub worsts: &'a mut [u32],
     /// For each mark's parameter on its curve.
     pub params: &'a mut [f64],
-    /// For the marks at which parts begin and end that are still to be fitted: it stands in for the stack of the other fits.
+    /// For the numbers of the marks at which parts end that are still to be fitted: it stands in for the stack of the other fits.
     pub open: &'a mut [u32],
 }
 
@@ -49,7 +49,7 @@ pub struct Wanted {
     pub worsts: usize,
     /// Parameters.
     pub params: usize,
-    /// Numbers of marks at which open parts begin and end.
+    /// Numbers of marks at which open parts end.
     pub open: usize,
 }
 
