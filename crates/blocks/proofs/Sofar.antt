@@ -27,7 +27,7 @@ use Rattle.tangents.specs.Ways.{over}
 use Rattle.tangents.proofs.Blocks.{over-small}
 use Rattle.blocks.proofs.Blocks.{blocks-last, blocks-more, block-sized, prepend, join-prepend, prepend-twice, prepend-none}
 
-part-len : {A : Type 0} (a b : ℕ) (l : List A) → a + b ≤ length l → length (take b (drop a l)) ≡ b
+pub part-len : {A : Type 0} (a b : ℕ) (l : List A) → a + b ≤ length l → length (take b (drop a l)) ≡ b
 part-len a b l h = simp (length-take, length-drop) (omega arith)
 
 set-last : {A : Type 0} (i : ℕ) (v : A) (l : List A) → length l ≡ i + 1 → set l i v ≡ take i l ++ (v ∷ [])
@@ -36,7 +36,7 @@ set-last zero v (x ∷ []) h = refl
 set-last zero v (x ∷ y ∷ l) h = absurd (omega arith)
 set-last {A = A} (suc i) v (x ∷ l) h = ap (λ (t : List A). x ∷ t) (set-last i v l (omega arith))
 
-take-behind : {A : Type 0} (a b : ℕ) (xs ys p zs : List A) → xs ≡ ys → length ys ≡ a → b ≤ length p → take (a + b) (xs ++ (p ++ zs)) ≡ ys ++ take b p
+pub take-behind : {A : Type 0} (a b : ℕ) (xs ys p zs : List A) → xs ≡ ys → length ys ≡ a → b ≤ length p → take (a + b) (xs ++ (p ++ zs)) ≡ ys ++ take b p
 take-behind {A = A} a b xs ys p zs e l h = rw (e, ← l) (take-append-add ys _ b ∙ ap (λ (t : List A). ys ++ t) (take-append-le b p zs h))
 
 -- a call of fit_blocks: its arguments, and how many marks a block takes in

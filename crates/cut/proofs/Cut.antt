@@ -36,7 +36,7 @@ use Rattle.cut.proofs.Run.{run-sized, Sized, run-fits, run-fails, run-c
 
 -- ---- a leaf's answer
 
-from-good : (P : Part) (r : Tried) (p : List Float) (k : Solved) → Did P r p → r ≡ Good k → P ≡ fits (k .curve) (k .far) p
+pub from-good : (P : Part) (r : Tried) (p : List Float) (k : Solved) → Did P r p → r ≡ Good k → P ≡ fits (k .curve) (k .far) p
 from-good (fits c w ps) r p k h e =
     let f : Good (record { curve = c; far = w }) ≡ Good k = sym (h .0) ∙ e in
     let g : record { curve = c; far = w } ≡ k = cc in
@@ -44,12 +44,12 @@ from-good (fits c w ps) r p k h e =
 from-good (cuts j) r p k h e = let z : _≡_ {A = ℕ} 0 1 = cc in absurd (omega arith)
 from-good (fails q) r p k h e = let z : _≡_ {A = ℕ} 0 1 = cc in absurd (omega arith)
 
-from-cut : (P : Part) (r : Tried) (p : List Float) (k : ℕ) → Did P r p → r ≡ Cut k → P ≡ cuts k
+pub from-cut : (P : Part) (r : Tried) (p : List Float) (k : ℕ) → Did P r p → r ≡ Cut k → P ≡ cuts k
 from-cut (fits c w ps) r p k h e = let f = h .0 in let z : _≡_ {A = ℕ} 0 1 = cc in absurd (omega arith)
 from-cut (cuts j) r p k h e = let g : j ≡ k = cc in ap cuts g
 from-cut (fails q) r p k h e = let z : _≡_ {A = ℕ} 0 1 = cc in absurd (omega arith)
 
-from-refused : (P : Part) (r : Tried) (p : List Float) (k : ℕ) → Did P r p → r ≡ TRefused k → P ≡ fails k
+pub from-refused : (P : Part) (r : Tried) (p : List Float) (k : ℕ) → Did P r p → r ≡ TRefused k → P ≡ fails k
 from-refused (fits c w ps) r p k h e = let f = h .0 in let z : _≡_ {A = ℕ} 0 1 = cc in absurd (omega arith)
 from-refused (cuts j) r p k h e = let z : _≡_ {A = ℕ} 0 1 = cc in absurd (omega arith)
 from-refused (fails q) r p k h e = let g : q ≡ k = cc in ap fails g

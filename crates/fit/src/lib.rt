@@ -29,7 +29,7 @@ fn are_tangents(v: Point, w: Point) -> bool
 }
 
 // Every number of the four lent slices zero.
-fn zero_all(curves: &mut [f64], firsts: &mut [u32], worsts: &mut [u32], params: &mut [f64])
+pub fn zero_all(curves: &mut [f64], firsts: &mut [u32], worsts: &mut [u32], params: &mut [f64])
     ensures { λ _. ⌜ (now (curves .exit) ≡ replicate (length (now (curves .entry))) f0) × (now (firsts .exit) ≡ replicate (length (now (firsts .entry))) 0) × (now (worsts .exit) ≡ replicate (length (now (worsts .entry))) 0) × (now (params .exit) ≡ replicate (length (now (params .entry))) f0) ⌝ }
 {
     gate::zero_floats(curves);
@@ -39,7 +39,7 @@ fn zero_all(curves: &mut [f64], firsts: &mut [u32], worsts: &mut [u32], params: 
 }
 
 // What the direct fit tests before it runs.
-fn gate_cubic(
+pub fn gate_cubic(
     marks: &[f64],
     start: Point,
     end: Point,

@@ -1,0 +1,4 @@
+pub mod Open
+pub mod Ends
+pub mod Steps
+pub mod Loop
