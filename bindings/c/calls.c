@@ -223,16 +223,17 @@ static void refuse_counts(const Fit *fit) {
     lend_slices(&slices, fit, fit->most + 1, 0, 13);
     expect_refused(fit, "one mark too many", many, 2 * (fit->most + 1), 1, 2);
     size_t made = 77;
-    CHECK(fit->call(NULL, 0, 1, NULL, 0, NULL, 0, NULL, 0, NULL, 0, &made) == 1 && made == 0, "%s: all slices empty", fit->name);
-    CHECK(fit->call(many, 2 * few, 1, NULL, 0, NULL, 0, NULL, 0, NULL, 0, &made) == 4 && made == 0, "%s: no room at all", fit->name);
+    CHECK(fit_by(fit, NULL, 0, 1, NULL, 0, NULL, 0, NULL, 0, NULL, 0, NULL, 0, &made) == 1 && made == 0, "%s: all slices empty", fit->name);
+    CHECK(fit_by(fit, many, 2 * few, 1, NULL, 0, NULL, 0, NULL, 0, NULL, 0, NULL, 0, &made) == 4 && made == 0, "%s: no room at all",
+          fit->name);
 }
 
-/* One place too few in each slice in turn, and that before a number out of range. */
+/* One place too few in each slice in turn, and that before a number out of range. The last of them is the second engine's. */
 static void refuse_room(const Fit *fit) {
-    Lent *each[4] = {&slices.curves, &slices.firsts, &slices.worsts, &slices.params};
-    const size_t sizes[4] = {sizeof(double), sizeof(uint32_t), sizeof(uint32_t), sizeof(double)};
-    const char *names[4] = {"room for curves", "room for first marks", "room for worst marks", "room for parameters"};
-    for (size_t i = 0; i < 4; i++) {
+    Lent *each[] = {&slices.curves, &slices.firsts, &slices.worsts, &slices.params, &slices.open};
+    const size_t sizes[] = {sizeof(double), sizeof(uint32_t), sizeof(uint32_t), sizeof(double), sizeof(uint32_t)};
+    const char *names[] = {"room for curves", "room for first marks", "room for worst marks", "room for parameters", "room for open parts"};
+    for (size_t i = 0; i < (fit->flat == NULL ? 4 : 5); i++) {
         straight(many, 9);
         lend_slices(&slices, fit, 9, 0, 14);
         lend(each[i], each[i]->bytes - sizes[i], 15);
@@ -263,44 +264,47 @@ static void refuse_range(const Fit *fit) {
     expect_refused(fit, "the most equal marks", many, 2 * fit->most, 1, 6);
 }
 
-/* A tangent's components are at most 2 in magnitude. */
-static void refuse_tangents(void) {
+/* A tangent's components are at most 2 in magnitude; no room comes before that. */
+static void refuse_tangents(const Fit *fit) {
     const double out[] = {not_a_number(), infinity(), 2.5, -2.5}, two[4] = {2, -2, -2, 2};
     double before[4];
     memcpy(before, tangents, sizeof tangents);
     straight(many, 5);
     for (size_t i = 0; i < 4; i++) {
-        lend_slices(&slices, &fits[DIRECT], 5, 0, 18);
+        Lent *last = fit->flat == NULL ? &slices.worsts : &slices.open;
+        lend_slices(&slices, fit, 5, 0, 18);
         tangents[i] = out[i];
-        expect_refused(&fits[DIRECT], "a tangent", many, 10, 1, 5);
+        expect_refused(fit, "a tangent", many, 10, 1, 5);
+        lend(last, last->bytes - sizeof(uint32_t), 19);
+        expect_refused(fit, "no room before a tangent", many, 10, 1, 4);
         tangents[i] = before[i];
     }
     memcpy(tangents, two, sizeof two);
-    expect_fitted(&fits[DIRECT], "tangents of 2", 5, 1);
+    expect_fitted(fit, "tangents of 2", 5, 1);
     memcpy(tangents, before, sizeof before);
 }
 
 /* A ring's last curve comes back to mark 0, bit for bit. */
-static void fit_square(void) {
+static void fit_square(const Fit *fit) {
     const double square[8] = {0, 0, 4, 0, 4, 4, 0, 4};
     memcpy(many, square, sizeof square);
-    expect_fitted(&fits[RING], "a square", 4, 0);
+    expect_fitted(fit, "a square", 4, 0);
     const double *last = numbers(&slices.curves) + 9 * (slices.made - 1);
     CHECK(indices(&slices.firsts)[0] == 0 && same_bits(numbers(&slices.curves), square, 2) && same_bits(last + 6, square, 2),
-          "the ring's seam");
-    CHECK(numbers(&slices.params)[0] == 0 && numbers(&slices.params)[4] == 1, "the parameters of the seam");
+          "%s: the seam", fit->name);
+    CHECK(numbers(&slices.params)[0] == 0 && numbers(&slices.params)[4] == 1, "%s: the parameters of the seam", fit->name);
 }
 
 static void all_fits(void) {
     for (size_t i = 0; i < FITS; i++) {
-        if (!fits[i].ring) fit_two(&fits[i]);
+        (fits[i].ring ? fit_square : fit_two)(&fits[i]);
         fit_most(&fits[i]);
         refuse_counts(&fits[i]);
         refuse_room(&fits[i]);
         refuse_range(&fits[i]);
     }
-    refuse_tangents();
-    fit_square();
+    refuse_tangents(&fits[DIRECT]);
+    refuse_tangents(&fits[DIRECT_FLAT]);
 }
 
 /* ---- Checkers */

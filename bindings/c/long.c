@@ -1,6 +1,6 @@
 /* Long outlines, up to the most marks that are taken: long DIGESTS. That file, bindings/long.txt, has digests of what the Rust makes of
-   them (bindings/make_long.py). Here they are drawn again and fitted, and every number is held against the Rust's; their lists are checked,
-   written as house files, read, checked once more and written again. */
+   them (bindings/make_long.py). Here they are drawn again and fitted, by both engines, and every number is held against the Rust's; their
+   lists are checked, written as house files, read, checked once more and written again. */
 #include "test.h"
 
 enum { TEXT = 1 << 16, WORDS = 7, RESTING = 400 };
@@ -171,7 +171,7 @@ static void expect_fit(const Line *l, const Fit *fit) {
     }
     CHECK(digest_of(&fitted, params_for(fit, l->n)) == l->digest, "%s of %s %zu: other numbers than the Rust's", l->what, l->shape, l->n);
     CHECK(kept_beyond(&fitted, fit, l->n), "%s of %s %zu: places beyond", l->what, l->shape, l->n);
-    expect_checked(l, fit, fit == &fits[JOINED] || fit == &fits[RING] ? 0 : 'B');
+    expect_checked(l, fit, fit == &fits[SOURCE] || fit == &fits[LOOP] ? 'B' : 0);
 }
 
 /* ---- House files */
@@ -296,10 +296,12 @@ static void expect_line(const Line *l) {
         const Fit *fit = &fits[whats[i].fit];
         seen[i]++;
         seen_most[i] += l->n + (i == CLOSED) == MOST_MARKS;
-        if (i < FILES)
-            expect_fit(l, fit);
-        else
+        if (i >= FILES) {
             expect_file(l, fit, whats[i].nine);
+            return;
+        }
+        expect_fit(l, fit);
+        if (&fits[fit->twin] != fit) expect_fit(l, &fits[fit->twin]);
         return;
     }
     CHECK(is(l->what, "marks"), "nothing is known of %s", l->what);

@@ -1,4 +1,4 @@
-/* Random outlines: what the fits accept passes the checkers, a damaged list does not, the answer does not depend on what the slices held,
+/* Random outlines: what the fits accept passes the checkers, a damaged list does not, both engines answer alike whatever the slices held,
    and a refused fit leaves them as it should. random [OUTLINES] */
 #include "test.h"
 #include <stdlib.h>
@@ -170,11 +170,12 @@ static bool possible(const Case *c, bool damaged, uint32_t answer) {
 }
 
 static void try_fit(const Case *c, bool damaged, unsigned seed) {
+    const Fit *twin = &fits[c->fit->twin];
     lend_slices(&one, c->fit, c->n, SPARE, seed);
-    lend_slices(&other, c->fit, c->n, SPARE, seed + 101);
-    uint32_t answer = fit_into(c->fit, marks, 2 * c->n, c->tolerance, &one),
-             again = fit_into(c->fit, marks, 2 * c->n, c->tolerance, &other);
-    CHECK(possible(c, damaged, answer) && again == answer, "%s of %zu marks: %u, then %u", c->fit->name, c->n, answer, again);
+    lend_slices(&other, twin, c->n, SPARE, seed + 101);
+    uint32_t answer = fit_into(c->fit, marks, 2 * c->n, c->tolerance, &one), again = fit_into(twin, marks, 2 * c->n, c->tolerance, &other);
+    CHECK(possible(c, damaged, answer) && again == answer, "%s of %zu marks: %u, but by %s %u", c->fit->name, c->n, answer, twin->name,
+          again);
     if (answer != 0) {
         refused[answer < 10 ? answer : 7]++;
         CHECK(one.made == 0 && (answer == 6 ? slices_zero(&one) : slices_kept(&one)), "%s of %zu marks: slices after %u", c->fit->name,
@@ -182,9 +183,9 @@ static void try_fit(const Case *c, bool damaged, unsigned seed) {
         return;
     }
     accepted[c->fit - fits]++;
-    CHECK(kept_beyond(&one, c->fit, c->n) && kept_beyond(&other, c->fit, c->n), "%s of %zu marks: places beyond", c->fit->name, c->n);
-    CHECK(same_results(c), "%s of %zu marks: the answer goes by what the slices held", c->fit->name, c->n);
-    if (c->fit == &fits[SOURCE] || c->fit == &fits[LOOP]) return;
+    CHECK(kept_beyond(&one, c->fit, c->n) && kept_beyond(&other, twin, c->n), "%s of %zu marks: places beyond", c->fit->name, c->n);
+    CHECK(same_results(c), "%s of %zu marks: the numbers go by the engine, or by what the slices held", c->fit->name, c->n);
+    if (c->fit == &fits[SOURCE] || c->fit == &fits[LOOP] || c->fit->flat != NULL) return;
     expect_sound(c);
     damage_list(c);
 }
@@ -205,7 +206,7 @@ int main(int argc, char **argv) {
     /* That the outlines try what they are meant to. */
     for (size_t f = 0; f < FITS; f++) CHECK(accepted[f] > outlines / 2, "%s accepted only %zu", fits[f].name, accepted[f]);
     CHECK(refused[1] > 0 && refused[2] > 0 && refused[5] > 0 && refused[6] > 0, "a refusal that did not come");
-    printf("accepted: joined %zu, ring %zu, source %zu, loop %zu, direct %zu; refused by 6: %zu, by 5: %zu\n", accepted[JOINED],
-           accepted[RING], accepted[SOURCE], accepted[LOOP], accepted[DIRECT], refused[6], refused[5]);
+    for (size_t f = 0; f < FITS; f++) printf("%s%s %zu", f == 0 ? "accepted: " : ", ", fits[f].name, accepted[f]);
+    printf("; refused by 6: %zu, by 5: %zu\n", refused[6], refused[5]);
     return finish();
 }

@@ -111,10 +111,19 @@ static void size_case(void) {
 
 /* ---- Fits */
 
-static void fit_marks(const Fit *fit, double tolerance) {
-    size_t made, count = (size_t)(line_end - at) / 17;
+/* Whether they are by the second engine; lines of the kinds that it has go through both. Its slice of open parts is just as long as it is
+   asked for. */
+static bool by_second;
+static Lent open;
+
+static void fit_marks(const Fit *first, double tolerance) {
+    const Fit *fit = by_second ? &fits[first->twin] : first;
+    size_t made, count = (size_t)(line_end - at) / 17, parts = open_for(fit, count / 2);
     take_numbers(marks, count);
-    uint32_t number = fit->call(marks, count, tolerance, curves, 9 * CURVES, firsts, CURVES, worsts, CURVES, params, MOST_MARKS + 1, &made);
+    lend(&open, parts * sizeof(uint32_t), 61);
+    uint32_t number = fit_by(fit, marks, count, tolerance, curves, 9 * CURVES, firsts, CURVES, worsts, CURVES, params, MOST_MARKS + 1,
+                             indices(&open), parts, &made);
+    if (by_second) CHECK(open_left(&open, number), "%s of %zu numbers: open parts after %u", fit->name, count, number);
     say_count(number);
     if (number != 0) return;
     say_count(made);
@@ -276,33 +285,49 @@ static Kind *kind_of(const char *word, size_t size) {
 
 static char cases[TEXT], answers[TEXT];
 
+static bool has_second(const Kind *kind) { return kind->answer == direct_case || kind->answer == joined_case || kind->answer == ring_case; }
+
 static const char *end_of_line(const char *from, const char *end) {
     const char *newline = memchr(from, '\n', (size_t)(end - from));
     return newline == NULL ? end : newline;
 }
 
-static void compare(size_t number, const char *line, const char *end, const char *kept, size_t kept_size) {
-    const char *word_end = memchr(line, ' ', (size_t)(end - line));
-    if (kept_size == 3 && memcmp(kept, "BAD", 3) == 0) return;
-    size_t size = (size_t)((word_end == NULL ? end : word_end) - line);
-    if (size == 8 && memcmp(line, "distance", 8) == 0) return;
-    Kind *kind = kind_of(line, size);
-    if (kind == NULL) {
-        CHECK(false, "line %zu is of no kind that is known here", number);
-        return;
-    }
-    kind->compared++;
-    at = line + size;
+/* What a kind answers to the words from `words` on. */
+static void expect_answer(size_t number, const Kind *kind, bool second, const char *words, const char *end, const char *kept,
+                          size_t kept_size) {
+    by_second = second;
+    at = words;
     line_end = end;
     answer_end = answer;
     kind->answer();
     size_t said = (size_t)(answer_end - answer);
-    CHECK(at == line_end && said == kept_size && memcmp(answer, kept, said) == 0, "line %zu, %s: %.*s.. where %.*s.. is kept", number,
-          kind->name, said < 60 ? (int)said : 60, answer, kept_size < 60 ? (int)kept_size : 60, kept);
+    CHECK(at == line_end && said == kept_size && memcmp(answer, kept, said) == 0, "line %zu, %s%s: %.*s.. where %.*s.. is kept", number,
+          kind->name, second ? " by the second engine" : "", said < 60 ? (int)said : 60, answer, kept_size < 60 ? (int)kept_size : 60,
+          kept);
+}
+
+/* A kind with this behind its name is the same by the second engine alone. */
+static const char flat[] = "_flat";
+
+static void compare(size_t number, const char *line, const char *end, const char *kept, size_t kept_size) {
+    const char *word_end = memchr(line, ' ', (size_t)(end - line)), *words = word_end == NULL ? end : word_end;
+    if (kept_size == 3 && memcmp(kept, "BAD", 3) == 0) return;
+    size_t size = (size_t)(words - line), suffix = sizeof flat - 1;
+    if (size == 8 && memcmp(line, "distance", 8) == 0) return;
+    bool second = size > suffix && memcmp(words - suffix, flat, suffix) == 0;
+    Kind *kind = kind_of(line, second ? size - suffix : size);
+    if (kind == NULL || (second && !has_second(kind))) {
+        CHECK(false, "line %zu is of no kind that is known here", number);
+        return;
+    }
+    kind->compared++;
+    if (!second) expect_answer(number, kind, false, words, end, kept, kept_size);
+    if (has_second(kind)) expect_answer(number, kind, true, words, end, kept, kept_size);
 }
 
 int main(int argc, char **argv) {
     if (argc != 3) return 2;
+    open = new_lent(2 * MOST_MARKS * sizeof(uint32_t));
     const char *line = cases, *end = cases + load(argv[1], (uint8_t *)cases, TEXT);
     const char *kept = answers, *kept_end = answers + load(argv[2], (uint8_t *)answers, TEXT);
     for (size_t number = 1; line < end; number++) {

@@ -1,12 +1,14 @@
-/* How much stack each call takes: it runs on a stack of its own that was painted before, and what is no longer paint was used. Prints a
-   line `NAME BYTES` for each call, the most over all outlines. */
+/* How much stack each call takes: it runs on a stack of its own that was painted before, and what is no longer paint was used.
+       stack          prints a line `NAME BYTES` for each call, the most over all outlines
+       stack depths   prints a line `NAME FEW MANY` for each fit that both engines have: the bytes for few marks, and for many that are cut
+                      off one at a time */
 #include "test.h"
 #include <stdlib.h>
 
 /* LONG is the largest number of marks of which blocks are as long as they can be, 200 marks, in an outline and in a ring. All but the last
    of them, from DEEP on, where a block begins, lie on a line: every block is a fit of its own, and what the last ones take shows whether
    the many before have left anything on the stack. */
-enum { STACK = 8 << 20, LONG = MOST_MARKS - 2, DEEP = 95800 };
+enum { STACK = 8 << 20, LONG = MOST_MARKS - 2, DEEP = 95800, FEW = 5 };
 
 /* ---- The outlines. A fit cuts a part at its worst mark, and each side is a fit within the first one's frame; so deepest are outlines that
    lose one mark at a time, as a zigzag does that slowly shrinks. */
@@ -56,13 +58,14 @@ static void draw(size_t number) {
    the list that the fit before them has made. */
 
 static double curves[9 * LONG], eight[8 * LONG], params[LONG + 1], out8[8], more8[8], x, y;
-static uint32_t firsts[LONG], worsts[LONG], answer;
+static uint32_t firsts[LONG], worsts[LONG], open[2 * LONG], answer;
 static uint8_t file[LONGEST_FILE], text[LONGEST_FILE];
 static size_t made, file_size, size, curve, mark;
 static bool nine;
 
-static void fit_by(size_t fit, const double *from) {
-    answer = fits[fit].call(from, 2 * n, tolerance, curves, 9 * LONG, firsts, LONG, worsts, LONG, params, LONG + 1, &made);
+static void fit_from(size_t fit, const double *from) {
+    answer =
+        fit_by(&fits[fit], from, 2 * n, tolerance, curves, 9 * LONG, firsts, LONG, worsts, LONG, params, LONG + 1, open, 2 * LONG, &made);
 }
 
 static void all_marks(void) { n = LONG; }
@@ -74,7 +77,7 @@ static void short_file(void) { file_size = compose(file, tolerance, deep, MOST_D
 
 static void bench_curves(void) {
     n = BENCH_MARKS;
-    fit_by(JOINED, deep);
+    fit_from(JOINED, deep);
     file_size = compose(file, tolerance, deep, n, 9, made, firsts, worsts, curves, params);
 }
 
@@ -105,11 +108,14 @@ static void drawn_text(void) {
 
 static void unpack_file(void) { answer = wes_unpack_file(file, file_size, text, sizeof text, &size); }
 static void import_path(void) { answer = wes_import_path(text, size, curves, 9 * LONG, &made, &nine); }
-static void fit_joined(void) { fit_by(JOINED, marks); }
-static void fit_ring(void) { fit_by(RING, marks); }
-static void fit_curve(void) { fit_by(SOURCE, marks); }
-static void fit_curve_loop(void) { fit_by(LOOP, marks); }
-static void fit_curve_cubic(void) { fit_by(DIRECT, deep); }
+static void fit_joined(void) { fit_from(JOINED, marks); }
+static void fit_ring(void) { fit_from(RING, marks); }
+static void fit_curve(void) { fit_from(SOURCE, marks); }
+static void fit_curve_loop(void) { fit_from(LOOP, marks); }
+static void fit_curve_cubic(void) { fit_from(DIRECT, deep); }
+static void fit_joined_flat(void) { fit_from(JOINED_FLAT, marks); }
+static void fit_ring_flat(void) { fit_from(RING_FLAT, marks); }
+static void fit_curve_cubic_flat(void) { fit_from(DIRECT_FLAT, deep); }
 
 static void check_worst(void) {
     answer = wes_check_worst(marks, 2 * n, tolerance, made, curves, 9 * LONG, firsts, LONG, worsts, LONG, params, LONG, &curve, &mark);
@@ -178,6 +184,9 @@ static const struct {
     {"wes_fit_curve", all_marks, fit_curve},
     {"wes_fit_curve_loop", all_marks, fit_curve_loop},
     {"wes_fit_curve_cubic", short_outline, fit_curve_cubic},
+    {"wes_fit_joined_flat", all_marks, fit_joined_flat},
+    {"wes_fit_ring_flat", all_marks, fit_ring_flat},
+    {"wes_fit_curve_cubic_flat", short_outline, fit_curve_cubic_flat},
     {"wes_basis", all_marks, basis},
     {"wes_de_casteljau4", all_marks, de_casteljau4},
     {"wes_de_casteljau3", all_marks, de_casteljau3},
@@ -221,26 +230,53 @@ static size_t repaint(void) {
     return 8 * (WORDS - free_words);
 }
 
-/* What a call takes on the outline that is drawn. Every call must do its work: a refused one would not go deep. */
-static size_t measure(size_t number, size_t outline) {
-    calls[number].prepare();
+/* What a call takes. Every call must do its work: a refused one would not go deep. */
+static size_t used_by(const char *name, void (*call)(void)) {
     answer = 0;
-    run_below(stack + WORDS, calls[number].call);
+    run_below(stack + WORDS, call);
     if (answer == 0 || answer == WES_TOO_DEEP) return repaint();
-    printf("%s refused outline %zu by %u\n", calls[number].name, outline, answer);
+    printf("%s is refused by %u\n", name, answer);
     exit(1);
 }
 
-int main(void) {
+static void print_most(void) {
     size_t most[CALLS] = {0};
-    repaint();
     for (size_t outline = 0; outline < OUTLINES; outline++) {
         draw(outline);
         for (size_t i = 0; i < CALLS; i++) {
-            size_t used = measure(i, outline);
+            calls[i].prepare();
+            size_t used = used_by(calls[i].name, calls[i].call);
             if (used > most[i]) most[i] = used;
         }
     }
     for (size_t i = 0; i < CALLS; i++) printf("%s %zu\n", calls[i].name, most[i]);
+}
+
+static size_t chosen;
+
+static void fit_chosen(void) { fit_from(chosen, deep); }
+
+/* Along the first outline, of which few marks are cut off one at a time, too. */
+static size_t used_for(size_t marks_taken) {
+    n = marks_taken;
+    size_t used = used_by(fits[chosen].name, fit_chosen);
+    if (made + 1 >= n) return used;
+    printf("%s made only %zu curves of %zu marks\n", fits[chosen].name, made, n);
+    exit(1);
+}
+
+static void print_depths(void) {
+    draw(0);
+    for (chosen = 0; chosen < FITS; chosen++) {
+        if (fits[chosen].twin == chosen) continue;
+        size_t few = used_for(FEW), many = used_for(MOST_DIRECT);
+        printf("wes_%s %zu %zu\n", fits[chosen].name, few, many);
+    }
+}
+
+int main(int argc, char **argv) {
+    (void)argv;
+    repaint();
+    (argc > 1 ? print_depths : print_most)();
     return 0;
 }

@@ -91,17 +91,40 @@ static uint32_t direct(const double *marks, size_t marks_len, double tolerance, 
                                firsts_len, worsts, worsts_len, params, params_len, made);
 }
 
+static uint32_t direct_flat(const double *marks, size_t marks_len, double tolerance, double *curves, size_t curves_len, uint32_t *firsts,
+                            size_t firsts_len, uint32_t *worsts, size_t worsts_len, double *params, size_t params_len, uint32_t *open,
+                            size_t open_len, size_t *made) {
+    return wes_fit_curve_cubic_flat(marks, marks_len, tangents[0], tangents[1], tangents[2], tangents[3], tolerance, curves, curves_len,
+                                    firsts, firsts_len, worsts, worsts_len, params, params_len, open, open_len, made);
+}
+
 const Fit fits[FITS] = {
-    [JOINED] = {"fit_joined", wes_fit_joined, false, MOST_MARKS}, [RING] = {"fit_ring", wes_fit_ring, true, MOST_MARKS},
-    [SOURCE] = {"fit_curve", wes_fit_curve, false, MOST_MARKS},   [LOOP] = {"fit_curve_loop", wes_fit_curve_loop, false, MOST_MARKS},
-    [DIRECT] = {"fit_curve_cubic", direct, false, MOST_DIRECT},
+    [JOINED] = {"fit_joined", wes_fit_joined, NULL, JOINED_FLAT, false, MOST_MARKS},
+    [RING] = {"fit_ring", wes_fit_ring, NULL, RING_FLAT, true, MOST_MARKS},
+    [SOURCE] = {"fit_curve", wes_fit_curve, NULL, SOURCE, false, MOST_MARKS},
+    [LOOP] = {"fit_curve_loop", wes_fit_curve_loop, NULL, LOOP, false, MOST_MARKS},
+    [DIRECT] = {"fit_curve_cubic", direct, NULL, DIRECT_FLAT, false, MOST_DIRECT},
+    [JOINED_FLAT] = {"fit_joined_flat", NULL, wes_fit_joined_flat, JOINED, false, MOST_MARKS},
+    [RING_FLAT] = {"fit_ring_flat", NULL, wes_fit_ring_flat, RING, true, MOST_MARKS},
+    [DIRECT_FLAT] = {"fit_curve_cubic_flat", NULL, direct_flat, DIRECT, false, MOST_DIRECT},
 };
+
+uint32_t fit_by(const Fit *fit, const double *marks, size_t marks_len, double tolerance, double *curves, size_t curves_len,
+                uint32_t *firsts, size_t firsts_len, uint32_t *worsts, size_t worsts_len, double *params, size_t params_len, uint32_t *open,
+                size_t open_len, size_t *made) {
+    if (fit->flat == NULL)
+        return fit->call(marks, marks_len, tolerance, curves, curves_len, firsts, firsts_len, worsts, worsts_len, params, params_len, made);
+    return fit->flat(marks, marks_len, tolerance, curves, curves_len, firsts, firsts_len, worsts, worsts_len, params, params_len, open,
+                     open_len, made);
+}
 
 size_t fewest(const Fit *fit) { return fit->ring ? 3 : 2; }
 
 size_t most_curves(const Fit *fit, size_t n) { return params_for(fit, n) - 1; }
 
 size_t params_for(const Fit *fit, size_t n) { return fit->ring ? n + 1 : n; }
+
+size_t open_for(const Fit *fit, size_t n) { return fit->flat == NULL ? 0 : 2 * n; }
 
 Slices new_slices(void) {
     size_t marks = MOST_MARKS + 64;
@@ -110,6 +133,7 @@ Slices new_slices(void) {
         .firsts = new_lent(marks * sizeof(uint32_t)),
         .worsts = new_lent(marks * sizeof(uint32_t)),
         .params = new_lent(marks * sizeof(double)),
+        .open = new_lent(2 * marks * sizeof(uint32_t)),
     };
 }
 
@@ -119,13 +143,14 @@ void lend_slices(Slices *to, const Fit *fit, size_t n, size_t more, unsigned see
     lend(&to->firsts, (curves + more) * sizeof(uint32_t), seed + 1);
     lend(&to->worsts, (curves + more) * sizeof(uint32_t), seed + 2);
     lend(&to->params, (params_for(fit, n) + more) * sizeof(double), seed + 3);
+    lend(&to->open, fit->flat == NULL ? 0 : (open_for(fit, n) + more) * sizeof(uint32_t), seed + 4);
 }
 
 uint32_t fit_into(const Fit *fit, const double *marks, size_t marks_len, double tolerance, Slices *to) {
     to->made = 77;
-    return fit->call(marks, marks_len, tolerance, numbers(&to->curves), to->curves.bytes / sizeof(double), indices(&to->firsts),
-                     to->firsts.bytes / sizeof(uint32_t), indices(&to->worsts), to->worsts.bytes / sizeof(uint32_t), numbers(&to->params),
-                     to->params.bytes / sizeof(double), &to->made);
+    return fit_by(fit, marks, marks_len, tolerance, numbers(&to->curves), to->curves.bytes / sizeof(double), indices(&to->firsts),
+                  to->firsts.bytes / sizeof(uint32_t), indices(&to->worsts), to->worsts.bytes / sizeof(uint32_t), numbers(&to->params),
+                  to->params.bytes / sizeof(double), indices(&to->open), to->open.bytes / sizeof(uint32_t), &to->made);
 }
 
 /* Whether what stands behind k curves and p parameters is as it was. */
@@ -134,15 +159,19 @@ static bool kept_behind(const Slices *s, size_t k, size_t p) {
            kept_from(&s->worsts, k * sizeof(uint32_t)) && kept_from(&s->params, p * sizeof(double));
 }
 
-bool slices_kept(const Slices *s) { return kept_behind(s, 0, 0); }
+static bool zeroed(const Lent *slice) { return all_zero(slice) && kept_from(slice, slice->bytes); }
 
-bool slices_zero(const Slices *s) {
-    return all_zero(&s->curves) && all_zero(&s->firsts) && all_zero(&s->worsts) && all_zero(&s->params) &&
-           kept_from(&s->curves, s->curves.bytes) && kept_from(&s->firsts, s->firsts.bytes) && kept_from(&s->worsts, s->worsts.bytes) &&
-           kept_from(&s->params, s->params.bytes);
+bool open_left(const Lent *open, uint32_t answer) {
+    return answer == WES_OK || answer == WES_NOT_FINITE ? zeroed(open) : kept_from(open, 0);
 }
 
-bool kept_beyond(const Slices *s, const Fit *fit, size_t n) { return kept_behind(s, s->made, params_for(fit, n)); }
+bool slices_kept(const Slices *s) { return kept_behind(s, 0, 0) && kept_from(&s->open, 0); }
+
+bool slices_zero(const Slices *s) {
+    return zeroed(&s->curves) && zeroed(&s->firsts) && zeroed(&s->worsts) && zeroed(&s->params) && zeroed(&s->open);
+}
+
+bool kept_beyond(const Slices *s, const Fit *fit, size_t n) { return kept_behind(s, s->made, params_for(fit, n)) && zeroed(&s->open); }
 
 uint32_t verdict(bool ring, const double *marks, size_t marks_len, double tolerance, const Slices *s, size_t *curve, size_t *mark) {
     return (ring ? wes_check_worst_ring : wes_check_worst)(marks, marks_len, tolerance, s->made, numbers(&s->curves), 9 * s->made,

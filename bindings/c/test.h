@@ -1,5 +1,5 @@
-/* What the test programs share: counted checks, slices lent between guard bytes, the five fits under one signature, random numbers and
- * files. */
+/* What the test programs share: counted checks, slices lent between guard bytes, the fits of both engines under one signature, random
+   numbers and files. */
 #ifndef TEST_H
 #define TEST_H
 
@@ -52,32 +52,46 @@ uint32_t *indices(const Lent *slice);
 bool kept_from(const Lent *slice, size_t from);
 bool all_zero(const Lent *slice);
 
-/* ---- The five fits. */
+/* ---- The fits: five of the first engine, and three of the second, which is lent a slice of open parts as well. */
 typedef uint32_t FitCall(const double *marks, size_t marks_len, double tolerance, double *curves, size_t curves_len, uint32_t *firsts,
                          size_t firsts_len, uint32_t *worsts, size_t worsts_len, double *params, size_t params_len, size_t *made);
 
+typedef uint32_t FlatCall(const double *marks, size_t marks_len, double tolerance, double *curves, size_t curves_len, uint32_t *firsts,
+                          size_t firsts_len, uint32_t *worsts, size_t worsts_len, double *params, size_t params_len, uint32_t *open,
+                          size_t open_len, size_t *made);
+
+/* One of `call` and `flat` is its call, by the engine. `twin` is the number of the fit that must answer alike: of the other engine's, if
+   that has it, and else its own. */
 typedef struct {
     const char *name;
     FitCall *call;
+    FlatCall *flat;
+    size_t twin;
     bool ring;
     size_t most;
 } Fit;
 
-enum { JOINED, RING, SOURCE, LOOP, DIRECT, FITS };
+enum { JOINED, RING, SOURCE, LOOP, DIRECT, JOINED_FLAT, RING_FLAT, DIRECT_FLAT, FITS };
 
 extern const Fit fits[FITS];
+
+/* Calls it; the first engine is not lent `open`. */
+uint32_t fit_by(const Fit *fit, const double *marks, size_t marks_len, double tolerance, double *curves, size_t curves_len,
+                uint32_t *firsts, size_t firsts_len, uint32_t *worsts, size_t worsts_len, double *params, size_t params_len, uint32_t *open,
+                size_t open_len, size_t *made);
 
 /* The tangents that the direct fit is handed: start x and y, end x and y. */
 extern double tangents[4];
 
-/* The fewest marks of a fit, the most curves of n marks, and how many parameters they have. */
+/* The fewest marks of a fit; of n marks the most curves, how many parameters they have, and how many numbers their open parts want. */
 size_t fewest(const Fit *fit);
 size_t most_curves(const Fit *fit, size_t n);
 size_t params_for(const Fit *fit, size_t n);
+size_t open_for(const Fit *fit, size_t n);
 
-/* The four slices of a fit, and how many curves it made. */
+/* The slices of a fit, and how many curves it made. Of the first engine's `open` is empty. */
 typedef struct {
-    Lent curves, firsts, worsts, params;
+    Lent curves, firsts, worsts, params, open;
     size_t made;
 } Slices;
 
@@ -87,7 +101,11 @@ Slices new_slices(void);
 void lend_slices(Slices *to, const Fit *fit, size_t n, size_t more, unsigned seed);
 uint32_t fit_into(const Fit *fit, const double *marks, size_t marks_len, double tolerance, Slices *to);
 
-/* Whether the slices are as they were; whether all their numbers are zero; whether only what a fit of n marks writes has changed. */
+/* Whether open parts are as a call leaves them that answers so: zeros where it came to run, and else as they were. */
+bool open_left(const Lent *open, uint32_t answer);
+
+/* Whether the slices are as they were; whether all their numbers are zero; whether only what a fit of n marks writes has changed, and no
+   part is left open. */
 bool slices_kept(const Slices *s);
 bool slices_zero(const Slices *s);
 bool kept_beyond(const Slices *s, const Fit *fit, size_t n);

@@ -2,14 +2,16 @@
 
    ANSWERS. A call answers 0, or the number of a refusal (WES_TOO_FEW and so on; README.md has them all). The checkers also answer a fault, which is
    its letter: 'A' to 'E'. Where a call refuses, every single value and every array of fixed length that it hands back is zeros (`made`, `point`, ..).
-   Slices stay as they were, but 6 leaves every number of the slices lent to a fit zero. Where several refusals would do, the first of 9, 3, 1, 2, 4, 5 is
-   given, and 6 or 8 only where none of these is; wes_write_file, wes_pack_file, wes_export_path and wes_import_path have orders of their own.
+   Slices stay as they were, but 6 leaves every number of the slices lent to a fit zero, those of `open` too. Where several refusals would do, the first of
+   9, 3, 1, 2, 4, 5 is given, and 6 or 8 only where none of these is; wes_write_file, wes_pack_file, wes_export_path and wes_import_path have orders of
+   their own.
 
    RANGES, behind refusal 5. A coordinate is finite and at most 1,000,000 in magnitude, a tangent's component at most 2; a tolerance is finite and not below
    zero; a parameter or an estimate is finite; a dimension is 0 or 1; there are at most 64 rounds of Newton's.
 
-   LIMITS, behind refusal 2. The fits by blocks, the checkers, wes_read_file and wes_write_file take up to 100,000 marks; wes_fit_curve_cubic and
-   wes_list_outline 512; wes_judge_file and wes_save_fit 4,096, and files of up to 434,120 bytes, with 9 above; wes_pack_file and wes_unpack_file any number.
+   LIMITS, behind refusal 2. The fits by blocks, the checkers, wes_read_file and wes_write_file take up to 100,000 marks; wes_fit_curve_cubic,
+   wes_fit_curve_cubic_flat and wes_list_outline 512; wes_judge_file and wes_save_fit 4,096, and files of up to 434,120 bytes, with 9 above; wes_pack_file and
+   wes_unpack_file any number.
 
    SLICES. A slice is a pointer and how many elements it has (`marks`, `marks_len`). Marks are x and y in turn, so n marks are a slice of 2n numbers.
    An empty slice may be NULL with length 0. A call never reads or writes beyond a slice, whatever the numbers in it, and ends on every input.
@@ -95,6 +97,29 @@ uint32_t wes_fit_curve_cubic(const double *restrict marks, size_t marks_len, dou
                              double tolerance, double *restrict curves, size_t curves_len,
                              uint32_t *restrict firsts, size_t firsts_len, uint32_t *restrict worsts, size_t worsts_len,
                              double *restrict params, size_t params_len, size_t *restrict made);
+
+/* ---- Fits by the second engine, for a board with a small stack: the direct, the joined and the ring fit, with the same answers, bit for bit, and the same refusals.
+   What they take of the stack does not grow with the outline (STACK above): the parts that are still to be fitted are kept in a slice, and no function of theirs
+   calls itself, not by way of others either. Lend room as for the fits above, and 2n numbers more in `open`, for n marks as they are given, of a ring too; 4 also if
+   there are fewer. What `open` holds before does not matter. Where a call comes to run, accepted or refused by 6, every number of `open` is zero afterwards;
+   refusals 1 to 5 leave it as it was. */
+
+/* wes_fit_curve_cubic by the second engine. */
+uint32_t wes_fit_curve_cubic_flat(const double *restrict marks, size_t marks_len, double start_x, double start_y, double end_x, double end_y,
+                                  double tolerance, double *restrict curves, size_t curves_len,
+                                  uint32_t *restrict firsts, size_t firsts_len, uint32_t *restrict worsts, size_t worsts_len,
+                                  double *restrict params, size_t params_len, uint32_t *restrict open, size_t open_len,
+                                  size_t *restrict made);
+
+/* wes_fit_joined by the second engine. */
+uint32_t wes_fit_joined_flat(const double *restrict marks, size_t marks_len, double tolerance, double *restrict curves, size_t curves_len,
+                             uint32_t *restrict firsts, size_t firsts_len, uint32_t *restrict worsts, size_t worsts_len,
+                             double *restrict params, size_t params_len, uint32_t *restrict open, size_t open_len, size_t *restrict made);
+
+/* wes_fit_ring by the second engine. */
+uint32_t wes_fit_ring_flat(const double *restrict marks, size_t marks_len, double tolerance, double *restrict curves, size_t curves_len,
+                           uint32_t *restrict firsts, size_t firsts_len, uint32_t *restrict worsts, size_t worsts_len,
+                           double *restrict params, size_t params_len, uint32_t *restrict open, size_t open_len, size_t *restrict made);
 
 /* ---- Checkers: whether `count` curves are a sound list for these marks and this tolerance, whoever made them.
    0 is a sound list; 'A' to 'E' the first fault, at the curve number `curve` and the mark number `mark`: a wrong count or first mark (A), a curve's numbers or

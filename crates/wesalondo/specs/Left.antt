@@ -5,6 +5,7 @@ use lib.Ieee.{Float}
 use Rattle.plane.specs.declared.Point.{Point}
 use Rattle.plane.specs.declared.Curve.{Curve}
 use Rattle.fit.specs.Fit.{Ending}
+use Rattle.flat_fit.specs.Flat.{FlatEnding}
 use Rattle.reader.specs.Reader.{Found, Outcome}
 use Rattle.writer.specs.Writer.{Writing}
 use Rattle.lines.specs.Handed.{Handed}
@@ -25,6 +26,18 @@ fitLeft a C F W P = record { answer = a; curves = C; firsts = F; worsts = W; par
 
 abbrev pub leftBy : Ending → FitLeft
 leftBy E = fitLeft (countCrossed (E .answer)) (E .curves) (E .firsts) (E .worsts) (E .params)
+
+-- ---- a fit of the second engine, which is lent one slice more
+
+pub record FlatLeft : Type 0 where
+  pub fit : FitLeft
+  pub parts : List ℕ
+
+abbrev pub flatLeft : Crossed ℕ → List Float → List ℕ → List ℕ → List Float → List ℕ → FlatLeft
+flatLeft a C F W P O = record { fit = fitLeft a C F W P; parts = O }
+
+abbrev pub leftByFlat : FlatEnding → FlatLeft
+leftByFlat E = record { fit = leftBy (E .fit); parts = E .parts }
 
 -- ---- a curve in its points
 

@@ -10,8 +10,10 @@ ghost use Rattle.marks.specs.Block.{blockSize};
 ghost use Rattle.ring.specs.declared.Outline.the-variants as outlines;
 ghost use Rattle.form.specs.declared.Form.the-variants as forms;
 ghost use Rattle.tangents.specs.declared.Cutting.the-variants as cuttings;
+ghost use Rattle.parts.specs.declared.Heading.the-variants as headings;
 ghost use Rattle.faults.specs.Tests.{curveOf};
 ghost use Rattle.fit.specs.Fit.{fitOf, cubicOf};
+ghost use Rattle.flat_fit.specs.Flat.{flatOf};
 ghost use Rattle.tally.specs.Tally.{joinedBlocks};
 ghost use Rattle.checker.specs.Check.{place, checkOf};
 ghost use Rattle.bezier.specs.Calls.{basisCall, casteljau4Call, casteljau3Call, casteljau2Call, coefficientsCall, subdivide4Call, refineCall};
@@ -27,7 +29,7 @@ ghost use Rattle.unpacker.specs.Unpacker.{unpackOf};
 ghost use Rattle.export.specs.Export.{exportOf};
 ghost use Rattle.import.specs.Import.{importOf};
 ghost use Rattle.border.specs.Crossing.{outlineFor, formFor, crossed, numberCrossed, pointCrossed, coefficientsCrossed, parts, halvesCrossed, nearest, nearestCrossed, verdictCrossed, found, drawn};
-ghost use Rattle.wesalondo.specs.Left.{fitLeft, leftBy, onPoints, readLeft, leftByReader, bytesLeft, leftByWriter, leftWithText, drawnLeft, leftByImport};
+ghost use Rattle.wesalondo.specs.Left.{fitLeft, leftBy, flatLeft, leftByFlat, onPoints, readLeft, leftByReader, bytesLeft, leftByWriter, leftWithText, drawnLeft, leftByImport};
 use plane::Point;
 
 // ---- fits
@@ -123,6 +125,81 @@ pub extern "C" fn wes_fit_curve_cubic(
     };
     let end = Point { x: end_x, y: end_y };
     let answer = fit::fit_curve_cubic(marks, start, end, tolerance, curves, firsts, worsts, params);
+    border::put_fitted(answer, made)
+}
+
+// ---- fits of the second engine, which calls no function within itself and is lent room for its open parts
+
+// The direct fit.
+#[no_mangle]
+pub extern "C" fn wes_fit_curve_cubic_flat(
+    marks: &[f64],
+    start_x: f64,
+    start_y: f64,
+    end_x: f64,
+    end_y: f64,
+    tolerance: f64,
+    curves: &mut [f64],
+    firsts: &mut [u32],
+    worsts: &mut [u32],
+    params: &mut [f64],
+    open: &mut [u32],
+    made: &mut usize,
+) -> u32
+    ensures { λ r. ⌜ flatLeft (crossed r (now (made .exit))) (now (curves .exit)) (now (firsts .exit)) (now (worsts .exit)) (now (params .exit)) (now («open» .exit)) ≡ leftByFlat (flatOf (headings.Given (record { end = at «end_x» «end_y»; start = at «start_x» «start_y» })) (now (marks .entry)) tolerance (now (curves .entry)) (now (firsts .entry)) (now (worsts .entry)) (now (params .entry)) (now («open» .entry))) ⌝ }
+{
+    let start = Point {
+        x: start_x,
+        y: start_y,
+    };
+    let end = Point { x: end_x, y: end_y };
+    let answer = flat_fit::fit_curve_cubic_flat(
+        marks,
+        start,
+        end,
+        tolerance,
+        curves,
+        firsts,
+        worsts,
+        params,
+        open,
+    );
+    border::put_fitted(answer, made)
+}
+
+// The joined fit of an open outline.
+#[no_mangle]
+pub extern "C" fn wes_fit_joined_flat(
+    marks: &[f64],
+    tolerance: f64,
+    curves: &mut [f64],
+    firsts: &mut [u32],
+    worsts: &mut [u32],
+    params: &mut [f64],
+    open: &mut [u32],
+    made: &mut usize,
+) -> u32
+    ensures { λ r. ⌜ flatLeft (crossed r (now (made .exit))) (now (curves .exit)) (now (firsts .exit)) (now (worsts .exit)) (now (params .exit)) (now («open» .exit)) ≡ leftByFlat (flatOf (headings.By cuttings.Joined) (now (marks .entry)) tolerance (now (curves .entry)) (now (firsts .entry)) (now (worsts .entry)) (now (params .entry)) (now («open» .entry))) ⌝ }
+{
+    let answer = flat_fit::fit_joined_flat(marks, tolerance, curves, firsts, worsts, params, open);
+    border::put_fitted(answer, made)
+}
+
+// The joined fit of a closed outline.
+#[no_mangle]
+pub extern "C" fn wes_fit_ring_flat(
+    marks: &[f64],
+    tolerance: f64,
+    curves: &mut [f64],
+    firsts: &mut [u32],
+    worsts: &mut [u32],
+    params: &mut [f64],
+    open: &mut [u32],
+    made: &mut usize,
+) -> u32
+    ensures { λ r. ⌜ flatLeft (crossed r (now (made .exit))) (now (curves .exit)) (now (firsts .exit)) (now (worsts .exit)) (now (params .exit)) (now («open» .exit)) ≡ leftByFlat (flatOf (headings.By cuttings.Ring) (now (marks .entry)) tolerance (now (curves .entry)) (now (firsts .entry)) (now (worsts .entry)) (now (params .entry)) (now («open» .entry))) ⌝ }
+{
+    let answer = flat_fit::fit_ring_flat(marks, tolerance, curves, firsts, worsts, params, open);
     border::put_fitted(answer, made)
 }
 
