@@ -93,7 +93,7 @@ fn pieces_of_a_list() {
     assert_eq!(List { count: usize::MAX, ..list }.pieces().len(), k);
 }
 
-/// A zigzag that slowly shrinks loses one mark at a time. Cut as deep as that, a fit by the first engine wants 164 KB of stack, and the direct one 408 KB.
+/// A zigzag that slowly shrinks loses one mark at a time: cut as deep as that, the fits of the first engine overflow this stack several times over.
 #[test]
 fn deep_cuts_on_a_small_stack() {
     let marks: Vec<Point> = std::iter::successors(Some(1e6), |x| Some(-0.998 * x)).map(|x| Point::new(x, 0.0)).take(512).collect();
