@@ -24,13 +24,17 @@
    - a stack with room for the call (STACK below).
    The library keeps nothing between calls and has no data of its own: calls from several threads at once are fine, on different slices.
 
-   STACK, in KB of 1,024 bytes, rounded up. These figures are measured, not proved: the most that bindings/c/stack.c saw on 2026-11-17.
-     wes_fit_joined 164 KB, wes_fit_ring 164 KB, wes_fit_curve 163 KB, wes_fit_curve_loop 163 KB, wes_fit_curve_cubic 408 KB,
-     wes_nearest_point_on_curve 24 KB, wes_list_outline 292 KB, wes_judge_file 801 KB, wes_save_fit 1316 KB; every other call at most 1 KB.
-   Seen over outlines of 99,998 marks, whose blocks are the longest, and files of them (512 for the direct fit and the listing, 4,096 for the other two on
+   STACK, in KB of 1,024 bytes, rounded up; that of the second engine in bytes. These figures are measured, not proved: the most that bindings/c/stack.c saw on
+   2026-11-17.
+     wes_fit_joined 124 KB, wes_fit_ring 124 KB, wes_fit_curve 123 KB, wes_fit_curve_loop 123 KB, wes_fit_curve_cubic 305 KB,
+     wes_fit_joined_flat 5672 bytes, wes_fit_ring_flat 5672 bytes, wes_fit_curve_cubic_flat 5672 bytes,
+     wes_nearest_point_on_curve 24 KB, wes_list_outline 252 KB, wes_judge_file 801 KB, wes_save_fit 1276 KB; every other call at most 1 KB.
+   Seen over outlines of 99,998 marks, whose blocks are the longest, and files of them (512 for the direct fits and the listing, 4,096 for the other two on
    files), among them zigzags that a fit cuts one mark at a time, as deep as it can go. A fit by blocks takes so much for its longest block, of 200 marks,
-   however many there are: some 0.8 KB for a mark of it, as a direct fit does for each of its marks. Slices are the caller's: for 100,000 marks those of
-   a fit are 8.8 MB beside 1.6 MB of marks, which no usual stack has room for.
+   however many there are: some 0.6 KB for a mark of it, as a direct fit does for each of its marks. The second engine takes as much for five marks as for all
+   of these, and no input can make it take more: bindings/c/graph.py goes through the archive's code along every call, and adds up what each function takes (of
+   memset, the one that the archive does not hold, it knows nothing). Slices are the caller's: for 100,000 marks those of a fit are 8.8 MB beside 1.6 MB of marks,
+   and `open` 0.8 MB, which no usual stack has room for.
 */
 #ifndef WESALONDO_H
 #define WESALONDO_H
@@ -98,11 +102,11 @@ uint32_t wes_fit_curve_cubic(const double *restrict marks, size_t marks_len, dou
                              uint32_t *restrict firsts, size_t firsts_len, uint32_t *restrict worsts, size_t worsts_len,
                              double *restrict params, size_t params_len, size_t *restrict made);
 
-/* ---- Fits by the second engine, for a board with a small stack: the direct, the joined and the ring fit, with the same answers, bit for bit, and the same refusals.
-   What they take of the stack does not grow with the outline (STACK above): the parts that are still to be fitted are kept in a slice, and no function of theirs
-   calls itself, not by way of others either. Lend room as for the fits above, and 2n numbers more in `open`, for n marks as they are given, of a ring too; 4 also if
-   there are fewer. What `open` holds before does not matter. Where a call comes to run, accepted or refused by 6, every number of `open` is zero afterwards;
-   refusals 1 to 5 leave it as it was. */
+/* ---- Fits by the second engine, for a board with a small stack: the direct, the joined and the ring fit, with the same answers, bit for bit, and the same
+   refusals. What they take of the stack does not grow with the outline (STACK above): parts that are still open, which wait to be fitted, are kept in a slice, and
+   no function of theirs calls itself, not by way of others either. Lend room as for the fits above, and 2n numbers more in `open`, for n marks as they are given,
+   of a ring too; fewer are refused by 4. What `open` holds before does not matter. A call that comes to run, whether it is accepted or refused by 6, leaves every
+   number of `open` zero; refusals 1 to 5 leave it as it was. */
 
 /* wes_fit_curve_cubic by the second engine. */
 uint32_t wes_fit_curve_cubic_flat(const double *restrict marks, size_t marks_len, double start_x, double start_y, double end_x, double end_y,
