@@ -8,30 +8,36 @@ from shared.command import Stop
 BOTH = ('fit_curve', 'fit_curve_loop', 'fit_curve_cubic')  # fits that flo_curves has too
 ALONE = ('fit_joined', 'fit_ring', 'check_worst')          # timed by the mark as well, without a counterpart
 SINGLE = ('nearest_point_on_curve', 'sqrt')                # timed by the call
+FLAT = ('fit_curve_cubic', 'fit_joined', 'fit_ring')       # fits that the port's second engine has too
 ALL = 'all fits'
 FAMILIES = ('smooth', 'noisy', 'long')
 EVEN = 'even'                                              # the family that is one outline, cut into stretches of so many marks
 OPEN, CLOSE = '<!-- figures: from here on bench/run --out writes anew -->\n', '<!-- figures: up to here -->\n'
 
 
-class Row(collections.namedtuple('Row', 'call family marks tolerance curves rust port')):
-    """What one call took on one outline, in nanoseconds a mark, or of SINGLE a call; `rust` is None where flo_curves has no such call."""
+class Row(collections.namedtuple('Row', 'call family marks tolerance curves rust port flat')):
+    """What one call took on one outline, in nanoseconds a mark, or of SINGLE a call: the Rust, the port, and the port's second engine, whose fits are flat.
+    `rust` is None where flo_curves has no such call, and `flat` where the second engine has none."""
 
     @property
     def ratio(self):
         return None if self.rust is None else self.port / self.rust
 
+    @property
+    def flat_ratio(self):
+        return None if self.flat is None else self.flat / self.port
+
 
 def parse(line):
-    """A line of the Rust program: call, family, marks, tolerance, curves, nanoseconds of the Rust and of the port."""
+    """A line of the Rust program: call, family, marks, tolerance, curves, nanoseconds of the Rust, of the port and of its second engine."""
     number = r'\d+(?:\.\d+)?'
-    found = re.fullmatch(rf'(\w+) (\w+) (\d+) ({number}|-) (\d+) ({number}|-) ({number})', line)
+    found = re.fullmatch(rf'(\w+) (\w+) (\d+) ({number}|-) (\d+) ({number}|-) ({number}) ({number}|-)', line)
     if not found or found[1] not in BOTH + ALONE + SINGLE:
         raise Stop(f'this is no line of figures: {line[:100]}')
-    rust = None if found[6] == '-' else float(found[6])
-    if rust == 0 or float(found[7]) == 0:
+    times = [None if word == '-' else float(word) for word in found.groups()[5:]]
+    if 0 in times:
         raise Stop(f'a call that takes no time: {line[:100]}')
-    return Row(found[1], found[2], int(found[3]), found[4], int(found[5]), rust, float(found[7]))
+    return Row(found[1], found[2], int(found[3]), found[4], int(found[5]), *times)
 
 
 def geometric_mean(values):
@@ -64,28 +70,44 @@ def share(value):
     return '-' if value is None else f'{value:.2f}'
 
 
-HEAD = f'{"call":24}{"family":10}{"marks":>8}{"tolerance":>11}{"curves":>8}{"Rust, ns":>10}{"port, ns":>10}{"port/Rust":>11}'
+HEAD = (f'{"call":24}{"family":10}{"marks":>8}{"tolerance":>11}{"curves":>8}{"Rust, ns":>10}{"port, ns":>10}{"port/Rust":>11}'
+        f'{"flat, ns":>10}{"flat/port":>11}')
 
 
 def printed(row):
     return (f'{row.call:24}{row.family:10}{row.marks:>8,}{row.tolerance:>11}{row.curves:>8,}'
-            f'{duration(row.rust):>10}{duration(row.port):>10}{share(row.ratio):>11}')
+            f'{duration(row.rust):>10}{duration(row.port):>10}{share(row.ratio):>11}{duration(row.flat):>10}{share(row.flat_ratio):>11}')
 
 
 Mean = collections.namedtuple('Mean', 'name count mean least most')
 
 
-def means(rows):
-    """The geometric mean of the ratios of each call, and over all fits, with how many they are and the least and the largest one."""
-    rows = apart(rows)
-    of_call = [(call, chosen(rows, call=call)) for call in BOTH + SINGLE]
-    groups = of_call[:len(BOTH)] + [(ALL, [row for row in rows if row.call in BOTH])] + of_call[len(BOTH):]
-    ratios = [(name, [row.ratio for row in group]) for name, group in groups if group]
+def means_of(groups, ratio):
+    """For each group of rows that has any its name, how many ratios it has, their geometric mean, the least and the largest one."""
+    ratios = [(name, [getattr(row, ratio) for row in group]) for name, group in groups if group]
     return [Mean(name, len(found), geometric_mean(found), min(found), max(found)) for name, found in ratios]
 
 
-def printed_mean(mean):
-    return f'{mean.name:24}{mean.count:>4}   port/Rust {mean.mean:.3f}   from {mean.least:.2f} to {mean.most:.2f}'
+def by_call(rows, calls):
+    """A group for each call."""
+    return [(call, chosen(rows, call=call)) for call in calls]
+
+
+def means(rows):
+    """The port by the Rust: each call, and all fits."""
+    rows = apart(rows)
+    every = [(ALL, [row for row in rows if row.call in BOTH])]
+    return means_of(by_call(rows, BOTH) + every + by_call(rows, SINGLE), 'ratio')
+
+
+def flat_means(rows):
+    """The port's second engine by its first: each fit that both have, and all of them."""
+    rows = [row for row in apart(rows) if row.flat is not None]
+    return means_of(by_call(rows, FLAT) + [(ALL, rows)], 'flat_ratio')
+
+
+def printed_mean(mean, of):
+    return f'{mean.name:24}{mean.count:>4}   {of} {mean.mean:.3f}   from {mean.least:.2f} to {mean.most:.2f}'
 
 
 def outlines_of(rows):
@@ -115,19 +137,30 @@ def fit_table(rows, call):
     return table(head, [[f'{marks:,}', *cells(marks)] for marks in sizes(own)])
 
 
-def alone_table(rows):
-    """A row for each size; for each call and family the port's nanoseconds."""
-    own = [row for row in apart(rows) if row.call in ALONE]
-    head = ['marks'] + [f'`{call}`: {family}' for call in ALONE for family in FAMILIES]
-    cells = lambda marks: [mean_of(chosen(own, call=call, marks=marks, family=family))[1] for call in ALONE for family in FAMILIES]
+def size_table(rows, calls, cell):
+    """A row for each size; for each call and family what `cell` says of the rows that differ in tolerance."""
+    own = [row for row in apart(rows) if row.call in calls]
+    head = ['marks'] + [f'`{call}`: {family}' for call in calls for family in FAMILIES]
+    cells = lambda marks: [cell(chosen(own, call=call, marks=marks, family=family)) for call in calls for family in FAMILIES]
     return table(head, [[f'{marks:,}', *cells(marks)] for marks in sizes(own)])
+
+
+def alone_table(rows):
+    """The port's nanoseconds."""
+    return size_table(rows, ALONE, lambda own: mean_of(own)[1])
+
+
+def flat_table(rows):
+    """The second engine's time by the first one's."""
+    own = [row for row in rows if row.flat is not None]
+    return size_table(own, FLAT, lambda found: share(geometric_mean(row.flat_ratio for row in found)) if found else '')
 
 
 def even_costs(rows):
     """For each call that was timed on the even outline, and for each side, the call, the side and the cost of a mark by the marks of a stretch."""
-    for call, side in [(call, side) for call in BOTH for side in ('Rust', 'port')] + [(call, 'port') for call in ALONE]:
+    for call, side in [(call, side) for call in BOTH + ALONE for side in ('Rust', 'port', 'flat')]:
         costs = {row.marks: getattr(row, side.lower()) for row in chosen(rows, family=EVEN, call=call)}
-        if costs:
+        if costs and None not in costs.values():
             yield call, side, costs
 
 
@@ -139,12 +172,11 @@ def even_table(rows):
     return table(head, [[f'`{call}`, {side}', *cells(costs)] for call, side, costs in even_costs(rows)])
 
 
-def mean_table(rows):
-    """The means of the fits."""
-    head = ['call', 'timed on', 'port / Rust, geometric mean', 'least', 'largest']
+def mean_table(found, of):
+    """Means of fits."""
+    head = ['call', 'timed on', f'{of}, geometric mean', 'least', 'largest']
     name = lambda mean: mean.name if mean.name == ALL else f'`{mean.name}`'
     timed = lambda mean: f'{mean.count} fits' if mean.name == ALL else f'{mean.count} outlines'
-    found = [mean for mean in means(rows) if mean.name not in SINGLE]
     return table(head, [[name(mean), timed(mean), f'{mean.mean:.3f}', share(mean.least), share(mean.most)] for mean in found])
 
 
@@ -159,14 +191,16 @@ def markdown(rows, machine):
     parts = [
         f'Measured on {machine}\n',
         f'{outlines_of(rows)} outlines. A ratio is the port\'s time by the Rust\'s: below 1 the port is the quicker one.\n',
-        mean_table(rows), single_table(rows),
+        mean_table([mean for mean in means(rows) if mean.name not in SINGLE], 'port / Rust'), single_table(rows),
+        'The second engine of the port, whose fits are *flat*, beside the first on the same outlines:\n', mean_table(flat_means(rows), 'flat / first'),
         '![What a mark costs, against the number of marks: three fits by the Rust and by the port, and by the port alone '
         'the joined fit, the ring fit and the list checker; then the same on 100,000 marks in outlines of 1,000 to 100,000](speed.svg)\n',
         '### The same 100,000 marks, in outlines of so many\n', 'Nanoseconds a mark.\n', even_table(rows),
         '### All other outlines\n', 'Nanoseconds a mark; a figure is the geometric mean over the tolerances.\n']
     for call in BOTH:
         parts += [f'#### `{call}`\n', fit_table(rows, call)]
-    return '\n'.join(parts + ['#### The port alone: what flo_curves has not\n', alone_table(rows)])
+    parts += ['#### The port alone: what flo_curves has not\n', alone_table(rows)]
+    return '\n'.join(parts + ['#### The second engine\'s time by the first one\'s\n', flat_table(rows)])
 
 
 def renewed(page, new):

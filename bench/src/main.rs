@@ -1,10 +1,11 @@
 //! Times the functions of flo_curves and those of the port, in one process and on the same outlines, for bench/run.
-//! Before anything is timed, every outline is fitted by both, and the curves must be the same bits: an outline where they are not is named on
-//! standard error, and the status is 1.
-//! A line for each call and outline: call, family, marks, tolerance, curves, nanoseconds a mark of the Rust (`-` where flo_curves has no such call)
-//! and of the port. A line of the family `even` is of all stretches of so many marks, into which one outline is cut. Of the nearest point and the square
+//! Before anything is timed, every outline is fitted by both, and the curves must be the same bits, and those of the port's second engine all that the first
+//! one hands out: an outline where they are not is named on standard error, and the status is 1.
+//! A line for each call and outline: call, family, marks, tolerance, curves, nanoseconds a mark of the Rust (`-` where flo_curves has no such call),
+//! of the port, and of its second engine (`-` where that has no such call). A line of the family `even` is of all stretches of so many marks, into which one outline is cut. Of the nearest point and the square
 //! root it is questions in the place of marks, `-` for the tolerance, and nanoseconds a question.
 use flo_curves::bezier::*;
+use std::cell::RefCell;
 use std::f64::consts::TAU;
 use std::hint::black_box;
 use std::time::{Duration, Instant};
@@ -82,14 +83,16 @@ fn tangents(p: &[Coord2]) -> (Coord2, Coord2) {
 
 // ---- the port's calls, on slices that are lent once
 
-struct Room { curves: Vec<f64>, firsts: Vec<u32>, worsts: Vec<u32>, params: Vec<f64>, made: usize }
+struct Room { curves: Vec<f64>, firsts: Vec<u32>, worsts: Vec<u32>, params: Vec<f64>, open: Vec<u32>, made: usize }
 type Check = unsafe extern "C" fn(
     *const f64, usize, f64, usize, *const f64, usize, *const u32, usize, *const u32, usize, *const f64, usize, *mut usize, *mut usize,
 ) -> u32;
 
 impl Room {
-    /// As much as a ring of n marks asks for.
-    fn new(n: usize) -> Room { Room { curves: vec![0.0; 9 * n], firsts: vec![0; n], worsts: vec![0; n], params: vec![0.0; n + 1], made: 0 } }
+    /// As much as a ring of n marks asks for, with no zeros among the open parts, so that those that are found there are a call's.
+    fn new(n: usize) -> Room {
+        Room { curves: vec![0.0; 9 * n], firsts: vec![0; n], worsts: vec![0; n], params: vec![0.0; n + 1], open: vec![7; 2 * n], made: 0 }
+    }
     fn fit(&mut self, fit: sys::FitCall, o: &Outline) -> u32 {
         let (curves, firsts, worsts, params) = (&mut self.curves, &mut self.firsts, &mut self.worsts, &mut self.params);
         // every pointer is a vector's own, with its own length
@@ -107,6 +110,26 @@ impl Room {
             sys::wes_fit_curve_cubic(
                 o.numbers.as_ptr(), o.numbers.len(), start.0, start.1, end.0, end.1, o.tolerance, curves.as_mut_ptr(), curves.len(),
                 firsts.as_mut_ptr(), firsts.len(), worsts.as_mut_ptr(), worsts.len(), params.as_mut_ptr(), params.len(), &mut self.made,
+            )
+        }
+    }
+    fn fit_flat(&mut self, fit: sys::FlatFitCall, o: &Outline) -> u32 {
+        let (curves, firsts, worsts, params, open) = (&mut self.curves, &mut self.firsts, &mut self.worsts, &mut self.params, &mut self.open);
+        unsafe {
+            fit(
+                o.numbers.as_ptr(), o.numbers.len(), o.tolerance, curves.as_mut_ptr(), curves.len(), firsts.as_mut_ptr(), firsts.len(),
+                worsts.as_mut_ptr(), worsts.len(), params.as_mut_ptr(), params.len(), open.as_mut_ptr(), open.len(), &mut self.made,
+            )
+        }
+    }
+    fn fit_direct_flat(&mut self, o: &Outline) -> u32 {
+        let (curves, firsts, worsts, params, open) = (&mut self.curves, &mut self.firsts, &mut self.worsts, &mut self.params, &mut self.open);
+        let (start, end) = tangents(&o.marks);
+        unsafe {
+            sys::wes_fit_curve_cubic_flat(
+                o.numbers.as_ptr(), o.numbers.len(), start.0, start.1, end.0, end.1, o.tolerance, curves.as_mut_ptr(), curves.len(),
+                firsts.as_mut_ptr(), firsts.len(), worsts.as_mut_ptr(), worsts.len(), params.as_mut_ptr(), params.len(),
+                open.as_mut_ptr(), open.len(), &mut self.made,
             )
         }
     }
@@ -128,9 +151,13 @@ type Port = fn(&Outline, &mut Room) -> u32;
 type Rust = fn(&Outline) -> Vec<Plain>;
 /// Against what an answer of the port is held before it is timed: the Rust's curves, or the list checker.
 enum Held { Same(Rust), Sound(Port) }
-struct Call { name: &'static str, most: usize, before: Option<Port>, port: Port, held: Held }
+/// A call of the port, and the same by its second engine, which keeps open parts in a slice, if that has it.
+struct Call { name: &'static str, most: usize, before: Option<Port>, port: Port, flat: Option<Port>, held: Held }
 
 const JOINED: Port = |o, room| room.fit(sys::wes_fit_joined, o);
+const JOINED_FLAT: Port = |o, room| room.fit_flat(sys::wes_fit_joined_flat, o);
+const RING_FLAT: Port = |o, room| room.fit_flat(sys::wes_fit_ring_flat, o);
+const DIRECT_FLAT: Port = |o, room| room.fit_direct_flat(o);
 const CHECKED: Port = |o, room| room.check(sys::wes_check_worst, o);
 const CHECKED_RING: Port = |o, room| room.check(sys::wes_check_worst_ring, o);
 
@@ -139,15 +166,16 @@ fn rust_direct(o: &Outline) -> Vec<Plain> {
     fit_curve_cubic(&o.marks, &start, &end, o.tolerance)
 }
 fn calls() -> [Call; 6] {
-    let both = |name, most, port, rust| Call { name, most, before: None, port, held: Held::Same(rust) };
-    let alone = |name, before, port, check| Call { name, most: MOST, before, port, held: Held::Sound(check) };
+    let both = |name, most, port, flat, rust| Call { name, most, before: None, port, flat, held: Held::Same(rust) };
+    let alone = |name, before, port, flat, check| Call { name, most: MOST, before, port, flat, held: Held::Sound(check) };
+    let by_the_loop: Rust = |o| fit_curve_loop(&o.marks, o.tolerance).expect("two marks");
     [
-        both("fit_curve", MOST, |o, room| room.fit(sys::wes_fit_curve, o), |o| fit_curve(&o.marks, o.tolerance).expect("two marks")),
-        both("fit_curve_loop", MOST, |o, room| room.fit(sys::wes_fit_curve_loop, o), |o| fit_curve_loop(&o.marks, o.tolerance).expect("two marks")),
-        both("fit_curve_cubic", MOST_DIRECT, |o, room| room.fit_direct(o), rust_direct),
-        alone("fit_joined", None, JOINED, CHECKED),
-        alone("fit_ring", None, |o, room| room.fit(sys::wes_fit_ring, o), CHECKED_RING),
-        alone("check_worst", Some(JOINED), CHECKED, CHECKED),
+        both("fit_curve", MOST, |o, room| room.fit(sys::wes_fit_curve, o), None, |o| fit_curve(&o.marks, o.tolerance).expect("two marks")),
+        both("fit_curve_loop", MOST, |o, room| room.fit(sys::wes_fit_curve_loop, o), None, by_the_loop),
+        both("fit_curve_cubic", MOST_DIRECT, |o, room| room.fit_direct(o), Some(DIRECT_FLAT), rust_direct),
+        alone("fit_joined", None, JOINED, Some(JOINED_FLAT), CHECKED),
+        alone("fit_ring", None, |o, room| room.fit(sys::wes_fit_ring, o), Some(RING_FLAT), CHECKED_RING),
+        alone("check_worst", Some(JOINED), CHECKED, None, CHECKED),
     ]
 }
 
@@ -161,10 +189,18 @@ fn same_curves(rust: &[Plain], room: &Room) -> bool {
 }
 /// Puts into the room what a call reads there.
 fn prepare(call: &Call, o: &Outline, room: &mut Room) -> bool { call.before.map_or(0, |before| before(o, room)) == 0 }
-/// Whether the port takes an outline and its answer is the Rust's, or passes the list checker.
-fn holds(call: &Call, o: &Outline, room: &mut Room) -> bool {
-    let taken = prepare(call, o, room) && (call.port)(o, room) == 0;
-    taken && match &call.held { Held::Same(rust) => same_curves(&rust(o), room), Held::Sound(check) => check(o, room) == 0 }
+/// Whether the second engine leaves what the first has left, the places behind the list among it, and no part open.
+fn same_room(first: &Room, second: &Room) -> bool {
+    let numbers = same_bits(&first.curves, &second.curves) && same_bits(&first.params, &second.params);
+    let marks = first.made == second.made && first.firsts == second.firsts && first.worsts == second.worsts;
+    numbers && marks && second.open.iter().all(|mark| *mark == 0)
+}
+/// Whether the port takes an outline and its answer is the Rust's, or passes the list checker, and is that of its second engine.
+fn holds(call: &Call, o: &Outline) -> bool {
+    let (mut room, mut other) = (Room::new(o.marks.len()), Room::new(o.marks.len()));
+    let taken = prepare(call, o, &mut room) && (call.port)(o, &mut room) == 0;
+    let right = taken && match &call.held { Held::Same(rust) => same_curves(&rust(o), &room), Held::Sound(check) => check(o, &mut room) == 0 };
+    right && call.flat.map_or(true, |flat| flat(o, &mut other) == 0 && same_room(&room, &other))
 }
 
 // ---- timing
@@ -186,25 +222,30 @@ fn enough(side: &mut dyn FnMut()) -> u32 {
     while batch(side, times) * f64::from(times) < longest { times *= 2; }
     times
 }
+/// Something of each side: the Rust, the port, and the port's second engine; or none where it has no such call.
+type Sides<T> = [Option<T>; 3];
+
 /// The least nanoseconds of a call of each side, all sides by turns, another one first in each round.
-fn least(sides: &mut [&mut dyn FnMut()]) -> Vec<f64> {
-    let times: Vec<u32> = sides.iter_mut().map(|side| enough(side)).collect();
-    let mut found = vec![f64::INFINITY; sides.len()];
+fn least(mut sides: Sides<&mut dyn FnMut()>) -> Sides<f64> {
+    let times = sides.each_mut().map(|side| side.as_mut().map(|side| enough(side)));
+    let mut found = [None; 3];
     for round in 0..ROUNDS {
         for turn in 0..sides.len() {
             let k = (round + turn) % sides.len();
-            found[k] = found[k].min(batch(sides[k], times[k]));
+            if let (Some(side), Some(times)) = (&mut sides[k], times[k]) { found[k] = lesser(found[k], Some(batch(side, times))); }
         }
     }
     found
 }
+/// The lesser of two durations, or the one that there is.
+fn lesser(before: Option<f64>, now: Option<f64>) -> Option<f64> { before.into_iter().chain(now).reduce(f64::min) }
 
 /// What is timed: a call on outlines of the same length in a row, or so many questions in a row.
 enum Item<'a> { Fit(&'a Call, &'a [Outline]), Nearest(&'a str, &'a [Question]), Roots(&'a str, Timed, &'a [f64]) }
 
 impl Item<'_> {
-    /// The least nanoseconds of each side: the Rust, where it has such a call, and the port; and how many curves there are.
-    fn time(&self) -> (Vec<f64>, usize) {
+    /// The least nanoseconds of each side; and how many curves there are.
+    fn time(&self) -> (Sides<f64>, usize) {
         match self {
             Item::Fit(call, outlines) => time_call(call, outlines),
             Item::Nearest(_, asked) => (time_nearest(asked), 0),
@@ -224,29 +265,31 @@ impl Item<'_> {
     }
 }
 
-/// Each outline has room of its own, in which the checker finds its list.
-fn time_call(call: &Call, outlines: &[Outline]) -> (Vec<f64>, usize) {
-    let mut asked: Vec<(&Outline, Room)> = outlines.iter().map(|o| (o, Room::new(o.marks.len()))).collect();
-    for (o, room) in &mut asked { assert!(prepare(call, o, room), "it was taken before"); }
-    let mut port = || for (o, room) in black_box(&mut asked) { black_box((call.port)(o, room)); };
-    let found = match &call.held {
-        Held::Same(rust) => least(&mut [&mut || for o in black_box(outlines) { black_box(rust(o)); }, &mut port]),
-        Held::Sound(_) => least(&mut [&mut port]),
-    };
-    (found, asked.iter().map(|(_, room)| room.made).sum())
+/// Each outline has room of its own, in which the checker finds its list. Both engines write to the same room, so that where it lies counts for neither.
+fn time_call(call: &Call, outlines: &[Outline]) -> (Sides<f64>, usize) {
+    let mut rooms: Vec<(&Outline, Room)> = outlines.iter().map(|o| (o, Room::new(o.marks.len()))).collect();
+    for (o, room) in &mut rooms { assert!(prepare(call, o, room), "it was taken before"); }
+    let rooms = RefCell::new(rooms);
+    let run = |port: Port| for (o, room) in black_box(&mut *rooms.borrow_mut()) { black_box(port(o, room)); };
+    let rust = match call.held { Held::Same(rust) => Some(rust), Held::Sound(_) => None };
+    let mut by_rust = rust.map(|rust| move || for o in black_box(outlines) { black_box(rust(o)); });
+    let mut by_flat = call.flat.map(|flat| move || run(flat));
+    let found = least([by_rust.as_mut().map(|side| side as _), Some(&mut || run(call.port)), by_flat.as_mut().map(|side| side as _)]);
+    let curves = rooms.borrow().iter().map(|(_, room)| room.made).sum();
+    (found, curves)
 }
 
 /// Times every item PASSES times, and prints it with the least of them in the last pass.
 fn time_all(items: &[Item]) {
-    let mut least = vec![vec![f64::INFINITY; 2]; items.len()];
+    let mut least = vec![[None; 3]; items.len()];
     for pass in 1..=PASSES {
         for (item, best) in items.iter().zip(&mut least) {
             let (found, curves) = item.time();
-            *best = found.iter().zip(&*best).map(|(now, before)| now.min(*before)).collect();
+            for (best, now) in best.iter_mut().zip(found) { *best = lesser(*best, now); }
             if pass == PASSES {
                 let (told, count) = item.told();
-                let each: Vec<String> = best.iter().map(|ns| format!("{:.3}", ns / count as f64)).collect();
-                println!("{} {} {}{}", told, curves, if each.len() == 1 { "- " } else { "" }, each.join(" "));
+                let each = best.map(|side| side.map_or("-".to_owned(), |ns| format!("{:.3}", ns / count as f64)));
+                println!("{} {} {}", told, curves, each.join(" "));
             }
         }
     }
@@ -279,10 +322,10 @@ fn near_enough(q: &Question) -> bool {
     let far = Coordinate::distance_to(&q.curve.point_at_pos(nearest_point_on_curve(&q.curve, &q.point)), &q.point);
     port_nearest(q).is_some_and(|(_, square)| square.sqrt() <= far + 1e-9)
 }
-fn time_nearest(asked: &[Question]) -> Vec<f64> {
+fn time_nearest(asked: &[Question]) -> Sides<f64> {
     let mut rust = || for q in asked { black_box(nearest_point_on_curve(black_box(&q.curve), black_box(&q.point))); };
     let mut port = || for q in asked { black_box(port_nearest(black_box(q))); };
-    least(&mut [&mut rust, &mut port])
+    least([Some(&mut rust), Some(&mut port), None])
 }
 
 // ---- the square root
@@ -294,29 +337,29 @@ fn squares() -> Vec<f64> {
     (0..QUESTIONS).map(|_| 10.0f64.powf(-6.0 + 18.0 * dice.roll())).collect()
 }
 /// How roots are timed: the least nanoseconds of all of them, by the Rust and by the port.
-type Timed = fn(&[f64]) -> Vec<f64>;
+type Timed = fn(&[f64]) -> Sides<f64>;
 const ROOTS: [(&str, Timed); 2] = [("apart", time_apart), ("chained", time_chained)];
 
 /// Each of a number of its own, so that the next one is begun before this one is done. The numbers are hidden from the compiler as a slice: hidden
 /// one by one, each goes through memory, which was seen to take the port's calls two to three times as long and the Rust's instruction hardly longer.
-fn time_apart(numbers: &[f64]) -> Vec<f64> {
+fn time_apart(numbers: &[f64]) -> Sides<f64> {
     let mut rust = || for x in black_box(numbers) { black_box(x.sqrt()); };
     let mut port = || for x in black_box(numbers) { black_box(port_root(*x)); };
-    least(&mut [&mut rust, &mut port])
+    least([Some(&mut rust), Some(&mut port), None])
 }
 /// Each of a number that the one before is added to, so that it has to wait.
-fn time_chained(numbers: &[f64]) -> Vec<f64> {
+fn time_chained(numbers: &[f64]) -> Sides<f64> {
     let mut rust = || { black_box(black_box(numbers).iter().fold(0.0, |root: f64, x| (x + root).sqrt())); };
     let mut port = || { black_box(black_box(numbers).iter().fold(0.0, |root, x| port_root(x + root))); };
-    least(&mut [&mut rust, &mut port])
+    least([Some(&mut rust), Some(&mut port), None])
 }
 
 /// Ends with status 1 where anything that is to be timed is not held to be right, and names it.
 fn hold_all(calls: &[Call], groups: &[Vec<Outline>], nearest: &[(&str, Vec<Question>)], roots: &[f64]) {
-    let (mut unlike, mut room) = (vec![], Room::new(MOST));
+    let mut unlike = vec![];
     for call in calls {
         for o in groups.iter().flatten().filter(|o| o.marks.len() <= call.most) {
-            if !holds(call, o, &mut room) { unlike.push(format!("{} {} {} {}", call.name, o.family, o.marks.len(), o.tolerance)); }
+            if !holds(call, o) { unlike.push(format!("{} {} {} {}", call.name, o.family, o.marks.len(), o.tolerance)); }
         }
     }
     for (family, asked) in nearest {
@@ -324,7 +367,7 @@ fn hold_all(calls: &[Call], groups: &[Vec<Outline>], nearest: &[(&str, Vec<Quest
         unlike.extend(farther.map(|(i, _)| format!("nearest_point_on_curve {} question {}", family, i)));
     }
     unlike.extend(roots.iter().filter(|x| !same_bits(&[x.sqrt()], &[port_root(**x)])).map(|x| format!("sqrt {:e}", x)));
-    for name in &unlike { eprintln!("the Rust and the port are unlike: {}", name); }
+    for name in &unlike { eprintln!("the Rust and the port, or its two engines, are unlike: {}", name); }
     if !unlike.is_empty() { std::process::exit(1); }
 }
 

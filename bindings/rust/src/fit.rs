@@ -1,5 +1,6 @@
 //! The five fits.
 use crate::fitted::Fit;
+use crate::lent::Wanted;
 use crate::point::{numbers, Point};
 use crate::refusal::{answered, Refusal};
 use crate::sys;
@@ -8,10 +9,8 @@ use crate::sys;
 pub(crate) const MOST_MARKS: usize = 100_000;
 
 /// A fit into room of its own: `call` has the marks' numbers, the room, and where to put how many curves it made.
-fn fit_with(ring: bool, marks: &[Point], call: impl FnOnce(&[f64], &mut Fit, &mut usize) -> u32) -> Result<Fit, Refusal> {
-    // More marks are refused before any room is asked for.
-    let given = marks.len().min(MOST_MARKS);
-    let mut fit = Fit::with_room(given + usize::from(ring), ring);
+pub(crate) fn fit_with(ring: bool, marks: &[Point], call: impl FnOnce(&[f64], &mut Fit, &mut usize) -> u32) -> Result<Fit, Refusal> {
+    let mut fit = Fit::with_room(ring, Wanted::of(ring, marks.len()));
     let mut made = 0;
     answered(call(numbers(marks), &mut fit, &mut made))?;
     fit.keep(made);

@@ -1,5 +1,6 @@
 //! What a fit makes.
 use crate::check::{check, List};
+use crate::lent::Wanted;
 use crate::point::{Curve, Point};
 use crate::refusal::Refusal;
 use crate::verdict::Verdict;
@@ -33,10 +34,10 @@ pub struct Piece {
 }
 
 impl Fit {
-    /// Room for as many curves as an outline can have in which so many marks are counted.
-    pub(crate) fn with_room(counted: usize, ring: bool) -> Fit {
-        let most = counted.saturating_sub(1);
-        Fit { ring, curves: vec![0.0; RECORD * most], firsts: vec![0; most], worsts: vec![0; most], params: vec![0.0; counted] }
+    /// The room that a fit wants.
+    pub(crate) fn with_room(ring: bool, wanted: Wanted) -> Fit {
+        let Wanted { curves, firsts, worsts, params, .. } = wanted;
+        Fit { ring, curves: vec![0.0; curves], firsts: vec![0; firsts], worsts: vec![0; worsts], params: vec![0.0; params] }
     }
 
     /// Gives back the room that the curves do not take.
@@ -66,10 +67,7 @@ impl Fit {
 
     /// Curve number `j` with its marks, if there is one.
     pub fn get(&self, j: usize) -> Option<Piece> {
-        let record = self.curves.get(RECORD * j..)?.first_chunk::<RECORD>()?;
-        let [a, b, c, d, e, f, g, h, distance] = *record;
-        let curve = Curve::from([a, b, c, d, e, f, g, h]);
-        Some(Piece { curve, distance, first: *self.firsts.get(j)? as usize, worst: *self.worsts.get(j)? as usize })
+        self.list().get(j)
     }
 
     /// The curves alone.
@@ -79,7 +77,7 @@ impl Fit {
 
     /// The curves, each with its marks.
     pub fn pieces(&self) -> Pieces<'_> {
-        Pieces { fit: self, left: 0..self.len() }
+        self.list().pieces()
     }
 
     /// Where on its curve each mark lies; of a ring mark 0 comes again at the end. A mark in two curves has the later one's, which is 0.
@@ -98,10 +96,32 @@ impl Fit {
     }
 }
 
-/// The curves of a fit in turn; see [`Fit::pieces`].
+impl<'a> List<'a> {
+    /// How many curves of nine numbers are whole.
+    fn whole(&self) -> usize {
+        self.count.min(self.firsts.len()).min(self.worsts.len()).min(self.curves.len() / RECORD)
+    }
+
+    /// Curve number `j` of a list of nine numbers a curve, with its marks, if there is one.
+    pub fn get(&self, j: usize) -> Option<Piece> {
+        if j >= self.whole() {
+            return None;
+        }
+        let [a, b, c, d, e, f, g, h, distance] = *self.curves[RECORD * j..].first_chunk::<RECORD>()?;
+        let curve = Curve::from([a, b, c, d, e, f, g, h]);
+        Some(Piece { curve, distance, first: self.firsts[j] as usize, worst: self.worsts[j] as usize })
+    }
+
+    /// The curves of a list of nine numbers a curve, as the fits give it, each with its marks.
+    pub fn pieces(&self) -> Pieces<'a> {
+        Pieces { list: *self, left: 0..self.whole() }
+    }
+}
+
+/// The curves of a fit in turn; see [`Fit::pieces`] and [`List::pieces`].
 #[derive(Clone, Debug)]
 pub struct Pieces<'a> {
-    fit: &'a Fit,
+    list: List<'a>,
     left: Range<usize>,
 }
 
@@ -109,7 +129,7 @@ impl Iterator for Pieces<'_> {
     type Item = Piece;
 
     fn next(&mut self) -> Option<Piece> {
-        self.left.next().and_then(|j| self.fit.get(j))
+        self.left.next().and_then(|j| self.list.get(j))
     }
 
     fn size_hint(&self) -> (usize, Option<usize>) {
@@ -117,13 +137,13 @@ impl Iterator for Pieces<'_> {
     }
 
     fn nth(&mut self, n: usize) -> Option<Piece> {
-        self.left.nth(n).and_then(|j| self.fit.get(j))
+        self.left.nth(n).and_then(|j| self.list.get(j))
     }
 }
 
 impl DoubleEndedIterator for Pieces<'_> {
     fn next_back(&mut self) -> Option<Piece> {
-        self.left.next_back().and_then(|j| self.fit.get(j))
+        self.left.next_back().and_then(|j| self.list.get(j))
     }
 }
 

@@ -8,12 +8,12 @@ use std::fmt;
 pub enum Refusal {
     /// Fewer than 2 marks; fewer than 3 of a ring.
     TooFew,
-    /// More than 100,000 marks; more than 512 for `fit_curve_cubic` and the listing, more than 4,096 for `judge_file` and `save_fit`.
+    /// More than 100,000 marks; more than 512 for `fit_curve_cubic`, its flat form and the listing, more than 4,096 for `judge_file` and `save_fit`.
     TooMany,
     /// A mark with an x and no y, which slices of [`Point`](crate::Point) can't have.
     Odd,
-    /// A slice is too short for what the call is to do; of this crate's calls only those that take a [`List`](crate::List) or a
-    /// [`House`](crate::House) can find one.
+    /// A slice is too short for what the call is to do; of this crate's calls only those that take a [`List`](crate::List), a
+    /// [`House`](crate::House) or [`Lent`](crate::Lent) room can find one.
     NoRoom,
     /// An input number is out of range.
     OutOfRange,

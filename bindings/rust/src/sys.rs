@@ -6,10 +6,10 @@
 //! none of these is; `wes_write_file`, `wes_pack_file`, `wes_export_path` and `wes_import_path` have orders of their own.
 //!
 //! A slice is a pointer and how many elements it has (`marks`, `marks_len`); marks are x and y in turn. For n marks a fit wants 9(n-1) numbers in
-//! `curves`, n-1 in `firsts` and in `worsts`, and n in `params`; for a ring 9n, n, n and n+1.
+//! `curves`, n-1 in `firsts` and in `worsts`, and n in `params`; for a ring 9n, n, n and n+1. A flat fit, of a ring too, also wants 2n in `open`.
 //!
-//! More marks than a call takes are refusal 2: the fits by blocks, the checkers, `wes_read_file` and `wes_write_file` take 100,000, `wes_fit_curve_cubic` and
-//! `wes_list_outline` 512, `wes_judge_file` and `wes_save_fit` 4,096, `wes_pack_file` and `wes_unpack_file` any number.
+//! More marks than a call takes are refusal 2: the fits by blocks, the checkers, `wes_read_file` and `wes_write_file` take 100,000, `wes_fit_curve_cubic`,
+//! `wes_fit_curve_cubic_flat` and `wes_list_outline` 512, `wes_judge_file` and `wes_save_fit` 4,096, `wes_pack_file` and `wes_unpack_file` any number.
 //!
 //! # Safety
 //!
@@ -27,6 +27,13 @@
 pub type FitCall = unsafe extern "C" fn(
     marks: *const f64, marks_len: usize, tolerance: f64, curves: *mut f64, curves_len: usize, firsts: *mut u32, firsts_len: usize,
     worsts: *mut u32, worsts_len: usize, params: *mut f64, params_len: usize, made: *mut usize,
+) -> u32;
+
+/// The type of the two flat fits that take nothing but marks and a tolerance.
+#[rustfmt::skip]
+pub type FlatFitCall = unsafe extern "C" fn(
+    marks: *const f64, marks_len: usize, tolerance: f64, curves: *mut f64, curves_len: usize, firsts: *mut u32, firsts_len: usize,
+    worsts: *mut u32, worsts_len: usize, params: *mut f64, params_len: usize, open: *mut u32, open_len: usize, made: *mut usize,
 ) -> u32;
 
 /// The type of the five calls from a house file's bytes to other bytes.
@@ -67,6 +74,28 @@ extern "C" {
     pub fn wes_fit_curve_cubic(
         marks: *const f64, marks_len: usize, start_x: f64, start_y: f64, end_x: f64, end_y: f64, tolerance: f64, curves: *mut f64, curves_len: usize,
         firsts: *mut u32, firsts_len: usize, worsts: *mut u32, worsts_len: usize, params: *mut f64, params_len: usize, made: *mut usize,
+    ) -> u32;
+
+    // ---- the same fits by the second engine, which never calls itself: the parts that wait lie in `open`, and the answers are the same. A refusal from 1
+    // to 5 leaves `open` as it was; 6 and a fit that is made leave every number of it zero
+
+    /// As wes_fit_curve_cubic, on a small stack.
+    pub fn wes_fit_curve_cubic_flat(
+        marks: *const f64, marks_len: usize, start_x: f64, start_y: f64, end_x: f64, end_y: f64, tolerance: f64, curves: *mut f64, curves_len: usize,
+        firsts: *mut u32, firsts_len: usize, worsts: *mut u32, worsts_len: usize, params: *mut f64, params_len: usize,
+        open: *mut u32, open_len: usize, made: *mut usize,
+    ) -> u32;
+
+    /// As wes_fit_joined, on a small stack.
+    pub fn wes_fit_joined_flat(
+        marks: *const f64, marks_len: usize, tolerance: f64, curves: *mut f64, curves_len: usize, firsts: *mut u32, firsts_len: usize,
+        worsts: *mut u32, worsts_len: usize, params: *mut f64, params_len: usize, open: *mut u32, open_len: usize, made: *mut usize,
+    ) -> u32;
+
+    /// As wes_fit_ring, on a small stack.
+    pub fn wes_fit_ring_flat(
+        marks: *const f64, marks_len: usize, tolerance: f64, curves: *mut f64, curves_len: usize, firsts: *mut u32, firsts_len: usize,
+        worsts: *mut u32, worsts_len: usize, params: *mut f64, params_len: usize, open: *mut u32, open_len: usize, made: *mut usize,
     ) -> u32;
 
     // ---- checkers

@@ -178,12 +178,13 @@ fn lines(whats: &[&str]) -> Vec<Line> {
 
 type FitCall = fn(&[Point], f64) -> Result<Fit, Refusal>;
 
-fn fit_call(what: &str) -> FitCall {
+/// The calls that make a thing, by one engine or by both.
+fn fit_calls(what: &str) -> &'static [FitCall] {
     match what {
-        "source" => fit_curve,
-        "loop" => fit_curve_loop,
-        "joined" | "nine" | "eight" => fit_joined,
-        "ring" | "closed" => fit_ring,
+        "source" => &[fit_curve],
+        "loop" => &[fit_curve_loop],
+        "joined" | "nine" | "eight" => &[fit_joined, fit_joined_flat],
+        "ring" | "closed" => &[fit_ring, fit_ring_flat],
         other => panic!("nothing is known of {other}"),
     }
 }
@@ -203,21 +204,28 @@ fn marks_are_drawn_as_the_rust_had_them() {
 
 fn expect_fits(whats: &[&str]) {
     for line in lines(whats) {
-        let (name, marks) = (line.name(), line.marks());
-        match fit_call(&line.what)(&marks, line.tolerance) {
-            Ok(fit) => {
-                assert_eq!((line.answer, fit.len()), (0, line.count), "{name}");
-                assert_eq!(digest_of_fit(&fit), line.digest, "{name}: other numbers than the Rust's");
-                let curves = eights(&fit);
-                let by_eights = check(fit.is_ring(), false, &marks, line.tolerance, &List { curves: &curves, ..fit.list() }).unwrap();
-                let verdict = fit.check(&marks, line.tolerance).unwrap();
-                assert_eq!(by_eights, verdict, "{name}");
-                // Blocks of the source's fits do not meet, and that is fault B.
-                let fault = if ["joined", "ring"].contains(&line.what.as_str()) { None } else { Some(FaultKind::B) };
-                assert_eq!(verdict.fault().map(|fault| fault.kind), fault, "{name}");
-            }
-            Err(refusal) => assert_eq!((refusal.number(), 0), (line.answer, line.count), "{name}"),
+        let marks = line.marks();
+        for (engine, fit) in (1..).zip(fit_calls(&line.what)) {
+            expect_fit(&format!("{} by engine {engine}", line.name()), &line, &marks, fit(&marks, line.tolerance));
         }
+    }
+}
+
+/// Holds a fit against its kept line.
+fn expect_fit(name: &str, line: &Line, marks: &[Point], answer: Result<Fit, Refusal>) {
+    match answer {
+        Ok(fit) => {
+            assert_eq!((line.answer, fit.len()), (0, line.count), "{name}");
+            assert_eq!(digest_of_fit(&fit), line.digest, "{name}: other numbers than the Rust's");
+            let curves = eights(&fit);
+            let by_eights = check(fit.is_ring(), false, marks, line.tolerance, &List { curves: &curves, ..fit.list() }).unwrap();
+            let verdict = fit.check(marks, line.tolerance).unwrap();
+            assert_eq!(by_eights, verdict, "{name}");
+            // Blocks of the source's fits do not meet, and that is fault B.
+            let fault = if ["joined", "ring"].contains(&line.what.as_str()) { None } else { Some(FaultKind::B) };
+            assert_eq!(verdict.fault().map(|fault| fault.kind), fault, "{name}");
+        }
+        Err(refusal) => assert_eq!((refusal.number(), 0), (line.answer, line.count), "{name}"),
     }
 }
 
@@ -246,7 +254,7 @@ fn the_example_is_fitted() {
 fn files_are_written_read_and_checked() {
     for line in lines(&["nine", "eight", "closed"]) {
         let (name, marks) = (line.name(), line.marks());
-        let fit = fit_call(&line.what)(&marks, line.tolerance).unwrap();
+        let fit = fit_calls(&line.what)[0](&marks, line.tolerance).unwrap();
         let mut house = House::with_fit(line.tolerance, &marks, &fit);
         if line.what == "eight" {
             (house.nine, house.worsts, house.curves) = (false, vec![], eights(&fit));
@@ -272,7 +280,7 @@ fn files_are_written_read_and_checked() {
 #[test]
 fn a_mark_more_is_refused() {
     let marks = drawn("traced", MOST_MARKS + 1);
-    for fit in [fit_curve, fit_curve_loop, fit_joined, fit_ring] {
+    for fit in [fit_curve, fit_curve_loop, fit_joined, fit_ring, fit_joined_flat, fit_ring_flat] {
         assert_eq!(fit(&marks, 0.5).err(), Some(Refusal::TooMany));
     }
     let ring = fit_ring(&marks[..MOST_MARKS], 0.5).unwrap();

@@ -1,7 +1,7 @@
 //! Random outlines: what is fitted passes the checkers, what is damaged does not, and nothing depends on what was in the room or on other threads.
 mod common;
 
-use common::{flat, Kind, Room};
+use common::{flat, list_bits, Kind, Room};
 use wesalondo::*;
 
 /// Marsaglia's xorshift.
@@ -124,8 +124,12 @@ fn try_outline(random: &mut Random, n: usize) -> (usize, usize) {
     let (mut accepted, mut refused) = (0, 0);
     for kind in kinds(random) {
         let least = if kind.is_ring() { 3 } else { 2 };
-        let most = if let Kind::Cubic(..) = kind { 512 } else { 100_000 };
-        match kind.fit(&marks, tolerance) {
+        let most = kind.most();
+        let answer = kind.fit(&marks, tolerance);
+        let by_second = kind.flat().expect("the second engine has it").fit(&marks, tolerance);
+        let bits = |answer: &Result<Fit, Refusal>| answer.as_ref().map(|fit| (fit.is_ring(), list_bits(&fit.list()))).map_err(|refusal| *refusal);
+        assert!(bits(&answer) == bits(&by_second), "{kind:?} of {n} marks by the two engines: {answer:?} and {by_second:?}");
+        match answer {
             Ok(fit) => {
                 accepted += 1;
                 assert!((least..=most).contains(&n), "{kind:?} takes {n} marks");
@@ -169,10 +173,10 @@ fn what_was_in_the_room_does_not_matter() {
         let (marks, tolerance) = outline(&mut random, n);
         for kind in kinds(&mut random).into_iter().chain([Kind::Curve, Kind::Loop]) {
             let safe = kind.fit(&marks, tolerance);
-            for (number, mark) in [(f64::NAN, u32::MAX), (-1.5, 3)] {
-                let mut room = Room::filled(kind, n, 5, number, mark);
+            for (engine, number, mark) in kind.engines().flat_map(|engine| [(engine, f64::NAN, u32::MAX), (engine, -1.5, 3)]) {
+                let mut room = Room::filled(engine, n, 5, number, mark);
                 let before = room.bits();
-                let answer = kind.fit_in(&flat(&marks), tolerance, &mut room);
+                let answer = engine.fit_in(&flat(&marks), tolerance, &mut room);
                 match &safe {
                     Ok(fit) => same_fit(fit, answer, &room, number, mark),
                     Err(Refusal::NotFinite) => {
@@ -198,6 +202,7 @@ fn same_fit(fit: &Fit, answer: u32, room: &Room, number: f64, mark: u32) {
     assert_eq!((list.firsts, list.worsts), (&room.firsts[..fit.len()], &room.worsts[..fit.len()]));
     assert!(room.curves[list.curves.len()..].iter().chain(&room.params[list.params.len()..]).all(|x| x.to_bits() == number.to_bits()));
     assert!(room.firsts[fit.len()..].iter().chain(&room.worsts[fit.len()..]).all(|&place| place == mark));
+    assert!(room.is_closed(), "a part is left open");
 }
 
 #[test]

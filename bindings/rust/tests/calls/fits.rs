@@ -1,9 +1,10 @@
-//! The five fits.
+//! The fits, by both engines.
 use crate::common::{flat, Kind, Room};
-use crate::{wave, OUT};
+use crate::{wave, ALONG, BACK, OUT};
 use wesalondo::*;
 
-const KINDS: [Kind; 5] = [Kind::Joined, Kind::Ring, Kind::Curve, Kind::Loop, Kind::Cubic(Point::new(1.0, 0.0), Point::new(-1.0, 0.0))];
+const KINDS: [Kind; 8] =
+    [Kind::Joined, Kind::Ring, Kind::Curve, Kind::Loop, Kind::Cubic(ALONG, BACK), Kind::JoinedFlat, Kind::RingFlat, Kind::CubicFlat(ALONG, BACK)];
 
 /// The refusal of a raw fit, in room for `n` marks that `cut` may have made shorter; what it leaves behind is looked at.
 fn refused(kind: Kind, numbers: &[f64], tolerance: f64, cut: impl Fn(&mut Room)) -> u32 {
@@ -35,6 +36,7 @@ fn accepted_in_just_the_room_that_is_asked_for() {
         assert_eq!(room.made, fit.len());
         assert_eq!(room.curves[..9 * room.made], *fit.list().curves);
         assert_eq!(room.params, fit.params());
+        assert!(room.is_closed(), "{kind:?} leaves no part open");
         assert_eq!(fit.params().len(), 40 + usize::from(kind.is_ring()));
         assert_eq!((fit.is_ring(), fit.is_empty()), (kind.is_ring(), false));
         assert_eq!(fit.check(&marks, 0.5), Ok(Verdict::Sound), "{kind:?}");
@@ -67,14 +69,12 @@ fn too_few_and_too_many_marks() {
     for kind in KINDS {
         both_refuse(kind, &[], 0.5, Refusal::TooFew);
         both_refuse(kind, &wave(1), 0.5, Refusal::TooFew);
-        both_refuse(kind, &wave(100_001), 0.5, Refusal::TooMany);
         assert_eq!(kind.fit(&wave(1_000_000), 0.5).err(), Some(Refusal::TooMany));
-    }
-    both_refuse(Kind::Ring, &wave(2), 0.5, Refusal::TooFew);
-    both_refuse(KINDS[4], &wave(513), 0.5, Refusal::TooMany);
-    assert!(KINDS[4].fit(&wave(512), 0.5).is_ok());
-    for kind in &KINDS[..4] {
-        assert!(kind.fit(&wave(100_000), 0.5).is_ok(), "{kind:?}");
+        if kind.is_ring() {
+            both_refuse(kind, &wave(2), 0.5, Refusal::TooFew);
+        }
+        both_refuse(kind, &wave(kind.most() + 1), 0.5, Refusal::TooMany);
+        assert!(kind.fit(&wave(kind.most()), 0.5).is_ok(), "{kind:?}");
     }
 }
 
@@ -98,6 +98,15 @@ fn one_place_too_few() {
         assert_eq!(refused(kind, &numbers, 0.5, |room| room.params.truncate(room.params.len() - 1)), 4);
         assert_eq!(refused(kind, &numbers, f64::NAN, |room| room.params.clear()), 4, "4 comes before 5");
     }
+    for kind in KINDS.into_iter().filter(|kind| kind.is_flat()) {
+        let one_less = |room: &mut Room| room.open.truncate(79);
+        assert_eq!(refused(kind, &numbers, 0.5, one_less), 4, "{kind:?}: 40 marks want 80 numbers");
+        assert_eq!(refused(kind, &numbers, f64::NAN, one_less), 4, "4 comes before 5");
+        assert_eq!(refused(kind, &flat(&[Point::default(); 40]), 0.5, one_less), 4, "4 comes before 6");
+        assert_eq!(refused(kind, &numbers[..79], 0.5, |room| room.open.clear()), 3, "4 comes after 3");
+        assert_eq!(refused(kind, &numbers[..2], 0.5, |room| room.open.clear()), 1, "4 comes after 1");
+        assert_eq!(refused(kind, &flat(&wave(kind.most() + 1)), 0.5, |room| room.open.clear()), 2, "4 comes after 2");
+    }
 }
 
 #[test]
@@ -115,12 +124,8 @@ fn numbers_out_of_range() {
         }
     }
     for bad in [f64::NAN, f64::INFINITY, 2.000_1, -2.000_1] {
-        for kind in [
-            Kind::Cubic(Point::new(bad, 0.0), Point::new(-1.0, 0.0)),
-            Kind::Cubic(Point::new(0.0, bad), Point::new(-1.0, 0.0)),
-            Kind::Cubic(Point::new(1.0, 0.0), Point::new(bad, 0.0)),
-            Kind::Cubic(Point::new(1.0, 0.0), Point::new(0.0, bad)),
-        ] {
+        let ways = [(Point::new(bad, 0.0), BACK), (Point::new(0.0, bad), BACK), (ALONG, Point::new(bad, 0.0)), (ALONG, Point::new(0.0, bad))];
+        for kind in ways.into_iter().flat_map(|(start, end)| Kind::Cubic(start, end).engines()) {
             both_refuse(kind, &wave(40), 0.5, Refusal::OutOfRange);
         }
     }
@@ -131,7 +136,7 @@ fn numbers_out_of_range() {
 fn deep_cuts() {
     let marks: Vec<Point> = (0..4096).map(|i| Point::new(f64::from(i), f64::from(i * 7919 % 101) * f64::from(i % 512 + 1))).collect();
     for kind in KINDS {
-        let marks = &marks[..if let Kind::Cubic(..) = kind { 512 } else { 4096 }];
+        let marks = &marks[..kind.most().min(4096)];
         assert!(kind.fit(marks, 0.0).unwrap().len() > marks.len() / 2, "{kind:?}");
     }
 }

@@ -4,6 +4,7 @@ mod checks;
 mod common;
 mod files;
 mod fits;
+mod flat;
 mod kinds;
 mod packing;
 mod paths;
@@ -17,6 +18,10 @@ use wesalondo::Point;
 fn wave(n: usize) -> Vec<Point> {
     (0..n).map(|i| i as f64 * 0.07).map(|a| Point::new(120.0 * a, 90.0 * (a * 1.3).sin())).collect()
 }
+
+/// Tangents for an outline that goes to the right.
+const ALONG: Point = Point::new(1.0, 0.0);
+const BACK: Point = Point::new(-1.0, 0.0);
 
 /// Numbers that no call takes for a coordinate.
 const OUT: [f64; 5] = [f64::NAN, f64::INFINITY, f64::NEG_INFINITY, 1_000_000.000_1, -1e300];

@@ -76,14 +76,14 @@ pub fn answer_of(kind: &str, words: &mut Words) -> String {
             let (curve, point) = (words.curve(), words.point());
             numbers_or_refusal(nearest_point_on_curve(&curve, point).map(|found| vec![found.t, found.distance_sq]))
         }
-        "direct" => {
-            let (tolerance, start, end) = (words.float(), words.point(), words.point());
-            fitted(words, Kind::Cubic(start, end), tolerance)
-        }
+        "direct" => fitted_along(words, Kind::Cubic),
+        "direct_flat" => fitted_along(words, Kind::CubicFlat),
         "source" => fitted_within(words, Kind::Curve),
         "loop" => fitted_within(words, Kind::Loop),
         "joined" => fitted_within(words, Kind::Joined),
+        "joined_flat" => fitted_within(words, Kind::JoinedFlat),
         "ring" => fitted_within(words, Kind::Ring),
+        "ring_flat" => fitted_within(words, Kind::RingFlat),
         "check" => checked(words, false, false, check_list),
         "check_ring" => checked(words, true, false, check_ring),
         "check_worst" => checked(words, false, true, check_worst),
@@ -159,13 +159,26 @@ fn fitted_within(words: &mut Words, kind: Kind) -> String {
     fitted(words, kind, tolerance)
 }
 
-/// A fit's answer; an odd number of coordinates is no slice of points, and goes through `sys`.
+/// A fit with given tangents.
+fn fitted_along(words: &mut Words, kind: fn(Point, Point) -> Kind) -> String {
+    let (tolerance, start, end) = (words.float(), words.point(), words.point());
+    fitted(words, kind(start, end), tolerance)
+}
+
+/// A fit's answer, by both engines where both have the fit; should they differ, it is none that is kept.
 fn fitted(words: &mut Words, kind: Kind, tolerance: f64) -> String {
     let numbers = words.rest();
+    let mut answers: Vec<String> = kind.engines().map(|kind| fitted_by(kind, &numbers, tolerance)).collect();
+    answers.dedup();
+    answers.join(" and by the second engine ")
+}
+
+/// The answer of one engine; an odd number of coordinates is no slice of points, and goes through `sys`.
+fn fitted_by(kind: Kind, numbers: &[f64], tolerance: f64) -> String {
     if numbers.len() % 2 == 1 {
         let mut room = Room::filled(kind, numbers.len(), 0, 2.5, 3);
         let before = room.bits();
-        let answer = kind.fit_in(&numbers, tolerance, &mut room);
+        let answer = kind.fit_in(numbers, tolerance, &mut room);
         assert_eq!((room.made, room.bits()), (0, before), "an odd slice is refused, and no room is touched");
         return answer.to_string();
     }
