@@ -31,7 +31,7 @@
 //!
 //! - The default float environment: rounding to nearest, subnormals kept. Rust itself asks for it too; a C library that was linked with `-ffast-math`
 //!   breaks it for the whole program, and then what is proved no longer holds.
-//! - A stack with room for the call: a fit wants up to 0.4 MB, however many marks there are, a flat fit 6 KB, [`judge_file`] and [`save_fit`] up to 1.5 MB;
+//! - A stack with room for the call: a fit wants up to 0.3 MB, however many marks there are, a flat fit 6 KB, [`judge_file`] and [`save_fit`] up to 1.3 MB;
 //!   bindings/c/wesalondo.h has the figures. The main thread's 8 MB and the 2 MB of Rust's other threads will do; a thread that was given less may not, and for it there are the flat fits.
 #![deny(missing_docs)]
 #![warn(unsafe_op_in_unsafe_fn)]

@@ -21,7 +21,7 @@ use tangents::Cutting;
 use tangents::Turn;
 
 // Room for the marks of the largest block, 200 and the one that it shares. A function hides from its callers' proofs how the array is made.
-fn block_room() -> [f64; 402]
+pub fn block_room() -> [f64; 402]
     ensures { λ r. ⌜ 402 ≡ length r ⌝ }
 {
     [0.0; 402]

@@ -182,13 +182,6 @@ fn work_off(
     }
 }
 
-// Room for the marks of the largest block, 200 and the one that it shares. A function hides from its callers' proofs how the array is made.
-fn block_room() -> [f64; 402]
-    ensures { λ r. ⌜ 402 ≡ length r ⌝ }
-{
-    [0.0; 402]
-}
-
 // How many of n marks lie before the last block, if that is as long as a block can be.
 fn tail_of(n: usize, size: usize) -> usize
     requires { ⌜ size ≤ 200 ⌝ }
@@ -218,7 +211,7 @@ fn fit_round(
 {
     let n = params.len();
     let tail = tail_of(n, size);
-    let mut round = block_room();
+    let mut round = blocks::block_room();
     ring::lay_round(marks, tail, &mut round);
     let many = 2 * (n - tail);
     work_off(
