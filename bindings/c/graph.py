@@ -7,7 +7,7 @@ take of the stack at most follows from the code then, whatever the input, and mu
 be found.
 
 It needs Python alone. The code is taken apart here, by the instructions of x86-64 that the kit's compiler writes: one that is not known here, or that does not
-fit the others, is told as a failure. Exit status: 0 all passed; 1 something failed; 2 there is no such archive or header.
+fit the others, is told as a failure. Exit status: 0 all passed; 1 something failed; 2 there is no such archive or header, or it is none.
 """
 import re
 import struct
@@ -369,13 +369,18 @@ def main(given):
         print('usage: bindings/c/graph.py ARCHIVE HEADER')
         return 2
     try:
-        with open(given[0], 'rb') as archive, open(given[1], encoding='utf-8') as header:
-            test(Graph(archive.read()), header.read())
+        with open(given[0], 'rb') as archive, open(given[1], encoding='utf-8', errors='replace') as header:
+            code, text = archive.read(), header.read()
     except OSError as error:
-        print(error)
+        print(f'{error.filename}: {error.strerror}')
         return 2
+    try:
+        test(Graph(code), text)
     except Unknown as fault:
         check(False, f'this code is not known here: {fault}')
+    except (ValueError, IndexError, struct.error):  # it is cut off, or no archive at all
+        print(f'{given[0]}: no archive, or a damaged one')
+        return 2
     print(f'{passed} passed, {failed} failed')
     return 1 if failed else 0
 

@@ -1,6 +1,6 @@
 //! The flat fits: those of the second engine, which never calls itself. The parts that wait lie in a slice, and not on the stack.
 use crate::check::List;
-use crate::fit::fit_with;
+use crate::fit::{fit_with, MOST_MARKS};
 use crate::fitted::{Fit, RECORD};
 use crate::lent::{Lent, Wanted};
 use crate::point::{numbers, Point};
@@ -25,7 +25,7 @@ fn in_lent<'a>(
 fn in_own(ring: bool, marks: &[Point], call: impl FnOnce(&[f64], &mut Lent<'_>, &mut usize) -> u32) -> Result<Fit, Refusal> {
     fit_with(ring, marks, |m, fit, made| {
         let Fit { curves, firsts, worsts, params, .. } = fit;
-        let mut open = vec![0; Wanted::of(ring, marks.len()).open];
+        let mut open = vec![0; Wanted::of(ring, marks.len().min(MOST_MARKS)).open];
         call(m, &mut Lent { curves, firsts, worsts, params, open: &mut open }, made)
     })
 }

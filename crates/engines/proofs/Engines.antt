@@ -9,7 +9,7 @@ use lib.ListN.{length, replicate}
 use lib.Dec.{eqb, ltb}
 use lib.Ieee.{Float}
 use borrow.Author.Tests.{le-ltb, eqb-true, eqb-false}
-use Rattle.float.specs.Answer.{Answer, ok}
+use Rattle.float.specs.Answer.{ok}
 use Rattle.float.specs.Answer.{refused as no}
 use Rattle.limits.specs.Limits.{mostMarks}
 use Rattle.marks.specs.Marks.{count}
@@ -17,7 +17,6 @@ use Rattle.marks.specs.Block.{blockSize}
 use Rattle.form.specs.declared.Form.the-variants.{Nine}
 use Rattle.ring.specs.Ring.{again}
 use Rattle.cut.specs.Run.{Run}
-use Rattle.cut.specs.declared.Fitted.{Fitted}
 use Rattle.cut.specs.declared.Fitted.the-variants.{Curves, Refused}
 use Rattle.tangents.specs.Ways.{outlineOf}
 use Rattle.parts.specs.declared.Heading.{Heading}
@@ -30,7 +29,7 @@ use Rattle.flat_fit.specs.Flat.{FlatEnding, flatEnding, gateIn, openGate, noneO
 use Rattle.flat_fit.proofs.Flat.{opened, none-open}
 use Rattle.accepted.proofs.Theorem.{joined-passes, ring-passes, direct-passes}
 use Rattle.accepted.proofs.Refusals.{gate-most, cubic-most}
-use Rattle.engines.specs.Engines.{firstOf, Agree, FlatPasses, JoinedFlatPasses, RingFlatPasses, DirectFlatPasses, Untouched, Leaves}
+use Rattle.engines.specs.Engines.{firstOf, Agree, JoinedFlatPasses, RingFlatPasses, DirectFlatPasses, Untouched, Leaves}
 
 -- ---- they agree
 

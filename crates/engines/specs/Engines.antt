@@ -14,7 +14,7 @@ use Rattle.tangents.specs.declared.Ways.{Ways}
 use Rattle.parts.specs.declared.Heading.{Heading}
 use Rattle.parts.specs.declared.Heading.the-variants.{Given, By}
 use Rattle.parts.specs.Headings.{outlineIn}
-use Rattle.fit.specs.Fit.{Ending, fittedAnswer, ending, fitOf, cubicOf}
+use Rattle.fit.specs.Fit.{Ending, fittedAnswer, fitOf, cubicOf}
 use Rattle.checker.specs.Check.{checkOf, checkedAnswer}
 use Rattle.checker.specs.declared.Checked.{Checked}
 use Rattle.checker.specs.declared.Checked.the-variants.{Passed}

@@ -1,5 +1,5 @@
 -- The ends of a fit of the second engine, by the laws of the first's. Assumes nothing.
-use Prim.Native.Nat.{ℕ, _+_, _-_, _*_, _≤_, _<_}
+use Prim.Native.Nat.{ℕ, _-_, _*_, _≤_, _<_}
 use native.Mathlib.Omega.{arith}
 use mathlib.Core.Path.{_≡_, refl, sym, ap, _∙_, subst}
 use mathlib.Core.Bool.{Bool, true, false, _&&_, _||_, cond}
@@ -26,9 +26,9 @@ use Rattle.parts.specs.declared.Heading.{Heading}
 use Rattle.parts.specs.declared.Heading.the-variants.{Given, By}
 use Rattle.parts.specs.Headings.{outlineIn}
 use Rattle.waiting.specs.Waiting.{runIn}
-use Rattle.waiting.specs.Lent.{Meeting}
+use Rattle.waiting.specs.Lent.{Joins, Meeting}
 use Rattle.flat_fit.specs.Flat.{gateIn, openGate, noneOpen, flatEntered}
-use Rattle.flat_fit.specs.Sizes.{Joins, SizeIn}
+use Rattle.flat_fit.specs.Sizes.{SizeIn}
 
 -- ---- the tests
 

@@ -2,13 +2,13 @@
 // parts that are still open, and no call that leads back to itself. They give what the first engine's give.
 ghost use mathlib.Core.Path.{_≡_};
 ghost use Prim.Native.Nat.{_≤_};
-ghost use lib.ListN.{length};
 ghost use Rattle.marks.specs.Marks.{count};
 ghost use Rattle.fit.specs.Fit.{fittedAnswer};
 ghost use Rattle.tangents.specs.declared.Cutting.the-variants as variants;
 ghost use Rattle.parts.specs.declared.Heading.the-variants as heading;
 ghost use Rattle.flat_fit.specs.Flat.{flatEnding, flatOf, gateIn, openGate};
-ghost use Rattle.flat_fit.specs.Sizes.{Joins, SizeIn};
+ghost use Rattle.waiting.specs.Lent.{Joins};
+ghost use Rattle.flat_fit.specs.Sizes.{SizeIn};
 use cut::Fitted;
 use float::refusal::NO_ROOM;
 use float::refusal::OUT_OF_RANGE;

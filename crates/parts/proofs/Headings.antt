@@ -1,18 +1,17 @@
 -- The tangents at a mark by what the code asks: whose they are, and whether a block ends there. Assumes nothing.
-use Prim.Native.Nat.{ℕ, zero, suc, _+_, _*_, _%_, _≤_, _<_}
+use Prim.Native.Nat.{ℕ, zero, suc, _+_, _*_, _%_, _<_}
 use native.Mathlib.Omega.{arith}
 use native.Mathlib.Nat.{mod-eq-of-lt}
 use mathlib.Core.Path.{_≡_, refl, sym, ap, _∙_}
-use mathlib.Core.Bool.{Bool, true, false, _||_, cond}
+use mathlib.Core.Bool.{Bool, true, false, _||_}
 use mathlib.Core.List.{List}
 use lib.ListN.{length}
 use lib.Dec.{eqb}
 use lib.Ieee.{Float}
-use borrow.Author.Tests.{eq-eqb, eqb-true}
+use borrow.Author.Tests.{eq-eqb}
 use Rattle.float.specs.Answer.{Answer, ok, refused, outcome}
 use Rattle.plane.specs.declared.Point.{Point}
-use Rattle.marks.specs.Marks.{count}
-use Rattle.ring.specs.Ring.{again, whole, Even}
+use Rattle.ring.specs.Ring.{whole}
 use Rattle.ring.specs.declared.Outline.the-variants.{Closed}
 use Rattle.ring.proofs.Whole.{again-small, halves}
 use Rattle.joints.specs.Joints.{Inner}
@@ -24,7 +23,7 @@ use Rattle.tangents.specs.Ways.{waysAt, marksOf, startOf, endOf, turnAnswer}
 use Rattle.tangents.proofs.Blocks.{ways-as-closed}
 use Rattle.parts.specs.declared.Heading.{Heading}
 use Rattle.parts.specs.declared.Heading.the-variants.{Given, By}
-use Rattle.parts.specs.Headings.{outlineIn, marksIn, outer, ownStart, ownEnd, one, startIn, endIn}
+use Rattle.parts.specs.Headings.{outlineIn, marksIn, outer, ownStart, ownEnd, one, tangentIn}
 
 -- ---- whose tangents
 
@@ -64,22 +63,14 @@ module _ (n size j : ℕ) where
           never false q = let u : _≡_ {A = ℕ} 0 1 = cc in omega arith
       before a false e q = let d : (j + 1 ≡ n → ⊥) = λ i. let u : true ≡ false = sym (eq-eqb (j + 1) n i) ∙ e in let v : _≡_ {A = ℕ} 0 1 = cc in omega arith in omega (arith, d)
 
-module _ (h : Heading) (ms : List Float) (n size j : ℕ) where
-  pub start-outer : outer n size j ≡ true → (r : Answer Point) → r ≡ ownStart h ms n j → r ≡ startIn h ms n size j
-  unfolding startIn
-  start-outer o r q = rw o q
+module _ (side : Ways → Point) (own : Answer Point) (ms : List Float) (n size j : ℕ) where
+  pub at-outer : outer n size j ≡ true → (r : Answer Point) → r ≡ own → r ≡ tangentIn side own ms n size j
+  unfolding tangentIn
+  at-outer o r q = rw o q
 
-  pub end-outer : outer n size j ≡ true → (r : Answer Point) → r ≡ ownEnd h ms n j → r ≡ endIn h ms n size j
-  unfolding endIn
-  end-outer o r q = rw o q
-
-  pub start-cut : outer n size j ≡ false → startIn h ms n size j ≡ one (λ w. w .start) (outcome (waysAt ms j))
-  unfolding startIn
-  start-cut o = rw o
-
-  pub end-cut : outer n size j ≡ false → endIn h ms n size j ≡ one (λ w. w .end) (outcome (waysAt ms j))
-  unfolding endIn
-  end-cut o = rw o
+  pub at-cut : outer n size j ≡ false → tangentIn side own ms n size j ≡ one side (outcome (waysAt ms j))
+  unfolding tangentIn
+  at-cut o = rw o
 
 -- ---- the tangents at a cut
 
@@ -90,26 +81,15 @@ module _ (h : Heading) (ms : List Float) (n size j : ℕ) (z : 0 < size) (l : le
   pub cut-closed : Inner Closed ms j
   cut-closed = let i = cut-inner in let s = again-small (outlineIn h) in (i .0, (i .1 .0, omega (arith, i)))
 
-  -- the tangents, read as of a closed outline
-  read : outcome (waysAt (whole Closed ms) j) ≡ outcome (waysAt (marksIn h ms) j)
-  read = ap outcome (ways-as-closed (outlineIn h) ms j cut-inner)
+  -- either of them, read as of a closed outline
+  module _ (side : Ways → Point) (own : Answer Point) (r : Turn) (q : turnAnswer r ≡ outcome (waysAt (whole Closed ms) j)) where
+    answered : one side (turnAnswer r) ≡ tangentIn side own (marksIn h ms) n size j
+    answered = ap (one side) (q ∙ ap outcome (ways-as-closed (outlineIn h) ms j cut-inner)) ∙ sym (at-cut side own (marksIn h ms) n size j o)
 
-  module _ (r : Turn) (q : turnAnswer r ≡ outcome (waysAt (whole Closed ms) j)) where
-    answered : turnAnswer r ≡ outcome (waysAt (marksIn h ms) j)
-    answered = q ∙ read
-
-    pub start-lost : r ≡ turn.Lost → refused 6 ≡ startIn h (marksIn h ms) n size j
+    pub cut-lost : r ≡ turn.Lost → refused 6 ≡ tangentIn side own (marksIn h ms) n size j
     unfolding turnAnswer
-    start-lost e = sym (start-cut h (marksIn h ms) n size j o ∙ ap (one (λ w. w .start)) (sym answered ∙ ap turnAnswer e))
+    cut-lost e = sym (ap (λ (t : Turn). one side (turnAnswer t)) e) ∙ answered
 
-    pub end-lost : r ≡ turn.Lost → refused 6 ≡ endIn h (marksIn h ms) n size j
+    pub cut-found : (w : Ways) → r ≡ turn.At w → ok (side w) ≡ tangentIn side own (marksIn h ms) n size j
     unfolding turnAnswer
-    end-lost e = sym (end-cut h (marksIn h ms) n size j o ∙ ap (one (λ w. w .end)) (sym answered ∙ ap turnAnswer e))
-
-    pub start-found : (w : Ways) → r ≡ turn.At w → ok (w .start) ≡ startIn h (marksIn h ms) n size j
-    unfolding turnAnswer
-    start-found w e = sym (start-cut h (marksIn h ms) n size j o ∙ ap (one (λ w. w .start)) (sym answered ∙ ap turnAnswer e))
-
-    pub end-found : (w : Ways) → r ≡ turn.At w → ok (w .end) ≡ endIn h (marksIn h ms) n size j
-    unfolding turnAnswer
-    end-found w e = sym (end-cut h (marksIn h ms) n size j o ∙ ap (one (λ w. w .end)) (sym answered ∙ ap turnAnswer e))
+    cut-found w e = sym (ap (λ (t : Turn). one side (turnAnswer t)) e) ∙ answered

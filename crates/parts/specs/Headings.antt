@@ -40,11 +40,14 @@ abbrev pub one : (Ways → Point) → Answer Ways → Answer Point
 one f (ok w) = ok (f w)
 one f (refused q) = refused q
 
--- with which tangent a part starts at mark j, and with which it ends there
-unfoldable pub startIn : Heading → List Float → ℕ → ℕ → ℕ → Answer Point
+-- the tangent of a part at mark j: the run's own where a block ends, and else one of the cut's two
+unfoldable pub tangentIn : (Ways → Point) → Answer Point → List Float → ℕ → ℕ → ℕ → Answer Point
 unfolding outer
-startIn h ms n size j = cond (outer n size j) (ownStart h ms n j) (one (λ w. w .start) (outcome (waysAt ms j)))
+tangentIn side own ms n size j = cond (outer n size j) own (one side (outcome (waysAt ms j)))
 
-unfoldable pub endIn : Heading → List Float → ℕ → ℕ → ℕ → Answer Point
-unfolding outer
-endIn h ms n size j = cond (outer n size j) (ownEnd h ms n j) (one (λ w. w .end) (outcome (waysAt ms j)))
+-- with which tangent a part starts there, and with which it ends there
+abbrev pub startIn : Heading → List Float → ℕ → ℕ → ℕ → Answer Point
+startIn h ms n size j = tangentIn (λ w. w .start) (ownStart h ms n j) ms n size j
+
+abbrev pub endIn : Heading → List Float → ℕ → ℕ → ℕ → Answer Point
+endIn h ms n size j = tangentIn (λ w. w .end) (ownEnd h ms n j) ms n size j

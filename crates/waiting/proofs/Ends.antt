@@ -1,13 +1,13 @@
 -- The parts that wait first are the blocks: worked off, they are the run that is asked for. Assumes nothing.
-use Prim.Native.Nat.{ℕ, zero, suc, _+_, _-_, _*_, _%_, _≤_, _<_}
+use Prim.Native.Nat.{ℕ, _+_, _-_, _*_, _%_, _≤_, _<_}
 use native.Mathlib.Omega.{arith}
 use mathlib.Core.Path.{_≡_, refl, sym, ap, _∙_}
 use mathlib.Core.Bool.{Bool, true, false, _&&_, _||_}
 use mathlib.Core.List.{List, [], _∷_}
-use lib.ListN.{length, take, drop}
+use lib.ListN.{length}
 use lib.Seq.{take-all}
 use lib.Arith.{digits-mod}
-use lib.Dec.{eqb, ltb}
+use lib.Dec.{eqb}
 use lib.Ieee.{Float}
 use borrow.Author.Tests.{eq-eqb, ne-eqb, le-ltb}
 use Rattle.float.specs.Calc.{Calc, give, _>>=_}
@@ -17,13 +17,13 @@ use Rattle.marks.specs.Marks.{count}
 use Rattle.tangents.specs.declared.Ways.{Ways}
 use Rattle.tangents.specs.declared.Cutting.{Cutting}
 use Rattle.tangents.specs.Ways.{over, startOf, endOf, waysOf}
-use Rattle.cut.specs.Run.{Run, join, turned, runOf}
-use Rattle.blocks.specs.Blocks.{blockAt, blockOf, lastOf, blocksFrom, blocksOf}
+use Rattle.cut.specs.Run.{Run, refused, join, turned, runOf}
+use Rattle.blocks.specs.Blocks.{blockOf, blocksFrom, blocksOf}
 use Rattle.blocks.proofs.Blocks.{blocks-last, blocks-more}
 use Rattle.parts.specs.declared.Heading.{Heading}
 use Rattle.parts.specs.declared.Heading.the-variants.{Given, By}
 use Rattle.parts.specs.Headings.{outer, ownStart, ownEnd, startIn, endIn}
-use Rattle.parts.proofs.Headings.{start-outer, end-outer, start-cut, end-cut}
+use Rattle.parts.proofs.Headings.{at-outer, at-cut}
 use Rattle.waiting.specs.Waiting.{partAt, headed, runAt, openOf, runIn}
 use Rattle.waiting.specs.Lent.{Meeting, Blocks, final, more}
 use Rattle.waiting.proofs.Open.{Free}
@@ -112,7 +112,7 @@ module _ (h : Heading) (ms : List Float) (n size last : ℕ) (some : 0 < size) (
   tile q a b e l w t = record {
     some = l;
     wide = w;
-    free = λ j x y. let o = outer-none n size q j (omega arith) (omega arith) (omega arith) in (start-cut h ms n size j o, end-cut h ms n size j o);
+    free = λ j x y. let o = outer-none n size q j (omega arith) (omega arith) (omega arith) in (at-cut (λ w. w .start) (ownStart h ms n j) ms n size j o, at-cut (λ w. w .end) (ownEnd h ms n j) ms n size j o);
   }
 
   pub tiled : {q c : ℕ} {cs : List ℕ} → Blocks size last q c cs → Tiled h ms n size (q * size) c cs
@@ -126,11 +126,11 @@ module _ (h : Heading) (ms : List Float) (n size last : ℕ) (some : 0 < size) (
 
 -- on with two tangents, or with each in turn
 ways-headed : (m p : Calc Point) (F : Point → Point → Run)
-    → turned (outcome (_>>=_ m (λ s. _>>=_ p (λ e. give (record { end = e; start = s }))))) (λ w. F (w .start) (w .end)) ≡ headed (outcome m) (outcome p) F
+    → turned (outcome (_>>=_ m (λ s. _>>=_ p (λ e. give (record { end = e; start = s }))))) (λ w. F (w .start) (w .end)) ≡ headed refused (outcome m) (outcome p) F
 unfolding outcome
 ways-headed m p F = go (m .fine) (p .fine)
   where
-    go : (x y : Bool) → turned (unless 6 (x && (y && true)) (ok (record { end = p .val; start = m .val }))) (λ w. F (w .start) (w .end)) ≡ headed (unless 6 x (ok (m .val))) (unless 6 y (ok (p .val))) F
+    go : (x y : Bool) → turned (unless 6 (x && (y && true)) (ok (record { end = p .val; start = m .val }))) (λ w. F (w .start) (w .end)) ≡ headed refused (unless 6 x (ok (m .val))) (unless 6 y (ok (p .val))) F
     go true true = refl
     go true false = refl
     go false y = refl
@@ -140,8 +140,8 @@ module _ (k : Cutting) (ms : List Float) (tol : Float) (n size last : ℕ) (meet
   unfolding waysOf
   block-run a b x y =
       ways-headed (startOf k ms n a) (endOf k ms n (b + 1)) (λ s e. runOf (partAt ms a b) a s e tol)
-      ∙ ap (λ (S : Answer Point). headed S (outcome (endOf k ms n (b + 1))) (λ s e. runOf (partAt ms a b) a s e tol)) (start-outer (By k) ms n size a x _ refl)
-      ∙ ap (λ (E : Answer Point). headed (startIn (By k) ms n size a) E (λ s e. runOf (partAt ms a b) a s e tol)) (end-outer (By k) ms n size b y _ refl)
+      ∙ ap (λ (S : Answer Point). headed refused S (outcome (endOf k ms n (b + 1))) (λ s e. runOf (partAt ms a b) a s e tol)) (at-outer (λ w. w .start) (ownStart (By k) ms n a) ms n size a x _ refl)
+      ∙ ap (λ (E : Answer Point). headed refused (startIn (By k) ms n size a) E (λ s e. runOf (partAt ms a b) a s e tol)) (at-outer (λ w. w .end) (ownEnd (By k) ms n b) ms n size b y _ refl)
 
   blocks-open : {q c : ℕ} {cs : List ℕ} → Blocks size last q c cs → blocksFrom k ms n size tol (q * size) ≡ openOf (startIn (By k) ms n size) (endIn (By k) ms n size) ms tol (q * size) c cs
   unfolding openOf
@@ -166,9 +166,9 @@ module _ (w : Ways) (ms : List Float) (tol : Float) (n size last : ℕ) (meets :
   unfolding openOf
   given-open z (final q a b) =
       let all : partAt ms 0 last ≡ ms = take-all (2 * (last + 1) - 2 * 0) ms (omega arith) in
-      ap (λ (l : List Float). headed (ok (w .start)) (ok (w .end)) (λ s e. runOf l 0 s e tol)) (sym all)
-      ∙ ap (λ (S : Answer Point). headed S (ok (w .end)) (λ s e. runOf (partAt ms 0 last) 0 s e tol)) (start-outer (Given w) ms n size 0 (outer-multiple n size 0 0 some (omega arith)) _ refl)
-      ∙ ap (λ (E : Answer Point). headed (startIn (Given w) ms n size 0) E (λ s e. runOf (partAt ms 0 last) 0 s e tol)) (end-outer (Given w) ms n size last (outer-last n size last top) _ refl)
+      ap (λ (l : List Float). headed refused (ok (w .start)) (ok (w .end)) (λ s e. runOf l 0 s e tol)) (sym all)
+      ∙ ap (λ (S : Answer Point). headed refused S (ok (w .end)) (λ s e. runOf (partAt ms 0 last) 0 s e tol)) (at-outer (λ w. w .start) (ownStart (Given w) ms n 0) ms n size 0 (outer-multiple n size 0 0 some (omega arith)) _ refl)
+      ∙ ap (λ (E : Answer Point). headed refused (startIn (Given w) ms n size 0) E (λ s e. runOf (partAt ms 0 last) 0 s e tol)) (at-outer (λ w. w .end) (ownEnd (Given w) ms n last) ms n size last (outer-last n size last top) _ refl)
   given-open z (more q c cs r) = let i = ahead some r in let j = reaches some r in let u : q * size ≡ 0 = rw z (omega arith) in absurd (omega arith)
 
 from-count : (k : Cutting) (ms : List Float) (size : ℕ) (tol : Float) (n : ℕ) → count ms ≡ n → blocksOf k ms size tol ≡ blocksFrom k ms n size tol 0

@@ -1,11 +1,11 @@
 -- The loop over the open parts: at its head `made` curves stand at the front, up to mark `from`, and the whole is those, the part from there to mark `to`, and what waits. Assumes nothing.
-use Prim.Native.Nat.{ℕ, zero, suc, _+_, _-_, _*_, _≤_, _<_}
+use Prim.Native.Nat.{ℕ, suc, _+_, _-_, _*_, _≤_, _<_}
 use native.Mathlib.Numerals.{add-one}
 use native.Mathlib.Omega.{arith}
 use mathlib.Core.Path.{_≡_, refl, sym, ap, _∙_, subst}
 use mathlib.Core.List.{List, [], _∷_, _++_, map, append-nil, append-assoc, map-append}
 use lib.ListN.{length, take, drop, set, getD, length-append, length-take, length-drop, length-set, length-map, drop-of-length-le}
-use lib.Seq.{take-at, drop-at, drop-drop, set-split, take-append-le}
+use lib.Seq.{take-at, drop-at, drop-drop, set-split}
 use lib.Ieee.{Float}
 use Rattle.float.specs.Answer.{Answer}
 use Rattle.float.specs.Slices.{written}
@@ -13,13 +13,13 @@ use Rattle.float.proofs.Slices.{inner-length}
 use Rattle.plane.specs.declared.Point.{Point}
 use Rattle.limits.specs.Limits.{mostNumbered}
 use Rattle.form.specs.Form.{recordNumbers}
-use Rattle.part.specs.Part.{Part, fits, cuts, fails}
+use Rattle.part.specs.Part.{Part, fits, cuts}
 use Rattle.part.specs.Answers.{Did}
 use Rattle.part.specs.declared.Solved.{Solved}
 use Rattle.part.specs.declared.Tried.{Tried}
 use Rattle.part.specs.declared.Tried.the-variants.{Good, Cut}
 use Rattle.part.specs.declared.Tried.the-variants.{Refused as TRefused}
-use Rattle.cut.specs.Run.{Run, refused, done, Beside, beside, flat, firstsOf, worstsOf, join}
+use Rattle.cut.specs.Run.{Run, done, Beside, beside, flat, firstsOf, worstsOf}
 use Rattle.cut.specs.Lent.{Left}
 use Rattle.cut.specs.declared.Fitted.the-variants.{Curves, Refused}
 use Rattle.cut.proofs.Cut.{from-good, from-cut, from-refused}
@@ -30,7 +30,7 @@ use Rattle.parts.specs.Headings.{marksIn, startIn, endIn}
 use Rattle.waiting.specs.Waiting.{partIn, openOf, waits, runIn}
 use Rattle.waiting.specs.Lent.{Outlined, Within, Room, Blocks}
 use Rattle.waiting.proofs.Open.{open-cut, open-fails, open-last, open-next, at-among, at-inside}
-use Rattle.waiting.proofs.Ends.{Tile, Tiled, tile-of, tiled, tiled-behind, tiled-end, tiled-long, tiled-cut, run-open}
+use Rattle.waiting.proofs.Ends.{Tiled, tile-of, tiled, tiled-behind, tiled-end, tiled-long, tiled-cut, run-open}
 use Rattle.waiting.proofs.Steps.{waits-length, waits-push}
 
 -- ---- one value more, behind those that stand

@@ -13,17 +13,17 @@ use Rattle.plane.specs.declared.Curve.{Curve}
 use Rattle.marks.specs.Marks.{count, markAt}
 use Rattle.marks.proofs.Parts.{mark-drop, mark-take}
 use Rattle.stages.specs.declared.worst.Worst.{Worst}
-use Rattle.part.specs.Part.{Part, fits, cuts, fails, partOf}
+use Rattle.part.specs.Part.{fits, cuts, fails, partOf}
 use Rattle.gate.specs.Gate.{Usable}
 use Rattle.ends.proofs.Usable.{usable-take, usable-drop}
 use Rattle.ends.specs.Rounds.{Inside}
 use Rattle.ends.proofs.Parts.{Fits, Sound, part-sound, cuts-inside}
 use Rattle.tangents.specs.declared.Ways.{Ways}
 use Rattle.tangents.specs.Ways.{tangentAt, waysAt}
-use Rattle.cut.specs.Run.{Run, refused, done, Beside, beside, flat, leftOf, rightOf, join, turned, runOf, cutOf}
-use Rattle.cut.proofs.Run.{Sized, Sizes, run-sized, run-fits, run-fails, run-cuts, left-count, right-count, usable-left, usable-right}
+use Rattle.cut.specs.Run.{Run, refused, done, beside, flat, leftOf, rightOf, join, turned, runOf}
+use Rattle.cut.proofs.Run.{Sized, run-sized, run-fits, run-fails, run-cuts}
 use Rattle.parts.specs.Headings.{one}
-use Rattle.waiting.specs.Waiting.{partAt, tried, headed, partIn, runAt, openOf}
+use Rattle.waiting.specs.Waiting.{partAt, headed, partIn, runAt, openOf}
 
 -- ---- three runs, one behind the other: it makes no difference which two are put together first
 
@@ -92,7 +92,7 @@ module _ (start end : ℕ → Answer Point) (ms : List Float) (tol : Float) (n :
     pub at-fits : (c : Curve) (w : Worst) (ps : List Float) → partIn start end ms tol a b ≡ fits c w ps → runAt start end ms tol a b ≡ done (flat c (w .err)) (beside a (a + w .at) ∷ []) ps
     at-fits c w ps = go (start a) (end b)
       where
-        go : (S E : Answer Point) → tried S E (λ s e. partOf (partAt ms a b) s e tol) ≡ fits c w ps → headed S E (λ s e. runOf (partAt ms a b) a s e tol) ≡ done (flat c (w .err)) (beside a (a + w .at) ∷ []) ps
+        go : (S E : Answer Point) → headed fails S E (λ s e. partOf (partAt ms a b) s e tol) ≡ fits c w ps → headed refused S E (λ s e. runOf (partAt ms a b) a s e tol) ≡ done (flat c (w .err)) (beside a (a + w .at) ∷ []) ps
         go (no q) E h = let z : _≡_ {A = ℕ} 0 1 = cc in absurd (omega arith)
         go (ok s) (no q) h = let z : _≡_ {A = ℕ} 0 1 = cc in absurd (omega arith)
         go (ok s) (ok e) h = let m = part-many in run-fits (partAt ms a b) a s e tol (omega arith) c w ps h
@@ -101,7 +101,7 @@ module _ (start end : ℕ → Answer Point) (ms : List Float) (tol : Float) (n :
     pub at-among : (c : Curve) (w : Worst) (ps : List Float) → partIn start end ms tol a b ≡ fits c w ps → (a + w .at ≤ b) × (length ps ≡ b + 1 - a)
     at-among c w ps = go (start a) (end b)
       where
-        go : (S E : Answer Point) → tried S E (λ s e. partOf (partAt ms a b) s e tol) ≡ fits c w ps → (a + w .at ≤ b) × (length ps ≡ b + 1 - a)
+        go : (S E : Answer Point) → headed fails S E (λ s e. partOf (partAt ms a b) s e tol) ≡ fits c w ps → (a + w .at ≤ b) × (length ps ≡ b + 1 - a)
         go (no q) E h = let z : _≡_ {A = ℕ} 0 1 = cc in absurd (omega arith)
         go (ok s) (no q) h = let z : _≡_ {A = ℕ} 0 1 = cc in absurd (omega arith)
         go (ok s) (ok e) h =
@@ -112,7 +112,7 @@ module _ (start end : ℕ → Answer Point) (ms : List Float) (tol : Float) (n :
     pub at-fails : (q : ℕ) → partIn start end ms tol a b ≡ fails q → runAt start end ms tol a b ≡ refused q
     at-fails q = go (start a) (end b)
       where
-        go : (S E : Answer Point) → tried S E (λ s e. partOf (partAt ms a b) s e tol) ≡ fails q → headed S E (λ s e. runOf (partAt ms a b) a s e tol) ≡ refused q
+        go : (S E : Answer Point) → headed fails S E (λ s e. partOf (partAt ms a b) s e tol) ≡ fails q → headed refused S E (λ s e. runOf (partAt ms a b) a s e tol) ≡ refused q
         go (no p) E h = let z : p ≡ q = cc in ap refused z
         go (ok s) (no p) h = let z : p ≡ q = cc in ap refused z
         go (ok s) (ok e) h = let m = part-many in run-fails (partAt ms a b) a s e tol (omega arith) q h
@@ -122,7 +122,7 @@ module _ (start end : ℕ → Answer Point) (ms : List Float) (tol : Float) (n :
     pub at-inside : (k : ℕ) → partIn start end ms tol a b ≡ cuts k → (0 < k) × (a + k < b)
     at-inside k = go (start a) (end b)
       where
-        go : (S E : Answer Point) → tried S E (λ s e. partOf (partAt ms a b) s e tol) ≡ cuts k → (0 < k) × (a + k < b)
+        go : (S E : Answer Point) → headed fails S E (λ s e. partOf (partAt ms a b) s e tol) ≡ cuts k → (0 < k) × (a + k < b)
         go (no q) E h = let z : _≡_ {A = ℕ} 0 1 = cc in absurd (omega arith)
         go (ok s) (no q) h = let z : _≡_ {A = ℕ} 0 1 = cc in absurd (omega arith)
         go (ok s) (ok e) h =
@@ -135,8 +135,8 @@ module _ (start end : ℕ → Answer Point) (ms : List Float) (tol : Float) (n :
       inside = at-inside k is
 
       -- the run of the part is that of its sides, each with the tangents by the mark
-      sides : (S E : Answer Point) → tried S E (λ s e. partOf (partAt ms a b) s e tol) ≡ cuts k → start a ≡ S → end b ≡ E
-          → headed S E (λ s e. runOf (partAt ms a b) a s e tol) ≡ join k (runAt start end ms tol a (a + k)) (runAt start end ms tol (a + k) b)
+      sides : (S E : Answer Point) → headed fails S E (λ s e. partOf (partAt ms a b) s e tol) ≡ cuts k → start a ≡ S → end b ≡ E
+          → headed refused S E (λ s e. runOf (partAt ms a b) a s e tol) ≡ join k (runAt start end ms tol a (a + k)) (runAt start end ms tol (a + k) b)
       sides (no q) E h x y = let z : _≡_ {A = ℕ} 0 1 = cc in absurd (omega arith)
       sides (ok s) (no q) h x y = let z : _≡_ {A = ℕ} 0 1 = cc in absurd (omega arith)
       sides (ok s) (ok e) h x y =
@@ -147,7 +147,7 @@ module _ (start end : ℕ → Answer Point) (ms : List Float) (tol : Float) (n :
         where
           go : (W : Answer Ways)
               → turned W (λ w. join k (runOf (partAt ms a (a + k)) a s (w .end) tol) (runOf (partAt ms (a + k) b) (a + k) (w .start) e tol))
-              ≡ join k (headed (ok s) (one (λ w. w .end) W) (λ s e. runOf (partAt ms a (a + k)) a s e tol)) (headed (one (λ w. w .start) W) (ok e) (λ s e. runOf (partAt ms (a + k) b) (a + k) s e tol))
+              ≡ join k (headed refused (ok s) (one (λ w. w .end) W) (λ s e. runOf (partAt ms a (a + k)) a s e tol)) (headed refused (one (λ w. w .start) W) (ok e) (λ s e. runOf (partAt ms (a + k) b) (a + k) s e tol))
           go (ok w) = refl
           go (no q) = refl
 
@@ -162,7 +162,7 @@ module _ (start end : ℕ → Answer Point) (ms : List Float) (tol : Float) (n :
       sized (refused q) z = tt
       sized (done c bs p) z = let m = part-many a b some bound in omega (arith, z .3)
 
-      go : (S E : Answer Point) → Long k (headed S E (λ s e. runOf (partAt ms a b) a s e tol))
+      go : (S E : Answer Point) → Long k (headed refused S E (λ s e. runOf (partAt ms a b) a s e tol))
       go (no q) E = tt
       go (ok s) (no q) = tt
       go (ok s) (ok e) = let m = part-many a b some bound in sized (runOf (partAt ms a b) a s e tol) (run-sized (partAt ms a b) a s e tol (omega arith) (part-usable a b some bound))

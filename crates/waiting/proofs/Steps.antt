@@ -5,12 +5,11 @@ use native.Mathlib.Nat.{div-mul-le-self, lt-div-mul-add}
 use native.Mathlib.Omega.{arith}
 use mathlib.Core.Path.{_≡_, refl, sym, ap, _∙_, subst}
 use mathlib.Core.List.{List, [], _∷_, _++_, append-nil}
-use lib.ListN.{length, take, drop, set, getD, length-take, length-drop, length-set, drop-of-length-le}
+use lib.ListN.{length, take, drop, set, length-drop, length-set, drop-of-length-le}
 use lib.Seq.{take-all, drop-drop, getD-set-same, getD-set-other}
 use lib.Ieee.{Float}
 use Rattle.float.specs.Slices.{written}
-use Rattle.float.specs.Answer.{Answer, ok}
-use Rattle.float.specs.Answer.{refused as no}
+use Rattle.float.specs.Answer.{Answer}
 use Rattle.plane.specs.declared.Point.{Point}
 use Rattle.marks.specs.Marks.{count}
 use Rattle.marks.specs.Answers.{wayAnswer}
@@ -28,7 +27,7 @@ use Rattle.cut.specs.Lent.{Ready}
 use Rattle.blocks.proofs.Blocks.{laid-front}
 use Rattle.parts.specs.declared.Heading.{Heading}
 use Rattle.parts.specs.Headings.{outlineIn, marksIn}
-use Rattle.waiting.specs.Waiting.{partAt, tried, waits}
+use Rattle.waiting.specs.Waiting.{partAt, headed, waits}
 use Rattle.waiting.specs.Lent.{Laid, Meeting, Outlined, Within, Room, Blocks, final, more}
 use Rattle.waiting.proofs.Ends.{ahead, reaches}
 
@@ -85,16 +84,16 @@ module _ (h : Heading) (ms round : List Float) (tail n size : ℕ) (tol : Float)
 
 -- tangents that are answered one after the other
 module _ (S E : Answer Point) (f : Point → Point → Part) (r : Way) (q : wayAnswer r ≡ S) (P : List Float) where
-  pub no-start : r ≡ way.Lost → Did (tried S E f) (Refused 6) P
+  pub no-start : r ≡ way.Lost → Did (headed fails S E f) (Refused 6) P
   unfolding wayAnswer
   no-start e = rw (sym q ∙ ap wayAnswer e) refl
 
   module _ (s : Point) (e : r ≡ way.Toward s) (x : Way) (y : wayAnswer x ≡ E) where
-    pub no-end : x ≡ way.Lost → Did (tried S E f) (Refused 6) P
+    pub no-end : x ≡ way.Lost → Did (headed fails S E f) (Refused 6) P
     unfolding wayAnswer
     no-end i = rw (sym q ∙ ap wayAnswer e, sym y ∙ ap wayAnswer i) refl
 
-    pub both-ways : (t : Point) → x ≡ way.Toward t → (z : Tried) → Did (f s t) z P → Did (tried S E f) z P
+    pub both-ways : (t : Point) → x ≡ way.Toward t → (z : Tried) → Did (f s t) z P → Did (headed fails S E f) z P
     unfolding wayAnswer
     both-ways t i z d = rw (sym q ∙ ap wayAnswer e, sym y ∙ ap wayAnswer i) d
 

@@ -20,10 +20,15 @@ abbrev pub Laid : Outline → List Float → List Float → ℕ → Type 0
 Laid Open ms round tail = Unit {0}
 Laid Closed ms round tail = round ≡ drop (2 * tail) (whole Closed ms)
 
--- blocks that meet; with given tangents there is one
+-- blocks that share the mark where they meet, as those of the joined fit and the ring do
+abbrev pub Joins : Heading → Type 0
+Joins (Given w) = Unit {0}
+Joins (By k) = over k ≡ 1
+
+-- so are those of `size` marks; with given tangents there is one
 abbrev pub Meeting : Heading → ℕ → ℕ → Type 0
 Meeting (Given w) n size = size + 1 ≡ n
-Meeting (By k) n size = over k ≡ 1
+Meeting (By k) n size = Joins (By k)
 
 -- an outline of n marks in blocks of `size`
 pub record Outlined (h : Heading) (ms round : List Float) (tail n size : ℕ) (tol : Float) : Type 0 where

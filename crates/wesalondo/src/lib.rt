@@ -128,7 +128,7 @@ pub extern "C" fn wes_fit_curve_cubic(
     border::put_fitted(answer, made)
 }
 
-// ---- fits of the second engine, which calls no function within itself and is lent room for its open parts
+// ---- fits of the second engine, which never calls itself and is lent room for its open parts
 
 // The direct fit.
 #[no_mangle]

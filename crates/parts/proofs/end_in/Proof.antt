@@ -4,8 +4,8 @@ use native.Mathlib.Omega.{arith}
 use mathlib.Core.Path.{_≡_, sym, _∙_}
 use mathlib.Core.Bool.{false}
 use Rattle.marks.specs.Answers.{wayAnswer}
-use Rattle.parts.specs.Headings.{marksIn, outer}
-use Rattle.parts.proofs.Headings.{end-outer, cut-closed, end-lost, end-found}
+use Rattle.parts.specs.Headings.{marksIn, outer, ownEnd}
+use Rattle.parts.proofs.Headings.{at-outer, cut-closed, cut-lost, cut-found}
 use Rattle.parts.proofs.end_in.Statement.{statement}
 use Rattle.parts.proofs.end_in.Tie as tie
 
@@ -20,7 +20,7 @@ own-end-requires : tie.Need-own-end-requires
 own-end-requires c κs = search needs
 
 returns : tie.Need-returns
-returns c = let a = c .before .before .before .before .args in end-outer (a .heading) (marksIn (a .heading) (a .marks .now)) (a .n) (a .size) (a .at) (sym (c .before .before .is-outer .ensures) ∙ c .before .if1 .taken) _ (c .own-end .ensures)
+returns c = let a = c .before .before .before .before .args in at-outer (λ w. w .end) (ownEnd (a .heading) (marksIn (a .heading) (a .marks .now)) (a .n) (a .at)) (marksIn (a .heading) (a .marks .now)) (a .n) (a .size) (a .at) (sym (c .before .before .is-outer .ensures) ∙ c .before .if1 .taken) _ (c .own-end .ensures)
 
 ways-round-requires : tie.Need-ways-round-requires
 ways-round-requires c κs =
@@ -39,14 +39,14 @@ unfolding wayAnswer
 returns-2 c =
     let a = c .before .before .before .before .before .before .args in
     let p = c .before .before .before .before .before .before .pre in
-    end-lost (a .heading) (a .marks .now) (a .n) (a .size) (a .at) (p .0 .0) (p .0 .1) (omega (arith, p)) (inner (c .before .before .before)) _ (c .before .before .ways-round .ensures) (c .enum-told .given .1)
+    cut-lost (a .heading) (a .marks .now) (a .n) (a .size) (a .at) (p .0 .0) (p .0 .1) (omega (arith, p)) (inner (c .before .before .before)) (λ w. w .end) (ownEnd (a .heading) (marksIn (a .heading) (a .marks .now)) (a .n) (a .at)) _ (c .before .before .ways-round .ensures) (c .enum-told .given .1)
 
 returns-3 : tie.Need-returns-3
 unfolding wayAnswer
 returns-3 c =
     let a = c .before .before .before .before .before .before .before .before .args in
     let p = c .before .before .before .before .before .before .before .before .pre in
-    end-found (a .heading) (a .marks .now) (a .n) (a .size) (a .at) (p .0 .0) (p .0 .1) (omega (arith, p)) (inner (c .before .before .before .before .before)) _ (c .before .before .before .before .ways-round .ensures) _ (c .before .before .ways .given .1)
+    cut-found (a .heading) (a .marks .now) (a .n) (a .size) (a .at) (p .0 .0) (p .0 .1) (omega (arith, p)) (inner (c .before .before .before .before .before)) (λ w. w .end) (ownEnd (a .heading) (marksIn (a .heading) (a .marks .now)) (a .n) (a .at)) _ (c .before .before .before .before .ways-round .ensures) _ (c .before .before .ways .given .1)
 
 pub end-in-spec : {M : Type 1} → statement M
 end-in-spec =

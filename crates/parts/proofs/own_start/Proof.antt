@@ -1,6 +1,5 @@
 -- `parts::own_start` meets its contract. Assumes nothing.
 use borrow.Author.Needs.{needs}
-use native.Mathlib.Omega.{arith}
 use Rattle.marks.specs.Answers.{wayAnswer}
 use Rattle.parts.proofs.Headings.{by-length, given-start, by-start}
 use Rattle.parts.proofs.own_start.Statement.{statement}

@@ -1,7 +1,6 @@
 -- `waiting::try_between`: the tangents by the two end marks, and then the part. Assumes nothing.
 use borrow.Author.Needs.{needs}
 use native.Mathlib.Omega.{arith}
-use mathlib.Core.Path.{refl}
 use lib.ListN.{length}
 use Rattle.part.specs.Part.{partOf}
 use Rattle.ring.proofs.Whole.{again-small}

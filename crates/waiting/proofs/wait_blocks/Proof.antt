@@ -1,7 +1,7 @@
 -- `waiting::wait_blocks`: the ends of the blocks, from the last one back to the first. Assumes nothing.
 use native.Mathlib.Omega.{arith}
 use native.Mathlib.Nat.{div-mul-le-self}
-use Prim.Native.Nat.{_-_, _/_, _*_}
+use Prim.Native.Nat.{_-_}
 use Rattle.waiting.proofs.Steps.{Laying, laid-first, below, falls, laid-next, laid-all}
 use Rattle.waiting.proofs.wait_blocks.Statement.{statement}
 use Rattle.waiting.proofs.wait_blocks.Tie as tie

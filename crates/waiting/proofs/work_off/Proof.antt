@@ -1,9 +1,8 @@
 -- `waiting::work_off`: at the loop's head the whole is what is written, the part that is next, and what waits (`Sofar`). Assumes nothing.
 use borrow.Author.Needs.{needs}
 use native.Mathlib.Omega.{arith}
-use Prim.Native.Nat.{_+_, _-_, _*_}
-use mathlib.Core.Path.{_≡_, refl, _∙_}
-use lib.ListN.{length, length-set}
+use Prim.Native.Nat.{_-_, _*_}
+use mathlib.Core.Path.{refl, _∙_}
 use Rattle.waiting.proofs.Loop.{Call, call, Asked, Sofar, so-first, Head, numbers, within, Ran, as-long, so-refused, cut-inside, so-cut, good-among, so-done, so-next}
 use Rattle.waiting.proofs.work_off.Statement.{statement}
 use Rattle.waiting.proofs.work_off.Tie as tie
