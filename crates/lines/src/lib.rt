@@ -121,3 +121,19 @@ pub fn hand_over(text: &[u8], out: &mut [u8]) -> Listed
     }
     Listed::Bytes(put_bytes(out, 0, text))
 }
+
+// Room for a refusal's line.
+fn line_room() -> [u8; 29]
+    ensures { λ r. ⌜ 29 ≡ length r ⌝ }
+{
+    [0; 29]
+}
+
+// A refusal's line as the whole text.
+pub fn hand_refusal(q: u32, out: &mut [u8]) -> Listed
+    ensures { λ r. ⌜ handed (listedAnswer r) (now (out .exit)) ≡ handOver (refusalLine q) (now (out .entry)) ⌝ }
+{
+    let mut text = line_room();
+    let size = put_refusal(&mut text, q);
+    hand_over(&text[..size], out)
+}

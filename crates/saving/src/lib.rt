@@ -2,7 +2,6 @@
 ghost use mathlib.Core.Path.{_≡_};
 ghost use Prim.Native.Nat.{_%_, _≤_};
 ghost use lib.ListN.{length};
-ghost use Rattle.lines.specs.Lines.{refusalLine};
 ghost use Rattle.lines.specs.Handed.{shown, handed, listedAnswer, handOver};
 ghost use Rattle.house.specs.File.{bytesOf};
 ghost use Rattle.form.specs.declared.Form.the-variants as form;
@@ -18,27 +17,10 @@ use fit::fit_joined;
 use float::of_bits;
 use form::Form;
 use lines::Listed;
-use lines::hand_over;
-use lines::put_refusal;
+use lines::hand_refusal;
 use reader::Read;
 use writer::Wrote;
 use writer::write_file;
-
-// Room for a refusal's line.
-fn line_room() -> [u8; 29]
-    ensures { λ r. ⌜ 29 ≡ length r ⌝ }
-{
-    [0; 29]
-}
-
-// A refusal's line as the whole text.
-fn hand_refusal(q: u32, out: &mut [u8]) -> Listed
-    ensures { λ r. ⌜ handed (listedAnswer r) (now (out .exit)) ≡ handOver (refusalLine q) (now (out .entry)) ⌝ }
-{
-    let mut text = line_room();
-    let size = put_refusal(&mut text, q);
-    hand_over(&text[..size], out)
-}
 
 // What the writer answers, in this call's words.
 fn as_listed(wrote: Wrote) -> Listed

@@ -30,6 +30,19 @@ pub fn put_decimal(out: &mut [u8], at: usize, n: u64) -> usize
     end + 1
 }
 
+// How many bytes n has in decimal.
+pub fn decimal_len(n: u64) -> usize
+    ensures { λ r. ⌜ (r ≤ 20) × (r ≡ length (decimal n)) ⌝ }
+{
+    let mut rest = n;
+    let mut len = 1;
+    while rest >= 10 {
+        rest = rest / 10;
+        len += 1;
+    }
+    len
+}
+
 // Puts the sixteen hex digits of x at `at`, from the last to the first.
 pub fn put_hex(out: &mut [u8], at: usize, x: u64) -> usize
     requires { ⌜ at + 16 ≤ length (now out) ⌝ }

@@ -1,12 +1,12 @@
--- `saving::hand_refusal` meets its contract. Assumes nothing.
+-- `lines::hand_refusal` meets its contract. Assumes nothing.
 use mathlib.Core.Path.{sym}
 use native.Mathlib.Omega.{arith}
 use borrow.Author.Needs.{needs}
 use lib.Seq.{length-take-le}
 use Rattle.text.proofs.Stores.{put-length}
 use Rattle.lines.proofs.Handed.{over-front}
-use Rattle.saving.proofs.hand_refusal.Statement.{statement}
-use Rattle.saving.proofs.hand_refusal.Tie as tie
+use Rattle.lines.proofs.hand_refusal.Statement.{statement}
+use Rattle.lines.proofs.hand_refusal.Tie as tie
 
 line-room-requires : tie.Need-line-room-requires
 line-room-requires c κs = search needs

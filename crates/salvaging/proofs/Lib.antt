@@ -1,0 +1,5 @@
+mod Sizes
+mod Goes
+mod Walk
+mod Texts
+mod Ways

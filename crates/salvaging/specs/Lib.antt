@@ -1,0 +1,3 @@
+pub mod Report
+pub mod Salvage
+pub mod Layout

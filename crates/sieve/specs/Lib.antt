@@ -1,0 +1,2 @@
+pub mod Sieve
+pub mod Traces
