@@ -3,3 +3,4 @@ mod Goes
 mod Walk
 mod Texts
 mod Ways
+pub mod Twice

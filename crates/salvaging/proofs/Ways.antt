@@ -1,6 +1,6 @@
 -- What each way through the calls answers. Assumes nothing.
-use Prim.Native.Nat.{ℕ, _*_, _/_, _^_, _<_, _≤_}
-use mathlib.Core.Path.{_≡_, refl, sym, ap, _∙_}
+use Prim.Native.Nat.{ℕ, _*_, _^_, _<_, _≤_}
+use mathlib.Core.Path.{_≡_, refl, _∙_}
 use mathlib.Core.Bool.{Bool, true, false, cond}
 use mathlib.Core.List.{List, []}
 use native.Mathlib.Omega.{arith}
@@ -18,13 +18,12 @@ use Rattle.house.specs.File.{File, marksIn}
 use Rattle.house.specs.Held.{fileAt}
 use Rattle.house.proofs.Rows.{length-words}
 use Rattle.grammar.proofs.Formed.{formed}
-use Rattle.packed.specs.Unpacked.{heldOf}
 use Rattle.packed_heads.specs.declared.Joints.{Joints}
 use Rattle.packed_heads.specs.declared.Joints.the-variants.{Twice, Once}
 use Rattle.packed_heads.specs.declared.Held.the-variants as held
 use Rattle.packed_heads.specs.Layout.{heldLayoutOf, heldAt}
 use Rattle.packed_heads.proofs.Told.{HeldTold, held-untold}
-use Rattle.salvaging.specs.Salvage.{cleaned, Texts, textsOf, salvageTexts, Sizes, sizes, Salvage, salvage, handBoth, bothTo, salvageOf, benchTexts, printedOf}
+use Rattle.salvaging.specs.Salvage.{cleaned, Texts, textsOf, salvageTexts, Sizes, sizes, Salvage, salvage, handBoth, salvageOf, benchTexts, printedOf}
 use Rattle.salvaging.specs.Layout.{alone}
 
 -- ---- two texts

@@ -1,3 +1,4 @@
 pub mod Report
 pub mod Salvage
+pub mod Twice
 pub mod Layout

@@ -28,9 +28,9 @@ use packed_heads::Held;
 use packed_heads::find_held;
 use report::count_len;
 use report::put_count;
+use walks::measure;
 use walks::put_drops;
 use walks::put_kept;
-use walks::measure;
 
 // The most bytes that the program reads.
 const MOST_BYTES: usize = 434120;
@@ -40,10 +40,7 @@ const MOST_CLEANED: usize = 512;
 
 // How many bytes of the cleaned file and of the list were written; or why none were.
 pub enum Salvaged {
-    Bytes {
-        file: usize,
-        report: usize,
-    },
+    Bytes { file: usize, report: usize },
     Refused(u32),
 }
 

@@ -1,10 +1,9 @@
 -- What becomes of a mark, case by case. Assumes nothing.
-use mathlib.Core.Path.{_≡_, sym}
+use mathlib.Core.Path.{_≡_, refl}
 use mathlib.Core.Bool.{true, false}
 use Rattle.plane.specs.Range.{pointInRange}
 use Rattle.plane.specs.declared.Point.{Point}
 use Rattle.sieve.specs.declared.Cause.the-variants.{Range, Equal}
-use Rattle.sieve.specs.declared.Fate.{Fate}
 use Rattle.sieve.specs.declared.Fate.the-variants.{Kept, Dropped}
 use Rattle.sieve.specs.declared.Last.{Last}
 use Rattle.sieve.specs.Sieve.{again, fateOf}
@@ -12,12 +11,12 @@ use Rattle.sieve.specs.Sieve.{again, fateOf}
 module _ (last : Last) (p : Point) where
   pub fate-range : pointInRange p ≡ false → Dropped Range ≡ fateOf last p
   unfolding fateOf
-  fate-range e = rw e
+  fate-range e = rw e refl
 
   pub fate-equal : pointInRange p ≡ true → again last p ≡ true → Dropped Equal ≡ fateOf last p
   unfolding fateOf
-  fate-equal e a = rw (e, a)
+  fate-equal e a = rw (e, a) refl
 
   pub fate-kept : pointInRange p ≡ true → again last p ≡ false → Kept ≡ fateOf last p
   unfolding fateOf
-  fate-kept e a = rw (e, a)
+  fate-kept e a = rw (e, a) refl

@@ -1,17 +1,15 @@
 -- What holds of every trace. Assumes nothing.
-use Prim.Native.Nat.{ℕ, zero, suc, _+_, _*_, _/_}
-use mathlib.Core.Path.{_≡_, refl, sym, ap, ap₂, _∙_}
-use mathlib.Core.Bool.{cond}
+use Prim.Native.Nat.{ℕ, suc, _+_, _*_, _/_}
+use mathlib.Core.Path.{_≡_, refl, ap, _∙_}
 use mathlib.Core.List.{List, [], _∷_, _++_}
 use native.Mathlib.Omega.{arith}
-use lib.Dec.{eqb}
 use lib.ListN.{length, take, drop}
 use lib.Seq.{drop-drop}
 use Rattle.sieve.specs.declared.Fate.{Fate}
 use Rattle.sieve.specs.declared.Fate.the-variants.{Kept, Dropped}
 use Rattle.sieve.specs.declared.Last.{Last}
 use Rattle.sieve.specs.declared.Last.the-variants.{Nothing, Mark}
-use Rattle.sieve.specs.Sieve.{mark, fateOf, after, fates, keptBy, keptIn, dropsFrom, fatesOf}
+use Rattle.sieve.specs.Sieve.{mark, fateOf, after, fates, keptIn, dropsFrom, fatesOf}
 use Rattle.sieve.specs.Traces.{times, counting, keptNumbers, dropNumbers, picked, Adds, Once, Picks, Again}
 
 -- ---- one fate for each mark

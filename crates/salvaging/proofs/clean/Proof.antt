@@ -1,9 +1,8 @@
 -- `salvaging::clean` meets its contract. Assumes nothing.
-use mathlib.Core.Path.{_≡_}
 use native.Mathlib.Omega.{arith}
 use Rattle.form.specs.declared.Form.the-variants.{Eight}
 use Rattle.house.specs.Held.{fileAt}
-use Rattle.salvaging.specs.Salvage.{Texts, textsOf}
+use Rattle.salvaging.specs.Salvage.{textsOf}
 use Rattle.salvaging.proofs.Texts.{dropped-is, file-size, report-size, report-fits, whole-file, whole-report}
 use Rattle.salvaging.proofs.Ways.{out-short, report-short, both-whole}
 use borrow.Author.Needs.{needs}

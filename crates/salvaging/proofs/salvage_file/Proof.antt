@@ -1,7 +1,7 @@
 -- `salvaging::salvage_file` meets its contract. Assumes nothing.
 use mathlib.Core.Path.{sym, _∙_}
 use native.Mathlib.Omega.{arith}
-use Rattle.packed_heads.proofs.Told.{HeldTold, held-told}
+use Rattle.packed_heads.proofs.Told.{held-told}
 use Rattle.salvaging.proofs.Ways.{held-few, alone-over, printed-long, printed-broken, printed-many, printed-done}
 use borrow.Author.Needs.{needs}
 use Rattle.salvaging.proofs.salvage_file.Statement.{statement}

@@ -1,7 +1,6 @@
 -- `sieve::mark_at` meets its contract. Assumes nothing.
 use borrow.Author.Needs.{needs}
 use mathlib.Core.Path.{refl}
-use native.Mathlib.Omega.{arith}
 use Rattle.sieve.proofs.mark_at.Statement.{statement}
 use Rattle.sieve.proofs.mark_at.Tie as tie
 

@@ -1,6 +1,5 @@
 -- `salvaging::report::put_cause` meets its contract. Assumes nothing.
 use Rattle.text.proofs.Stores.{one}
-use Rattle.salvaging.specs.Report.{causeWord}
 use borrow.Author.Needs.{needs}
 use Rattle.salvaging.proofs.report.put_cause.Statement.{statement}
 use Rattle.salvaging.proofs.report.put_cause.Tie as tie

@@ -1,0 +1,27 @@
+-- What holds of every file that is cleaned: the statements. What holds of its marks alone, that each is kept or dropped once, is in `sieve`. Definitions only.
+use Prim.Native.Nat.{ℕ, _+_, _≤_}
+use mathlib.Core.Path.{_≡_}
+use mathlib.Core.List.{List, []}
+use lib.ListN.{length}
+use Rattle.float.specs.Answer.{ok}
+use Rattle.house.specs.File.{File, marksIn, bytesOf}
+use Rattle.packed.specs.Unpacked.{heldOf}
+use Rattle.sieve.specs.Sieve.{dropsOf}
+use Rattle.salvaging.specs.Report.{reportOf}
+use Rattle.salvaging.specs.Salvage.{cleaned, Texts, salvageTexts, mostCleaned, benchTexts}
+
+-- the marks kept and the lines of the others add up to the marks read
+abbrev pub Adds : Type 0
+Adds = (F : File) → marksIn (cleaned F) + length (dropsOf (F .marks)) ≡ marksIn F
+
+-- what the cleaned file is cleaned to: the same bytes, and a list of no mark
+abbrev pub unchanged : File → Texts
+unchanged F = record { file = bytesOf (cleaned F); report = reportOf (marksIn (cleaned F)) [] }
+
+-- the cleaned file of any bytes that are a file
+abbrev pub Twice : Type 0
+Twice = (b : List ℕ) (F : File) → heldOf b ≡ ok F → salvageTexts (bytesOf (cleaned F)) ≡ ok (unchanged F)
+
+-- and by the program, if it took those bytes
+abbrev pub TwiceAtTheBench : Type 0
+TwiceAtTheBench = (b : List ℕ) (F : File) → heldOf b ≡ ok F → marksIn F ≤ mostCleaned → benchTexts (bytesOf (cleaned F)) ≡ ok (unchanged F)
