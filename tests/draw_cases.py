@@ -30,7 +30,7 @@ def chords(marks, ring=False):
 def listed(marks, curves=None, **rest):
     """A list of curves as the drawings take it; straight ones if none are given."""
     ring = rest.get('ring', False)
-    fields = dict(name='x.house', ring=ring, tolerance=0.5, marks=marks, firsts=None, params=None, blocks=None, block_size=None, far=(0.25, 1, 0), long=[], verdict=None)
+    fields = dict(name='x.house', ring=ring, tolerance=0.5, marks=marks, firsts=None, params=None, blocks=None, block_size=None, far=(0.25, 1, 0), long=[], verdict=None, refusal=None, cleaned=None)
     return types.SimpleNamespace(**{**fields, **rest}, curves=chords(marks, ring) if curves is None else curves)
 
 

@@ -684,7 +684,7 @@ class Other(Case):
     def test_examples(self):
         self.says(2, 'usage: tools/make_examples.py', 'tools/make_examples.py', 'x')
         got, out, _ = self.call('tools/make_examples.py')
-        self.assertEqual((got, out.count('as kept')), (0, 11), out)
+        self.assertEqual((got, out.count('as kept')), (0, 12), out)
         os.remove(in_copy('examples/luff.house'))
         self.assertEqual(self.call('tools/make_examples.py')[0], 1)
         self.assertEqual(self.call('tools/make_examples.py', '--write')[0], 0)

@@ -259,6 +259,16 @@ def rested():
     return house(0.5, [(412.35, 118.6)] * 3)
 
 
+def paused():
+    """A bimini's edge of 2.4 m at the table's full rate, with the hand at rest on the puck at mark 185: 480 marks, of which 231 are one. From 200 to 400, a whole block, nothing moves."""
+    hand = random.Random(9)
+
+    def shape(u):
+        return 2400 * u, 150 * math.sin(math.pi * u) - 35 * math.sin(3 * math.pi * u) ** 2
+    marks = grid(shake(even(shape, 250), 0.08, hand))
+    return house(0.6, marks[:186] + marks[185:186] * 230 + marks[186:])
+
+
 def settle(make, write):
     """Says how an example stands, and puts it in place if asked to; whether all is well."""
     data = make()
@@ -281,7 +291,7 @@ def settle(make, write):
 def main(words):
     if words not in ([], ['--write']):
         raise Stop('usage: tools/make_examples.py [--write]')
-    well = [settle(make, bool(words)) for make in (cover, luff, window, hood, genoa, dart, tender, mainsail, cushion, lost, rested)]
+    well = [settle(make, bool(words)) for make in (cover, luff, window, hood, genoa, dart, tender, mainsail, cushion, lost, rested, paused)]
     return 0 if all(well) else 1
 
 

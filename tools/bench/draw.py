@@ -2,18 +2,19 @@
 import math
 from collections import namedtuple
 
+from bench.cleaning import EQUAL, RANGE, spans, standing
 from bench.curves import at, box_of, cover, extent, grown, inside, reach, seam_angle, shared
-from bench.outline import LONG
+from bench.outline import LONG, trouble
 from bench.said import counted, millimetres, plain
-from bench.svg import (COLOURS, FONTS, GREEN, INK, RED, WHITE, WIDE, Room, bar, circle, diamond, escaped, group, label, line, lines_of, look, num, path, plus, rings,
-                       rounded, target, text, wrapped)
+from bench.svg import (COLOURS, FONTS, GREEN, GREY, INK, RED, WHITE, WIDE, Room, bar, circle, coloured_lines, diamond, escaped, group, label, line, lines_of, look, num, path, plus, rings,
+                       rounded, target, text, titled, wrapped)
 from shared.table import LARGEST
 
 WHOLE = 6.35             # mm, which are 24 pixels and 18 points: a page of whole ones is rounded by no browser, which would stretch the drawing
 FAR_OFF = 10 * LARGEST   # a point beyond is no place on any paper
 MOST_BOXES = 20000       # that cover all curves together
 NAMED = 8                # curves that a note names one by one
-SMALLER = 0.7            # a small ring, by the ring of the farthest mark
+SMALLER, LARGER = 0.7, 1.15  # a small ring and a dropped mark's, by the ring of the farthest mark
 FAR_AWAY, NEAR_BY = 14, 4  # steps that a label may stand away from its point: the few that must be said, and the many that need not
 
 Sizes = namedtuple('Sizes', 'font thin bold arm dot halo')
@@ -46,7 +47,7 @@ class Outline:
         self.breaks = breaks(listed.curves, listed.ring)
         self.gaps = fair_ones(point for pair in self.breaks for point in pair)
         # where curves begin and end, by their own points; where two meet there is one
-        self.joints = fair_ones([curve[0] for _, curve in self.curves] + [before for before, _ in self.breaks] + [listed.curves[-1][3]])
+        self.joints = fair_ones([curve[0] for _, curve in self.curves] + [before for before, _ in self.breaks] + [curve[3] for curve in listed.curves[-1:]])
         self.angle = seam_angle(listed.curves) if listed.ring else None
         self.bound()
 
@@ -73,6 +74,8 @@ def named(numbers):
 
 
 def measured(listed):
+    if not listed.curves:
+        return 'The marks by themselves: no curves are fitted.'
     if listed.far is None:
         return 'No largest distance: not every mark has a distance from its curve that is a number.'
     far, mark, under = listed.far
@@ -106,8 +109,9 @@ def trouble_notes(outline):
 
 
 def title(listed):
-    closed = ', a closed outline' * listed.ring
-    return f'{listed.name}{closed}: {counted(len(listed.marks), "mark")}, {counted(len(listed.curves), "curve")}, tolerance {plain(listed.tolerance)} mm'
+    about = ', a closed outline' * listed.ring + ', cleaned' * (listed.cleaned is not None)
+    curves = f', {counted(len(listed.curves), "curve")}' if listed.curves else ''
+    return f'{listed.name}{about}: {counted(len(listed.marks), "mark")}{curves}, tolerance {plain(listed.tolerance)} mm'
 
 
 def verdict(listed):
@@ -118,12 +122,43 @@ def verdict(listed):
 def notes_of(outline):
     listed = outline.listed
     return [title(listed), *([verdict(listed)] if listed.verdict else []), measured(listed), *long_notes(listed), *trouble_notes(outline), *(seam_notes(outline) if listed.ring else []),
-            'Marks and curves count from 0; every tenth curve has its number. x runs right, y up.']
+            ('Marks and curves count from 0; every tenth curve has its number.' if listed.curves else 'Marks count from 0.') + ' x runs right, y up.']
 
 
 def alarm(listed):
     """What has to stand in red on every sheet, or nothing."""
-    return '' if listed.verdict is None or listed.verdict.passed else f'Not passed. {listed.verdict.words}'
+    words = trouble(listed)
+    return '' if words is None else f'{"Not passed" if listed.verdict else "Not fitted"}. {words}'
+
+
+# ---- what was dropped
+
+def equal_ones(listed):
+    """Of each mark on which others were dropped its place, and their numbers."""
+    found = {}
+    for drop in listed.cleaned.of(EQUAL) if listed.cleaned else []:
+        found.setdefault(drop.equals, (drop.point, []))[1].append(drop.number)
+    return list(found.values())
+
+
+def dropped_notes(listed):
+    """What was dropped, in grey: equal marks by their numbers, and those that no sheet can hold with where they stood."""
+    cleaned = listed.cleaned
+    if cleaned is None:
+        return []
+    equal, wild = cleaned.of(EQUAL), cleaned.of(RANGE)
+    notes = [f'Cleaned: {cleaned.words()}.']
+    if equal:
+        notes.append(f'Equal to the last one kept (grey rings): {spans([drop.number for drop in equal])}.')
+    if wild:
+        some = '; '.join(f'{drop.number} ({standing(drop.point)})' for drop in wild[:NAMED])
+        notes.append(f'Out of range, and so on no sheet: {some}' + f'; and {len(wild) - NAMED:,} more' * (len(wild) > NAMED) + '.')
+    return notes + ['The numbers of dropped marks are those of the file as it was; all others count the marks that are kept.'] * bool(cleaned.drops)
+
+
+def coloured_notes(outline):
+    """All notes, each with its colour."""
+    return [(INK, note) for note in notes_of(outline)] + [(GREY, note) for note in dropped_notes(outline.listed)]
 
 
 # ---- the drawing, layer by layer
@@ -161,7 +196,7 @@ class Picture:
         border = 2 * (outline.wide + outline.tall)
         self.small = max(0.7 * self.sizes.font, sum(min(reach(curve), border) for _, curve in outline.curves) / MOST_BOXES)
         self.room = Room(max(0.3 * self.sizes.font, self.small / 3))
-        self.layers = [*self.curves(), self.marks(), self.joints(), self.gaps(), self.signs()]
+        self.layers = [*self.curves(), self.marks(), self.dropped(), self.joints(), self.gaps(), self.signs()]
         self.labels = Layer('')
 
     def put(self, p):
@@ -184,6 +219,14 @@ class Picture:
         for x, y in map(self.put, self.listed.marks):
             layer.add(path(plus(x, y, self.sizes.arm)), round_box(x, y, self.sizes.arm))
             self.room.take((x, y, x, y))
+        return layer
+
+    def dropped(self):
+        """A ring about each mark on which others were dropped, with their numbers where a pointer rests on it."""
+        layer, r = Layer(look('none', GREY, self.sizes.bold)), LARGER * self.sizes.halo
+        for point, numbers in equal_ones(self.listed):
+            x, y = self.put(point)
+            self.ringed(layer, titled(f'dropped: {spans(numbers)}', circle(x, y, r)), x, y, r)
         return layer
 
     def joints(self):
@@ -236,6 +279,8 @@ class Picture:
             self.label(self.listed.marks[mark], font, f'{millimetres(far, self.listed.tolerance)} mm', RED, halo * 1.25, allowed)
         if self.listed.ring:
             self.label(self.listed.marks[0], font, f'seam {self.outline.seam()}', GREEN, halo * 1.6, allowed)
+        for point, numbers in equal_ones(self.listed):
+            self.label(point, font * 0.8, spans(numbers), GREY, LARGER * halo * 1.25, allowed)
         for k, curve in self.outline.curves:
             if k % 10 == 0:
                 self.label(at(curve, 0.5), font * 0.9, str(k), COLOURS[k % 2], self.sizes.dot, allowed)
@@ -254,8 +299,11 @@ def window(x, y, wide, tall, things, at_x=None, at_y=None):
 
 def signs_of(outline):
     """What the signs are called, each with the function that draws it about (x, y), as large as letters of a size."""
-    signs = [('mark', lambda x, y, s: path(plus(x, y, 0.3 * s), look('none', INK, 0.045 * s))),
-             ('joint', lambda x, y, s: circle(x, y, 0.22 * s, look(WHITE, INK, 0.05 * s)))]
+    signs = [('mark', lambda x, y, s: path(plus(x, y, 0.3 * s), look('none', INK, 0.045 * s)))]
+    if equal_ones(outline.listed):
+        signs.append(('dropped', lambda x, y, s: circle(x, y, 0.38 * s, look('none', GREY, 0.08 * s))))
+    if outline.listed.curves:
+        signs.append(('joint', lambda x, y, s: circle(x, y, 0.22 * s, look(WHITE, INK, 0.05 * s))))
     if outline.listed.long:
         signs.append(('worst', lambda x, y, s: circle(x, y, 0.24 * s, look('none', COLOURS[0], 0.06 * s))))
     if outline.listed.far:
@@ -269,10 +317,11 @@ def signs_of(outline):
 
 def key(x, y, size, outline):
     """The line of signs, and where it ends."""
-    mid, far = y - size * 0.33, size * 1.1
-    parts = [line(x + i * far, mid, x + (i + 1) * far, mid, colour, size * 0.09) for i, colour in enumerate(COLOURS)]
-    parts.append(text(x + 2.3 * far, y, size, 'curves'))
-    x += 2.3 * far + 7.5 * WIDE * size
+    mid, far, parts = y - size * 0.33, size * 1.1, []
+    if outline.listed.curves:
+        parts += [line(x + i * far, mid, x + (i + 1) * far, mid, colour, size * 0.09) for i, colour in enumerate(COLOURS)]
+        parts.append(text(x + 2.3 * far, y, size, 'curves'))
+        x += 2.3 * far + 7.5 * WIDE * size
     for words, sign in signs_of(outline):
         parts += [sign(x, mid, size), text(x + 0.66 * size, y, size, words)]
         x += 0.66 * size + (len(words) + 2) * WIDE * size
@@ -296,7 +345,7 @@ class Sheet:
         self.head = self.edge + self.step * len(self.alarm)
         self.foot = self.head + outline.tall + self.edge          # where the band begins
         self.column = max(100, key(0, 0, self.caption, outline)[1], 60 * WIDE * self.caption) + 2 * self.caption  # 60 letters say how far the crosses stand apart
-        self.notes = [words for note in notes_of(outline) for words in wrapped(note, self.notes_width(), self.caption)]
+        self.notes = [(colour, words) for colour, note in coloured_notes(outline) for words in wrapped(note, self.notes_width(), self.caption)]
         below = 0 if self.beside() else (len(self.notes) + 0.5) * self.step
         band = max(9 + 6.5 * self.caption + below, 5 + (len(self.notes) + 1) * self.step)
         self.tall = math.ceil((self.foot + band + 0.3 * self.edge) / WHOLE) * WHOLE
@@ -335,7 +384,7 @@ class Sheet:
         y += 2.5 * self.step
         parts += key(x, y, caption, self.outline)[0]
         x, y = (x + self.column, self.foot + 5 + 1.1 * caption) if self.beside() else (x, y + self.step * 1.3)
-        return parts + lines_of(x, y, caption, self.step, self.notes)
+        return parts + coloured_lines(x, y, caption, self.step, self.notes)
 
     def svg(self):
         wide, tall, thin = num(self.wide), num(self.tall), self.picture.sizes.thin

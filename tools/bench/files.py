@@ -1,4 +1,5 @@
 """The files that ./wesalondo reads and writes, with one line about each trouble."""
+import contextlib
 import os
 import stat
 import sys
@@ -56,3 +57,35 @@ def write(path, data):
             replace(os.path.realpath(path), data)
     except OSError as error:
         raise stop(path, error)
+
+
+# ---- files that are written to a folder, under their own names
+
+def targets(path, folder, *kinds):
+    """Where what is made of a file goes: one under its own name, and for each kind one with that ending in place of its own."""
+    name = os.path.basename(path)
+    return [os.path.join(folder, one) for one in (name, *(os.path.splitext(name)[0] + kind for kind in kinds))]
+
+
+def identity(path):
+    """What tells a file from every other, by whatever path; None where there is none."""
+    with contextlib.suppress(OSError):
+        found = os.stat(path)
+        return found.st_dev, found.st_ino
+    return None
+
+
+def hold(paths, folder, *kinds):
+    """Every file has a name of its own in a folder that is there, and none of those that are read is written over."""
+    if not os.path.isdir(folder):
+        raise Stop(f'--out wants a folder, and {shown(folder)} is none: make it first')
+    if '-' in paths:
+        raise Stop('standard input has no name to be written under: give a file')
+    read_ones, places = {identity(path): path for path in paths}, set()
+    for place in (place for path in paths for place in targets(path, folder, *kinds)):
+        if place in places:
+            raise Stop(f'two files would be called {shown(os.path.basename(place))}, and --out is one folder')
+        places.add(place)
+        over = identity(place)
+        if over is not None and over in read_ones:
+            raise Stop(f'--out would write over {shown(read_ones[over])} itself: give another folder')

@@ -3,32 +3,15 @@ import argparse
 import os
 import sys
 
-from bench import files, outline, packing, programs, said
+from bench import cleaning, files, outline, packing, programs, said
 from bench.several import Done, go_through
+from bench.tables import curve_table, refused_row, table_head, table_row
 from shared.command import Stop, run, say
 
-VERBS = ('fit', 'check', 'plot', 'path', 'pack', 'unpack', 'explain')
-CURVE_HEAD = ('curve', 'first mark', 'last mark', 'worst mark', 'distance')
-HEAD = ('marks', 'curves', 'blocks', 'block size', 'largest distance', 'at mark', 'under curve')
+VERBS = ('fit', 'check', 'plot', 'path', 'clean', 'pack', 'unpack', 'explain')
 
 
 # ---- fit
-
-def table_row(name, wide, listed):
-    far, mark, curve = listed.far
-    cells = len(listed.marks), len(listed.curves), listed.blocks, listed.block_size, f'{said.millimetres(far, listed.tolerance)} mm', mark, curve
-    return name.ljust(wide) + ''.join(f'  {cell:>{len(title)}}' for title, cell in zip(HEAD, cells))
-
-
-def curve_table(listed):
-    """How far off each curve is, and where: a line for each, below a head."""
-    rows = [CURVE_HEAD]
-    for curve, (first, end, worst) in enumerate(zip(listed.firsts, listed.ends(), listed.worst)):
-        mark, far = ('-', 'no number') if worst is None else (worst[1], f'{said.millimetres(worst[0], listed.tolerance)} mm')
-        rows.append((curve, first, end, mark, far))
-    wides = [max(len(str(cell)) for cell in column) for column in zip(*rows)]
-    return ['  ' + ''.join(f'  {cell:>{wide}}' for cell, wide in zip(row, wides)) for row in rows]
-
 
 def fit_of(name, data, words):
     """The fit of a file's bytes, and the house file that holds it, which save writes; a ring's list stands in none, and the second engine's is not written."""
@@ -50,7 +33,7 @@ def fit_lines(path, words, wide):
     try:
         listed, made = fitted(path, words)
     except outline.Refused as refused:
-        return Done(1, [f'{name.ljust(wide)}  {said.refusal(refused.refusal, refused.marks)}'])
+        return Done(1, [refused_row(name, wide, refused)])
     lines = [table_row(name, wide, listed)]
     if words.curves:
         lines += curve_table(listed)
@@ -88,8 +71,7 @@ def fit(words):
     if words.listing:
         return go_through(words.name, lambda path: fit_listing(path, words), words.files)
     wide = max(len(files.shown(path)) for path in words.files)
-    head = 'file'.ljust(wide) + ''.join(f'  {title}' for title in HEAD)
-    return go_through(words.name, lambda path: fit_lines(path, words, wide), words.files, head)
+    return go_through(words.name, lambda path: fit_lines(path, words, wide), words.files, table_head(wide))
 
 
 # ---- check
@@ -149,9 +131,19 @@ def check(words):
 
 # ---- plot
 
+def clean_to_draw(name, data, words):
+    """The fit of a file's marks without those that cleaning drops."""
+    listed = cleaning.fitted(name, cleaning.salvaged(data), lambda name, made: fit_of(name, made, words)[0])
+    if not listed.marks:
+        raise Stop(f'{files.shown(words.file)}: {listed.cleaned.words()}; none is left to draw', 1)
+    return listed
+
+
 def to_draw(path, words):
-    """The list that a file holds, with the checker's verdict; of a file without curves, and of a closed outline, the fit."""
+    """The list that a file holds, with the checker's verdict; of a file without curves, of a closed outline, and of cleaned marks, the fit."""
     name, data = os.path.basename(files.shown(path)), files.read(path)
+    if words.clean:
+        return clean_to_draw(name, data, words)
     kind, *rest = ['NO CURVES'] if words.ring else outline.judged(data)
     if kind == 'NO CURVES':
         return fit_of(name, data, words)[0]
@@ -194,9 +186,10 @@ def plot(words):
     else:
         files.write(words.out, data)
         print(written(words.out, data))
-    if listed.verdict is None or listed.verdict.passed:
+    trouble = outline.trouble(listed)
+    if trouble is None:
         return 0
-    say(words.name, f'{files.shown(words.file)}: {listed.verdict.words}')
+    say(words.name, f'{files.shown(words.file)}: {trouble}')
     return 1
 
 
@@ -216,6 +209,12 @@ def path(words):
         data = wrapped(listed, data)
     sys.stdout.buffer.write((data + '\n').encode('utf-8'))
     return 0
+
+
+# ---- clean
+
+def clean(words):
+    return cleaning.go(words)
 
 
 # ---- pack, unpack
@@ -264,7 +263,7 @@ def add_flat(verb, more=''):
 
 
 def parser():
-    whole = Parser(prog='wesalondo', allow_abbrev=False, description='Fits the marks of house files by smooth curves, checks curves, draws them, writes them for a cutter, and packs files for keeping.',
+    whole = Parser(prog='wesalondo', allow_abbrev=False, description='Fits the marks of house files by smooth curves, checks curves, draws them, writes them for a cutter, cleans shaky traces, and packs files for keeping.',
                    epilog='example: wesalondo fit examples/cover.house. The programs behind it are proved and built on first use. '
                           'Exit status: 0 all good; 1 something is refused or faulty; 2 something could not be run.')
     verbs = whole.add_subparsers(metavar='VERB', required=True, parser_class=Parser)
@@ -289,6 +288,7 @@ def parser():
     verb.add_argument('file', metavar='FILE', help='a house file, or - for standard input')
     verb.add_argument('--ring', action='store_true', help='fit and draw a closed outline; curves that the file has are not looked at')
     add_flat(verb)
+    verb.add_argument('--clean', action='store_true', help='clean the marks, fit and draw those that are kept, and show in grey what is dropped; curves that the file has are not looked at')
     verb.add_argument('--out', metavar='OUT.svg', help='the file to write; without it the drawing goes to standard output')
     verb.add_argument('--tiles', metavar='A4|A3|WxH', help='an HTML file with a page for every sheet of this paper, to print and glue; W and H in millimetres')
 
@@ -298,6 +298,13 @@ def parser():
     verb.add_argument('--ring', action='store_true', help='a closed outline, which comes back to its first mark')
     add_flat(verb)
     verb.add_argument('--svg', action='store_true', help='print an SVG file with the path, which a browser or Inkscape opens at true scale')
+
+    verb = add_verb(verbs, clean, 'Writes each file without the marks that are out of range or equal the one before them, and a drawing that shows those in grey. That a fit takes what is kept is not promised.',
+                    'wesalondo clean rested.house --out cleaned --fit')
+    verb.add_argument('files', metavar='FILE', nargs='+', help='a house file of up to 512 marks; curves that it has are not kept')
+    verb.add_argument('--out', metavar='DIR', required=True, help='the folder to write to, each file under its own name and its drawing with .svg in place of the ending; not the folder that it is in')
+    verb.add_argument('--list', action='store_true', help='print a line for each dropped mark besides: its number and why')
+    verb.add_argument('--fit', action='store_true', help='fit what is kept too: draw the curves, and print what came of it as fit does')
 
     for call, words, example in (
             (pack, 'Packs each file: where two curves meet, the point is stored once, which makes the file smaller. Older Wesalondos do not read packed files.', 'wesalondo pack kept.house --out packed'),

@@ -44,6 +44,8 @@ class Listed:
         self.blocks = self.block_size = None  # of a fit alone
         self.worst = None    # for each curve the distance of its worst mark and the mark; None where a distance is no number
         self.verdict = None  # of a list that came in a file
+        self.cleaned = None  # what was dropped before the fit
+        self.refusal = None  # of cleaned marks that the fit did not take, in words
 
     def stops(self):
         """For each curve the mark behind those under it: a joint is under its later curve, and a ring's first mark comes again as its last."""
@@ -73,6 +75,11 @@ class Listed:
         return [(curve, *worst) for curve, (first, stop, worst) in enumerate(spans) if worst and worst[0] > 0 and stop - first >= LONG]
 
 
+def trouble(listed):
+    """Why the curves are not to be cut from, or why there are none; None where all is well."""
+    return listed.refusal if listed.verdict is None or listed.verdict.passed else listed.verdict.words
+
+
 def points(patterns):
     values = numbers(patterns)
     return list(zip(values[0::2], values[1::2]))
@@ -96,9 +103,13 @@ def value(answer, form, what):
     return found[1]
 
 
+def hand_both(program, data):
+    """What a program writes to a house file, on standard output and on standard error. Of one that is longer than it reads it gets a byte more than that, and refuses it."""
+    return programs.run_both(program, data[:files.TAKEN + 1])
+
+
 def hand(program, data):
-    """What a program writes to a house file. Of one that is longer than it reads it gets a byte more than that, and refuses it."""
-    return programs.run(program, data[:files.TAKEN + 1])
+    return hand_both(program, data)[0]
 
 
 def refused(number, program, data):

@@ -1,5 +1,4 @@
 """pack and unpack: house files with each joint once, and back. The proved calls do it, asked by a line of replay; here files are read and written."""
-import os
 import re
 
 from bench import files, outline, programs, said
@@ -9,27 +8,6 @@ from shared.command import Stop
 from shared.table import LINE_BYTES
 
 NO_ROOM, NO_FILE = '4', '9'
-
-
-# ---- where files are written
-
-def place(path, folder):
-    return os.path.join(folder, os.path.basename(path))
-
-
-def hold(paths, folder):
-    """Every file has a name of its own in a folder that is there, and none of those that are read is written over."""
-    if not os.path.isdir(folder):
-        raise Stop(f'--out wants a folder, and {files.shown(folder)} is none: make it first')
-    names = [os.path.basename(path) for path in paths]
-    for path, name in zip(paths, names):
-        if path == '-':
-            raise Stop('standard input has no name to be written under: give a file')
-        if names.count(name) > 1:
-            raise Stop(f'two of the files are called {files.shown(name)}, and --out is one folder')
-        target = place(path, folder)
-        if os.path.exists(path) and os.path.exists(target) and os.path.samefile(path, target):
-            raise Stop(f'--out would write over {files.shown(path)} itself: give another folder')
 
 
 # ---- one file
@@ -75,11 +53,11 @@ def convert(verb, path, folder):
         made = converted(verb, name, data)
     except outline.Refused as refused:
         return Done(1, [f'{name}: {said.refusal(refused.refusal)}{reason(data) if str(refused.refusal) == NO_FILE else ""}'])
-    files.write(place(path, folder), made)
+    files.write(files.targets(path, folder)[0], made)
     return Done(0, [f'{name}: {told(data, made)}'])
 
 
 def go(verb, words):
-    hold(words.files, words.out)
+    files.hold(words.files, words.out)
     programs.ready()
     return go_through(words.name, lambda path: convert(verb, path, words.out), words.files)

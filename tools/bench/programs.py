@@ -13,18 +13,23 @@ from shared.command import Stop, say
 from shared.crates import CRATES, reach, read_crates
 from shared.kept import ROOT, replace
 
-NAMES = ('judge', 'save', 'replay')
+NAMES = ('judge', 'save', 'replay', 'salvage')
 RUNNER = os.path.join(ROOT, 'tools', 'run_program')
 TARGET = os.path.join(ROOT, 'target')
 STAMP, LOCK, LOG = (os.path.join(TARGET, f'wesalondo.{part}') for part in ('stamp', 'lock', 'log'))
 
 
-def run(name, data):
-    """What a program writes to these bytes."""
+def run_both(name, data):
+    """What a program writes to these bytes, on standard output and on standard error."""
     done = subprocess.run([RUNNER, name], input=data, capture_output=True)
     if done.returncode:
         raise Stop(done.stderr.decode('utf-8', 'replace') or f'the program {name} ended with status {done.returncode}')
-    return done.stdout
+    return done.stdout, done.stderr
+
+
+def run(name, data):
+    """What a program writes to these bytes on standard output."""
+    return run_both(name, data)[0]
 
 
 # ---- whether they are there

@@ -59,6 +59,11 @@ def plus(x, y, r):
     return f'M{num(x - r)} {num(y)}h{num(2 * r)}m{num(-r)} {num(-r)}v{num(2 * r)}'
 
 
+def titled(words, thing):
+    """A thing with words that show where a pointer rests on it."""
+    return f'<g><title>{escaped(words)}</title>{thing}</g>'
+
+
 def diamond(x, y, r, colour, wide):
     return path(f'M{num(x - r)} {num(y)}l{num(r)} {num(-r)}l{num(r)} {num(r)}l{num(-r)} {num(r)}z', look('none', colour, wide))
 
@@ -77,9 +82,14 @@ def text(x, y, size, words, colour=INK, anchor='start'):
     return f'<text x="{num(x)}" y="{num(y)}" font-size="{num(size)}" fill="{colour}" text-anchor="{anchor}">{escaped(words)}</text>'
 
 
+def coloured_lines(x, y, size, step, lines):
+    """Lines of text, each with its colour, one below the other."""
+    return [text(x, y + i * step, size, words, colour) for i, (colour, words) in enumerate(lines)]
+
+
 def lines_of(x, y, size, step, lines, colour=INK):
-    """Lines of text, one below the other."""
-    return [text(x, y + i * step, size, words, colour) for i, words in enumerate(lines)]
+    """Lines of text of one colour."""
+    return coloured_lines(x, y, size, step, [(colour, words) for words in lines])
 
 
 def bar(x, y, tick, wide):

@@ -3,8 +3,8 @@ import math
 import re
 
 from bench.curves import grown, inside
-from bench.draw import Outline, Picture, alarm, notes_of, round_box, title, verdict, window
-from bench.svg import FONTS, GREY, INK, RED, WIDE, bar, escaped, group, look, num, path, rounded, target, text, wrapped
+from bench.draw import Outline, Picture, alarm, coloured_notes, round_box, title, verdict, window
+from bench.svg import FONTS, GREY, INK, RED, WIDE, bar, coloured_lines, escaped, group, look, num, path, rounded, target, text, wrapped
 from shared.command import Stop
 
 PAPERS = {'A4': (210.0, 297.0), 'A3': (297.0, 420.0)}
@@ -43,14 +43,16 @@ class Band:
         beside = room >= 104 + WIDE * NAME * len('Row 100 of 100, column 100 of 100; sheet 100 of 100')
         self.name = (104, 6) if beside else (0, 11)
         self.red = wrapped(alarm(outline.listed), room, SMALL)
-        notes = [note for note in notes_of(outline) if not (self.red and note == verdict(outline.listed))]
-        self.lines = [words for note in advice + notes for words in wrapped(note, room, SMALL)]
+        notes = [(INK, note) for note in advice] + coloured_notes(outline)
+        if self.red and outline.listed.verdict:
+            notes.remove((INK, verdict(outline.listed)))
+        self.lines = [(colour, words) for colour, note in notes for words in wrapped(note, room, SMALL)]
         self.tall = math.ceil(self.name[1] + 4.2 + (len(self.red) + (2 if advice else 1) + len(self.lines) - 0.5) * STEP)
 
     def svg(self, scale):
         """What is the same on all sheets; `scale` are the lines on what to measure: two, or one where there is one sheet."""
-        lines = [(RED, words) for words in self.red] + [(INK, words) for words in scale + self.lines]
-        return group('id="band"', bar(0, 6, 4, 0.3) + [text(0, self.name[1] + 4.2 + i * STEP, SMALL, words, colour) for i, (colour, words) in enumerate(lines)])
+        lines = [(RED, words) for words in self.red] + [(INK, words) for words in scale] + self.lines
+        return group('id="band"', bar(0, 6, 4, 0.3) + coloured_lines(0, self.name[1] + 4.2, SMALL, STEP, lines))
 
 
 # ---- the sheets over the drawing
