@@ -6,9 +6,10 @@ import unittest
 import xml.etree.ElementTree
 
 import support
+from bench.cleaning import EQUAL, RANGE, Cleaned, Drop, spans
 from bench.curves import at, cover, extent, seam_angle
 from bench.draw import draw
-from bench.svg import COLOURS, RED, WIDE
+from bench.svg import COLOURS, GREY, RED, WIDE
 from bench.tiles import CROSS, JOIN, LEAST, MARGIN, MOST, OVERLAP, Tiles, cross_places, paper_of, tiles
 from shared.command import Stop
 
@@ -32,6 +33,18 @@ def listed(marks, curves=None, **rest):
     ring = rest.get('ring', False)
     fields = dict(name='x.house', ring=ring, tolerance=0.5, marks=marks, firsts=None, params=None, blocks=None, block_size=None, far=(0.25, 1, 0), long=[], verdict=None, refusal=None, cleaned=None)
     return types.SimpleNamespace(**{**fields, **rest}, curves=chords(marks, ring) if curves is None else curves)
+
+
+def cleaned(marks, equal=(), wild=()):
+    """What was dropped before these marks were kept: numbers that equalled a mark, and numbers and places out of range."""
+    drops = [Drop(number, EQUAL, marks[of], of) for of, numbers in equal for number in numbers] + [Drop(number, RANGE, point, None) for number, point in wild]
+    return Cleaned(b'', len(marks) + len(drops), sorted(drops))
+
+
+def grey_rings(drawn):
+    """(place, words) of each grey ring about a mark: it is drawn in its layer's grey, and shows its words where a pointer rests on it."""
+    groups = [group for group in drawn.iter(f'{SVG}g') if group.get('stroke') == GREY and group.get('fill') == 'none']
+    return [((float(ring.get('cx')), float(ring.get('cy'))), one.find(f'{SVG}title').text) for group in groups for one in group for ring in one.iter(f'{SVG}circle')]
 
 
 def verdict(passed, words):
@@ -259,6 +272,57 @@ class Sheets(unittest.TestCase):
             for x, y in corners + [at(curve, i / 300) for curve in curves_of(drawn) for i in range(301)]:
                 self.assertFalse(any(left < x < right and top < y < low for left, top, right, low in boxes), (x, y))
 
+    def test_dropped(self):
+        """A grey ring about each mark that others equalled, with their numbers on it and beside it; those out of range stand in grey below the drawing. Without any there is no word of them."""
+        marks = wheel(12, 300)
+        drawn = self.drawn(marks, cleaned=cleaned(marks, [(2, [3, 4, 5]), (7, [11])], [(0, (math.nan, 2.5)), (13, (-1e9, 0.05))]))
+        places = [place for place, _ in crosses_of(drawn)]
+        self.assertEqual(grey_rings(drawn), [(places[2], 'dropped: 3 to 5'), (places[7], 'dropped: 11')])
+        beside = {words: box for words, box in label_boxes(drawn) if words in ('3 to 5', '11')}
+        self.assertEqual(len(beside), 2)
+        grey = all_words(drawn, GREY)
+        for piece in ('3 to 5', 'Cleaned: 6 of 18 marks dropped.', 'Equal to the last one kept (grey rings): 3 to 5, 11.', 'on no sheet: 0 (x NaN, y 2.5); 13 (x -1000000000, y 0.05).', 'those of the file as it was'):
+            self.assertIn(piece, grey)
+        ((_, bar, _, _),) = bars_of(drawn)
+        self.assertEqual([float(found.get('y')) > bar for found in drawn.iter(f'{SVG}text') if 'NaN' in found.text], [True])
+        self.assertIn('x.house, cleaned: 12 marks, 11 curves', all_words(drawn))
+        self.assertIn('dropped', [text.text for text in drawn.iter(f'{SVG}text')])
+        none, plain = self.drawn(marks, cleaned=cleaned(marks)), self.drawn(marks)
+        self.assertEqual((all_words(none, GREY), grey_rings(none)), ('Cleaned: 0 of 12 marks dropped.', []))
+        self.assertEqual((all_words(plain, GREY), grey_rings(plain)), ('', []))
+        for without in (none, plain):
+            self.assertNotIn('dropped', [text.text for text in without.iter(f'{SVG}text')])
+        self.assertEqual([self.page(one)[0] for one in (drawn, none)], [self.page(plain)[0]] * 2)
+
+    def test_many_dropped(self):
+        """As many as the program drops: a few are named and the others counted, all rings are there, and no words run off the page."""
+        marks = wheel(60, 300)
+        equal = [(k, [8 * k + j for j in (1, 3, 5)]) for k in range(60)]
+        drawn = self.drawn(marks, cleaned=cleaned(marks, equal, [(500 + k, (math.inf, -math.inf)) for k in range(200)]))
+        self.assertEqual(len(grey_rings(drawn)), 60)
+        grey = all_words(drawn, GREY)
+        self.assertIn('(grey rings): 1, 3, 5, 9, 11, 13, 17, 19 and 172 more.', grey)
+        self.assertIn('507 (x infinity, y -infinity); and 192 more.', grey)
+        wide, tall = self.page(drawn)
+        for found in drawn.iter(f'{SVG}text'):
+            x, y, size = (float(found.get(name)) for name in ('x', 'y', 'font-size'))
+            self.assertTrue(0 < x < wide and size < y < tall, found.text)
+
+    def test_spans(self):
+        for numbers, words in (([], ''), ([4], '4'), ([4, 5], '4, 5'), ([4, 5, 6], '4 to 6'), ([0, 2, 3, 4, 9], '0, 2 to 4, 9'), (range(186, 416), '186 to 415'), (range(0, 34, 2), '0, 2, 4, 6, 8, 10, 12, 14 and 9 more')):
+            self.assertEqual(spans(numbers), words)
+
+    def test_marks_by_themselves(self):
+        """Without curves the marks are drawn, and no sign or word of a curve; what the fit says stands in red."""
+        for marks in (wheel(12, 100), [(3.0, 5.0)]):
+            drawn = self.drawn(marks, [], far=None, cleaned=cleaned(marks, [(0, [1])]), refusal='refused 1, too few')
+            self.assertEqual((len(curves_of(drawn)), len(crosses_of(drawn)), len(grey_rings(drawn))), (0, len(marks) + 4 + 1, 1))  # the page's corners and the sign in the band
+            self.assertEqual(all_words(drawn, RED), 'Not fitted. refused 1, too few')
+            self.assertIn('The marks by themselves: no curves are fitted.', all_words(drawn))
+            for word in ('curves', 'joint', 'worst', 'farthest mark'):
+                self.assertNotIn(word, [text.text for text in drawn.iter(f'{SVG}text')])
+            self.assertLess(max(self.page(drawn)), 320)
+
     def test_small(self):
         """Two marks on one spot, and a straight line of no height."""
         for marks in ([(3.0, 5.0), (3.0, 5.0)], [(0.0, 0.0), (9.0, 0.0)]):
@@ -455,6 +519,22 @@ class Pages(unittest.TestCase):
         self.assertEqual(all_words(band).count('fault B'), 1)
         (section,) = self.made('A4', wheel(9, 50), verdict=verdict(True, 'passed'))[1].values()
         self.assertIn('The list checker says: passed', all_words(section))
+
+    def test_dropped(self):
+        """Grey rings stand on the sheets that hold them, and the notes in grey on every one; marks out of range ask for no sheet."""
+        marks = wheel(100, 300)
+        wild = [(200 + k, (1e300, math.nan)) for k in range(5)]
+        made, sheets = self.made('A4', marks, cleaned=cleaned(marks, [(0, [1]), (50, [60, 61, 62])], wild))
+        self.assertEqual(set(sheets), set(self.made('A4', marks)[1]))
+        for place, words in ((made.picture.put(marks[0]), 'dropped: 1'), (made.picture.put(marks[50]), 'dropped: 60 to 62')):
+            for sheet, section in sheets.items():
+                left, top, right, low = made.grid.frame(sheet)
+                if left <= place[0] <= right and top <= place[1] <= low:
+                    self.assertIn(words, [found for _, found in grey_rings(section)])
+            self.assertIn(words, [found for section in sheets.values() for _, found in grey_rings(section)])
+        (band,) = [group for section in sheets.values() for group in section.iter(f'{SVG}g') if group.get('id') == 'band']
+        self.assertIn('204 (x 1e+300, y NaN).', all_words(band, GREY))
+        self.assertNotIn('grey', all_words(next(iter(self.made('A4', marks)[1].values())), GREY))
 
     def test_wild_curves(self):
         """A curve that runs off asks for no sheet outside the drawing, and one that is nowhere for none at all."""
