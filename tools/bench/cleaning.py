@@ -51,21 +51,26 @@ def drops_of(marks, causes):
     return drops, kept
 
 
-def salvaged(data):
-    """What salvage makes of a file. Each mark is in the file that it writes or in its list; a program that says something else is not the one that was proved."""
+def asked(data):
+    """The file that salvage writes, and its list taken apart: how many it keeps and drops, and number and cause of each dropped one."""
     made, listed = outline.hand_both('salvage', data)
     text = listed.decode('latin-1')
-    refused = re.fullmatch('REFUSED ([1-9])\n', text)
+    refused, found = re.fullmatch('REFUSED ([1-9])\n', text), re.fullmatch(LIST, text)
     if refused:
         raise outline.refused(refused[1], 'salvage', data)
-    found = re.fullmatch(LIST, text)
     if not found:
         raise Stop(f'salvage gives no list: it says {text[:60]!r}')
-    before, after = outline.taken_apart(data, 'salvage'), outline.taken_apart(made, 'salvage')
     lines = [line.split(' ')[1:] for line in found[3].split('\n')[:-1]]
-    drops, kept = drops_of(before.marks, {int(number): cause for number, cause in lines})
-    if [str(drop.number) for drop in drops] != [number for number, _ in lines] or (int(found[1]), int(found[2])) != (after.count, len(drops)):
-        raise Stop(f'salvage does not list what it drops: it says {text[:60]!r}')
+    return made, [int(found[1]), int(found[2])], [(int(number), cause) for number, cause in lines]
+
+
+def salvaged(data):
+    """What salvage makes of a file. Each mark is in the file that it writes or in its list; a program that says something else is not the one that was proved."""
+    made, counts, lines = asked(data)
+    before, after = outline.taken_apart(data, 'salvage'), outline.taken_apart(made, 'salvage')
+    drops, kept = drops_of(before.marks, dict(lines))
+    if [drop[:2] for drop in drops] != lines or counts != [after.count, len(drops)]:
+        raise Stop('salvage does not list what it drops')
     if (after.tolerance, after.marks, after.curves) != (before.tolerance, kept, []):
         raise Stop('salvage drops other marks than it lists')
     return Cleaned(made, before.count, drops)

@@ -41,5 +41,6 @@ fn main() {
     let mut out = clean_room();
     let mut report = list_room();
     let got = io::read_full(STDIN_FILENO, &mut file);
-    print_salvaged(salvage_file(&file[..got], &mut out, &mut report), &out, &report);
+    let salvaged = salvage_file(&file[..got], &mut out, &mut report);
+    print_salvaged(salvaged, &out, &report);
 }
