@@ -254,12 +254,12 @@ def lost():
     return house(0.5, marks)
 
 
-def rested():
+def pressed():
     """The button pressed three times with the puck at rest."""
     return house(0.5, [(412.35, 118.6)] * 3)
 
 
-def paused():
+def rested():
     """A bimini's edge of 2.4 m at the table's full rate, with the hand at rest on the puck at mark 185: 480 marks, of which 231 are one. From 200 to 400, a whole block, nothing moves."""
     hand = random.Random(9)
 
@@ -291,7 +291,7 @@ def settle(make, write):
 def main(words):
     if words not in ([], ['--write']):
         raise Stop('usage: tools/make_examples.py [--write]')
-    well = [settle(make, bool(words)) for make in (cover, luff, window, hood, genoa, dart, tender, mainsail, cushion, lost, rested, paused)]
+    well = [settle(make, bool(words)) for make in (cover, luff, window, hood, genoa, dart, tender, mainsail, cushion, lost, pressed, rested)]
     return 0 if all(well) else 1
 
 

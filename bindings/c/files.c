@@ -343,7 +343,7 @@ static void bad_texts(void) {
     example[4] ^= 1;
     expect_lines("another kind", example, size, r9, r9, r9);
     expect_lines("a mark that is NaN", example, load_example("lost"), r5, "NO CURVES 24\n", r5);
-    expect_lines("equal marks", example, load_example("rested"), r6, "NO CURVES 3\n", r6);
+    expect_lines("equal marks", example, load_example("pressed"), r6, "NO CURVES 3\n", r6);
     expect_lines("one mark", composed, compose(composed, 1, many, 1, 8, 0, NULL, NULL, NULL, NULL), r1, "NO CURVES 1\n", r1);
     /* The listing takes no file of more than 65,536 bytes, so that 4,097 marks are badly formed to it. */
     straight(many, MOST_MARKS);
