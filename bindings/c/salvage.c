@@ -277,7 +277,8 @@ static void broken_files(void) {
     unsuited(NARROW_MARKS + 1, 3, 6);
 }
 
-/* ---- The examples, by examples/README.md; and what a fit says before and after. It is not promised that it takes what is left. */
+/* ---- The examples, by examples/README.md, and what a fit says before and after: it is not promised that it takes what is left. `said` is
+   what a list begins with. */
 
 static void expect_fits(const char *why, uint32_t before, uint32_t after) {
     static Slices slices;
@@ -296,7 +297,7 @@ static void expect_example(const char *folder, const char *name, size_t count, c
     memcpy(&tolerance, file + 6, sizeof tolerance);
     memcpy(marks, file + 20, 16 * n);
     foretell();
-    CHECK(strlen(said) == list_size && memcmp(list, said, list_size) == 0, "%s: %.*s", name, (int)list_size, list);
+    CHECK(strlen(said) <= list_size && memcmp(list, said, strlen(said)) == 0, "%s: %.*s", name, (int)list_size, list);
     expect_rooms(name, file_size);
     expect_fits(name, before, after);
 }
@@ -321,6 +322,7 @@ int main(int argc, char **argv) {
     long_traces();
     broken_files();
     expect_example(argv[1], "rested", 3, "KEPT 1 DROPPED 2\nDROP 1 EQUAL\nDROP 2 EQUAL\n", 6, 1);
+    expect_example(argv[1], "paused", 480, "KEPT 250 DROPPED 230\nDROP 186 EQUAL\nDROP 187 EQUAL\n", 6, 0);
     expect_example(argv[1], "lost", 24, "KEPT 23 DROPPED 1\nDROP 11 RANGE\n", 5, 0);
     expect_example(argv[1], "cover", 142, "KEPT 142 DROPPED 0\n", 0, 0);
     expect_example(argv[1], "cushion", 85, "KEPT 85 DROPPED 0\n", 0, 0);
