@@ -14,7 +14,7 @@ typedef struct {
     uint64_t marks, firsts, worsts, curves, params, out;
 } Head;
 
-static uint8_t cases[ALL], answers[ALL], file[FILE_ROOM], out[FILE_ROOM];
+static uint8_t cases[ALL], answers[ALL], file[FILE_ROOM], out[FILE_ROOM], list[NUMBERS];
 static size_t file_size;
 static double tolerance, marks[NUMBERS], curves[NUMBERS], params[PARAMS];
 static uint32_t firsts[FIRSTS], worsts[FIRSTS];
@@ -40,7 +40,7 @@ static uint32_t read_into_room(size_t size, const Head *head) {
                          params, head->params, &mark_count, &curve_count, &nine);
 }
 
-static void list(const Head *head) {
+static void list_curves(const Head *head) {
     size_t size;
     uint32_t number = wes_list_outline(file, file_size, out, head->out, &size);
     if (number != 0)
@@ -111,28 +111,48 @@ static uint32_t unpack_into_room(size_t size, const Head *head) {
     return wes_unpack_file(file, size, out, head->out, &made);
 }
 
-/* The answer, and a digest of all bytes that were lent, turned by five bits for each. */
+/* A digest of all bytes that were lent, turned by five bits for each. */
+static void say_digest(const uint8_t *lent, size_t size, const char *behind) {
+    uint64_t digest = 0;
+    for (size_t i = 0; i < size; i++) digest = (digest << 5 | digest >> 59) + lent[i];
+    said_size += (size_t)snprintf(said + said_size, 32, "%016lx%s", digest, behind);
+}
+
 static void pack_or_unpack(FileCall *call, const Head *head) {
     size_t size;
-    uint64_t digest = 0;
     memset(out, 7, head->out);
     uint32_t number = call(file, file_size, out, head->out, &size);
     say_count(number, " ");
     if (number == 0) say_count(size, " ");
-    for (size_t i = 0; i < head->out; i++) digest = (digest << 5 | digest >> 59) + out[i];
-    said_size += (size_t)snprintf(said + said_size, 32, "%016lx\n", digest);
+    say_digest(out, head->out, "\n");
+}
+
+/* The list has the room that the head gives for marks. */
+static void salvage(const Head *head) {
+    size_t size, list_size;
+    memset(out, 7, head->out);
+    memset(list, 7, head->marks);
+    uint32_t number = wes_salvage(file, file_size, out, head->out, list, head->marks, &size, &list_size);
+    say_count(number, " ");
+    if (number == 0) {
+        say_count(size, " ");
+        say_count(list_size, " ");
+    }
+    say_digest(out, head->out, " ");
+    say_digest(list, head->marks, "\n");
 }
 
 static void answer(const Head *head) {
     said_size = 0;
     switch (head->what) {
-    case 0: list(head); break;
+    case 0: list_curves(head); break;
     case 2: prefixes(read_into_room, head); break;
     case 3: changes(read_into_room, head); break;
     case 6: pack_or_unpack(wes_pack_file, head); break;
     case 7: pack_or_unpack(wes_unpack_file, head); break;
     case 8: prefixes(unpack_into_room, head); break;
     case 9: changes(unpack_into_room, head); break;
+    case 10: salvage(head); break;
     default: read_and_write(head);
     }
 }

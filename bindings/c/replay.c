@@ -214,29 +214,46 @@ static void import_case(void) {
     for (size_t i = 0; i < 8 * count; i++) say_number(curves[i]);
 }
 
-/* ---- Packed files */
+/* ---- House files, two digits a byte */
 
-static uint8_t given[TEXT / 2], made[TEXT / 2];
+static uint8_t given[TEXT / 2], made[TEXT / 2], list[TEXT / 4];
 
 static unsigned digit(char c) { return (unsigned)(c <= '9' ? c - '0' : c - 'a' + 10); }
 
-/* All that is behind the blank is the file, two digits a byte. */
-static void file_case(FileCall *call) {
-    size_t size = 77, count = (size_t)(line_end - at - 1) / 2;
+/* All that is behind the blank is the file. */
+static size_t take_file(void) {
+    size_t count = (size_t)(line_end - at - 1) / 2;
     for (size_t i = 0; i < count; i++) given[i] = (uint8_t)(16 * digit(at[2 * i + 1]) + digit(at[2 * i + 2]));
     at = line_end;
-    uint32_t number = call(given, count, made, sizeof made, &size);
-    say_count(number);
-    if (number != 0) return;
+    return count;
+}
+
+static void say_bytes(const uint8_t *bytes, size_t size) {
     *answer_end++ = ' ';
     for (size_t i = 0; i < size; i++) {
-        *answer_end++ = "0123456789abcdef"[made[i] / 16];
-        *answer_end++ = "0123456789abcdef"[made[i] % 16];
+        *answer_end++ = "0123456789abcdef"[bytes[i] / 16];
+        *answer_end++ = "0123456789abcdef"[bytes[i] % 16];
     }
+}
+
+static void file_case(FileCall *call) {
+    size_t size = 77, count = take_file();
+    uint32_t number = call(given, count, made, sizeof made, &size);
+    say_count(number);
+    if (number == 0) say_bytes(made, size);
 }
 
 static void pack_case(void) { file_case(wes_pack_file); }
 static void unpack_case(void) { file_case(wes_unpack_file); }
+
+static void salvage_case(void) {
+    size_t size = 77, list_size = 77, count = take_file();
+    uint32_t number = wes_salvage(given, count, made, sizeof made, list, sizeof list, &size, &list_size);
+    say_count(number);
+    if (number != 0) return;
+    say_bytes(made, size);
+    say_bytes(list, list_size);
+}
 
 /* ---- Kinds */
 
@@ -271,6 +288,7 @@ static Kind kinds[] = {
     {"import", import_case, 0},
     {"pack", pack_case, 0},
     {"unpack", unpack_case, 0},
+    {"salvage", salvage_case, 0},
 };
 
 enum { KINDS = COUNT(kinds) };

@@ -59,8 +59,8 @@ static void draw(size_t number) {
 
 static double curves[9 * LONG], eight[8 * LONG], params[LONG + 1], out8[8], more8[8], x, y;
 static uint32_t firsts[LONG], worsts[LONG], open[2 * LONG], answer;
-static uint8_t file[LONGEST_FILE], text[LONGEST_FILE];
-static size_t made, file_size, size, curve, mark;
+static uint8_t file[LONGEST_FILE], text[LONGEST_FILE], report[55 + 21 * LONG];
+static size_t made, file_size, size, report_size, curve, mark;
 static bool nine;
 
 static void fit_from(size_t fit, const double *from) {
@@ -107,6 +107,7 @@ static void drawn_text(void) {
 /* ---- The calls */
 
 static void unpack_file(void) { answer = wes_unpack_file(file, file_size, text, sizeof text, &size); }
+static void salvage(void) { answer = wes_salvage(file, file_size, text, sizeof text, report, sizeof report, &size, &report_size); }
 static void import_path(void) { answer = wes_import_path(text, size, curves, 9 * LONG, &made, &nine); }
 static void fit_joined(void) { fit_from(JOINED, marks); }
 static void fit_ring(void) { fit_from(RING, marks); }
@@ -177,6 +178,7 @@ static const struct {
     {"wes_read_file", curves_file, read_file},
     {"wes_pack_file", curves_file, pack_file},
     {"wes_unpack_file", packed_file, unpack_file},
+    {"wes_salvage", all_marks, salvage},
     {"wes_fit_ring", all_marks, fit_ring},
     {"wes_check_worst_ring", all_marks, check_worst_ring},
     {"wes_check_ring", eights, check_ring},

@@ -10,8 +10,8 @@
    zero; a parameter or an estimate is finite; a dimension is 0 or 1; there are at most 64 rounds of Newton's.
 
    LIMITS, behind refusal 2. The fits by blocks, the checkers, wes_read_file and wes_write_file take up to 100,000 marks; wes_fit_curve_cubic,
-   wes_fit_curve_cubic_flat and wes_list_outline 512; wes_judge_file and wes_save_fit 4,096, and files of up to 434,120 bytes, with 9 above; wes_pack_file and
-   wes_unpack_file any number.
+   wes_fit_curve_cubic_flat and wes_list_outline 512; wes_judge_file and wes_save_fit 4,096, and files of up to 434,120 bytes, with 9 above; wes_pack_file,
+   wes_unpack_file and wes_salvage any number.
 
    SLICES. A slice is a pointer and how many elements it has (`marks`, `marks_len`). Marks are x and y in turn, so n marks are a slice of 2n numbers.
    An empty slice may be NULL with length 0. A call never reads or writes beyond a slice, whatever the numbers in it, and ends on every input.
@@ -225,6 +225,16 @@ uint32_t wes_pack_file(const uint8_t *file, size_t file_len, uint8_t *restrict o
 /* Unpacks a file: gives the bytes that were packed, for which 22 more for each curve are room. A file without curves stays as it is. Refusals: 9 (also a
    file with curves that is not packed), 4, in this order. */
 uint32_t wes_unpack_file(const uint8_t *file, size_t file_len, uint8_t *restrict out, size_t out_len, size_t *restrict size);
+
+/* Cleans a shaky trace. Of a file's marks, packed or not, it drops each that has a coordinate that is not finite or exceeds 1,000,000 in magnitude (RANGE), and else
+   each that is equal in both coordinates to the last one kept (EQUAL; as numbers, so that minus zero equals zero). The tolerance and the marks kept, with their
+   bits as they were, make a file without curves in the first `size` bytes of `out`, and the list of the others is the text in the first `report_size` bytes of
+   `report`: "KEPT k DROPPED d\n", then "DROP number RANGE\n" or "DROP number EQUAL\n" for each in order, by its number in the file given, counted from 0. As many
+   bytes as the file has are room for every cleaned one, and 55 and 21 for each mark for every list. A cleaned file that is cleaned again stays as it is, and nothing
+   is dropped. It is not promised that a fit takes it: there may be one mark left (1), or marks so near to each other that they still make it answer 6, or a
+   tolerance out of range (5). Refusals: 9, 4 (where either slice is too short), in this order; both slices stay as they were then. */
+uint32_t wes_salvage(const uint8_t *file, size_t file_len, uint8_t *restrict out, size_t out_len, uint8_t *restrict report, size_t report_len,
+                     size_t *restrict size, size_t *restrict report_size);
 
 /* ---- Path data, as SVG 1.1 has it: one subpath of absolute M, L, C and Z. */
 

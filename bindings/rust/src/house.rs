@@ -11,7 +11,7 @@ use crate::verdict::Verdict;
 const LEAST: usize = 20;
 
 /// The bytes of a mark, and of a parameter.
-const MARK: usize = 16;
+pub(crate) const MARK: usize = 16;
 const PARAM: usize = 8;
 
 /// The bytes of a record's head.

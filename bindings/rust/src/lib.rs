@@ -20,11 +20,12 @@
 //! - Checkers, of any list of curves: [`Fit::check`], [`check_worst`], [`check_list`] and others.
 //! - One curve: [`basis`], [`subdivide4`], [`nearest_point_on_curve`] and others.
 //! - Path data for a cutter: [`Fit::export_path`], [`export_path`], [`import_path`].
-//! - House files: [`read_file`], [`write_file`], [`save_fit`], [`judge_file`], [`list_outline`]; for keeping [`pack_file`], [`unpack_file`].
+//! - House files: [`read_file`], [`write_file`], [`save_fit`], [`judge_file`], [`list_outline`]; for keeping [`pack_file`], [`unpack_file`]; of a hand that shook or
+//!   rested [`salvage`].
 //! - [`sys`] has the library's own calls.
 //!
 //! A call ends on every input, and says no by a [`Refusal`]. Outlines, lists and house files have up to 100,000 marks; 512 are taken by [`fit_curve_cubic`],
-//! [`fit_curve_cubic_flat`] and [`list_outline`], and 4,096 by [`judge_file`] and [`save_fit`]. A fit of n marks asks for some 88n bytes of memory, a flat one
+//! [`fit_curve_cubic_flat`] and [`list_outline`], 4,096 by [`judge_file`] and [`save_fit`], and any number by [`pack_file`], [`unpack_file`] and [`salvage`]. A fit of n marks asks for some 88n bytes of memory, a flat one
 //! for 96n, and keeps what its curves take.
 //!
 //! # What the caller still owes
@@ -50,6 +51,7 @@ mod numbers;
 mod path;
 mod point;
 mod refusal;
+mod salvage;
 pub mod sys;
 mod text;
 mod verdict;
@@ -71,5 +73,6 @@ pub use numbers::{joined_blocks, max_points_to_fit, sqrt};
 pub use path::{export_path, import_path, Path};
 pub use point::{Curve, Point};
 pub use refusal::{Refusal, UnknownNumber};
+pub use salvage::{salvage, Cause, Dropped, Salvaged};
 pub use text::{judge_file, list_outline, pack_file, save_fit, unpack_file, Judgement};
 pub use verdict::{Fault, FaultKind, Verdict};

@@ -17,7 +17,8 @@ pub enum Refusal {
     NoRoom,
     /// An input number is out of range.
     OutOfRange,
-    /// An operation of the run gave NaN or infinity; with a fit nearly always because three or more marks lie on one spot.
+    /// An operation of the run gave NaN or infinity; with a fit nearly always because three or more marks lie on one spot; [`salvage`](crate::salvage) drops
+    /// marks that pile up.
     NotFinite,
     /// The search for the nearest point went too deep.
     TooDeep,

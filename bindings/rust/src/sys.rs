@@ -9,7 +9,8 @@
 //! `curves`, n-1 in `firsts` and in `worsts`, and n in `params`; for a ring 9n, n, n and n+1. A flat fit, of a ring too, also wants 2n in `open`.
 //!
 //! More marks than a call takes are refusal 2: the fits by blocks, the checkers, `wes_read_file` and `wes_write_file` take 100,000, `wes_fit_curve_cubic`,
-//! `wes_fit_curve_cubic_flat` and `wes_list_outline` 512, `wes_judge_file` and `wes_save_fit` 4,096, `wes_pack_file` and `wes_unpack_file` any number.
+//! `wes_fit_curve_cubic_flat` and `wes_list_outline` 512, `wes_judge_file` and `wes_save_fit` 4,096, `wes_pack_file`, `wes_unpack_file` and
+//! `wes_salvage` any number.
 //!
 //! # Safety
 //!
@@ -202,6 +203,15 @@ extern "C" {
     /// Unpacks a file: gives the bytes that were packed, for which 22 more for each curve are room. A file without curves stays as it is. Refusals: 9
     /// (also a file with curves that is not packed), 4, in this order.
     pub fn wes_unpack_file(file: *const u8, file_len: usize, out: *mut u8, out_len: usize, size: *mut usize) -> u32;
+
+    /// Cleans a file's marks: drops each with a coordinate that is not finite or exceeds 1,000,000 in magnitude, and else each that is equal to the last one
+    /// kept. The file of the others goes into the first `size` bytes of `out`, for which as many as the file has are room, and the list of what was dropped
+    /// into the first `report_size` bytes of `report`, for which 55 and 21 for each mark are. That a fit takes what is kept is not promised. Refusals: 9, 4,
+    /// in this order.
+    pub fn wes_salvage(
+        file: *const u8, file_len: usize, out: *mut u8, out_len: usize, report: *mut u8, report_len: usize, size: *mut usize,
+        report_size: *mut usize,
+    ) -> u32;
 
     // ---- path data, as SVG 1.1 has it: one subpath of absolute M, L, C and Z
 

@@ -57,7 +57,7 @@ fn words(text: &[u8]) -> String {
 }
 
 /// A number in such a text.
-fn numeral<N: std::str::FromStr>(word: &str) -> N {
+pub(crate) fn numeral<N: std::str::FromStr>(word: &str) -> N {
     word.parse().unwrap_or_else(|_| panic!("{word:?} is no number: libwesalondo.a is newer than this crate"))
 }
 
@@ -77,15 +77,15 @@ pub fn judge_file(file: &[u8]) -> Result<Judgement, Refusal> {
         ["NO", "CURVES", marks] => Ok(Judgement::NoCurves { marks: numeral(marks) }),
         ["FAULT", letter, curve, mark] => match letter.chars().next().and_then(FaultKind::of_letter) {
             Some(kind) => Ok(Judgement::Faulty(Fault { kind, curve: numeral(curve), mark: numeral(mark) })),
-            None => unknown(&line),
+            None => newer(&line),
         },
-        _ => unknown(&line),
+        _ => newer(&line),
     }
 }
 
-/// Says that the judge's line is none that this crate knows.
-fn unknown(line: &str) -> ! {
-    panic!("the judge's line {line:?} is not known: libwesalondo.a is newer than this crate")
+/// Says that a line is none that this crate knows.
+pub(crate) fn newer(line: &str) -> ! {
+    panic!("the line {line:?} is not known: libwesalondo.a is newer than this crate")
 }
 
 /// Fits the marks of a house file, up to 4,096, by the joined fit, and gives the file with its curves; [`judge_file`] passes every one. For more marks there are

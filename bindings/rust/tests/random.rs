@@ -1,7 +1,8 @@
-//! Random outlines: what is fitted passes the checkers, what is damaged does not, and nothing depends on what was in the room or on other threads.
+//! Random outlines: what is fitted passes the checkers, what is damaged does not, and nothing depends on what was in the room or on other threads. And random traces,
+//! cleaned.
 mod common;
 
-use common::{flat, list_bits, Kind, Room};
+use common::{flat, list_bits, marks_file, salvaged, Kind, Room};
 use wesalondo::*;
 
 /// Marsaglia's xorshift.
@@ -217,4 +218,31 @@ fn threads_give_what_one_gives() {
             assert!(thread.join().unwrap() == alone, "a thread's fits differ");
         }
     });
+}
+
+/// A number of a shaky trace: one of few, so that marks are equal now and then, at times one that is out of range or near to it, at times any bits.
+fn shaky(random: &mut Random) -> f64 {
+    let odd = [f64::NAN, f64::INFINITY, -1e300, 1e6, -1e6, 1_000_000.000_000_000_1, 5e-324, f64::from_bits(0x7FF0_0000_0000_0123)];
+    match random.below(24) {
+        0 | 1 => odd[random.below(odd.len())],
+        2 => f64::from_bits(random.next()),
+        _ => [0.0, -0.0, 1.5, -2.0][random.below(4)],
+    }
+}
+
+#[test]
+fn random_traces_are_cleaned() {
+    let mut random = Random(0x5EED_0004);
+    let (mut kept, mut range, mut equal) = (0, 0, 0);
+    for _ in 0..5000 {
+        let marks: Vec<Point> = (0..random.below(50)).map(|_| Point::new(shaky(&mut random), shaky(&mut random))).collect();
+        let tolerance = random.next();
+        let expected = salvaged(tolerance, &marks);
+        assert_eq!(salvage(&marks_file(tolerance, &marks)).as_ref(), Ok(&expected), "{marks:?}");
+        assert_eq!(salvage(&expected.file).map(|again| (again.file, again.dropped)).as_ref(), Ok(&(expected.file, vec![])), "{marks:?}, again");
+        kept += expected.kept;
+        range += expected.dropped.iter().filter(|dropped| dropped.cause == Cause::Range).count();
+        equal += expected.dropped.iter().filter(|dropped| dropped.cause == Cause::Equal).count();
+    }
+    assert!(kept > 50_000 && range > 10_000 && equal > 5_000, "{kept} kept, {range} out of range, {equal} equal");
 }

@@ -23,6 +23,7 @@ use Rattle.checker.specs.declared.Fault.{Fault}
 use Rattle.checker.specs.declared.Fault.the-variants.{A, B, C, D, E}
 use Rattle.nearest.specs.Choose.{Nearest}
 use Rattle.reader.specs.Reader.{Found}
+use Rattle.salvaging.specs.Salvage.{Sizes, sizes}
 use Rattle.import.specs.Import.{Drawn}
 
 -- ---- what comes in
@@ -116,6 +117,10 @@ found nine bits n k = record { form = formFor nine; tolerance = bits; marks = n;
 
 unfoldable pub foundCrossed : Answer Found → Crossed Found
 foundCrossed = crossing (λ F. F) (found false 0 0 0)
+
+-- how many bytes a cleaned file has, and how many its list
+unfoldable pub salvagedCrossed : Answer Sizes → Crossed Sizes
+salvagedCrossed = crossing (λ s. s) (sizes 0 0)
 
 -- what path data draws beside the slice
 abbrev pub drawn : ℕ → Bool → Drawn

@@ -7,7 +7,8 @@ ghost use Rattle.checker.specs.Check.{checkedAnswer, place};
 ghost use Rattle.reader.specs.Reader.{readAnswer};
 ghost use Rattle.writer.specs.Writer.{writeAnswer};
 ghost use Rattle.lines.specs.Handed.{listedAnswer};
-ghost use Rattle.border.specs.Crossing.{outlineFor, formFor, crossed, countCrossed, numberCrossed, pointCrossed, coefficientsCrossed, eight, parts, halvesCrossed, nearest, nearestCrossed, faultCrossed, verdictCrossed, found, foundCrossed, drawn, drawnCrossed};
+ghost use Rattle.salvaging.specs.Salvage.{sizes, salvagedAnswer};
+ghost use Rattle.border.specs.Crossing.{outlineFor, formFor, crossed, countCrossed, numberCrossed, pointCrossed, coefficientsCrossed, eight, parts, halvesCrossed, nearest, nearestCrossed, faultCrossed, verdictCrossed, found, foundCrossed, salvagedCrossed, drawn, drawnCrossed};
 ghost use Rattle.import.specs.Import.{importedAnswer};
 use bezier::CoefficientsAnswer;
 use bezier::HalvesAnswer;
@@ -24,6 +25,7 @@ use nearest::NearestPoint;
 use plane::Curve;
 use reader::Read;
 use ring::Outline;
+use salvaging::Salvaged;
 use writer::Wrote;
 
 // ---- what comes in
@@ -275,6 +277,24 @@ pub fn put_read(
             *tolerance = 0;
             *mark_count = 0;
             *curve_count = 0;
+            q
+        }
+    }
+}
+
+// How many bytes a cleaned file has, and how many its list.
+pub fn put_salvaged(answer: Salvaged, size: &mut usize, report_size: &mut usize) -> u32
+    ensures { λ r. ⌜ crossed r (sizes (now (size .exit)) (now («report_size» .exit))) ≡ salvagedCrossed (salvagedAnswer answer) ⌝ }
+{
+    match answer {
+        Salvaged::Bytes { file, report } => {
+            *size = file;
+            *report_size = report;
+            0
+        }
+        Salvaged::Refused(q) => {
+            *size = 0;
+            *report_size = 0;
             q
         }
     }

@@ -9,8 +9,9 @@ use Rattle.flat_fit.specs.Flat.{FlatEnding}
 use Rattle.reader.specs.Reader.{Found, Outcome}
 use Rattle.writer.specs.Writer.{Writing}
 use Rattle.lines.specs.Handed.{Handed}
+use Rattle.salvaging.specs.Salvage.{Sizes, Salvage}
 use Rattle.import.specs.Import.{Drawn, Left}
-use Rattle.border.specs.Crossing.{Crossed, countCrossed, foundCrossed, drawnCrossed}
+use Rattle.border.specs.Crossing.{Crossed, countCrossed, foundCrossed, salvagedCrossed, drawnCrossed}
 
 -- ---- a fit
 
@@ -74,6 +75,19 @@ leftByWriter B = bytesLeft (countCrossed (B .answer)) (B .out)
 
 abbrev pub leftWithText : Handed → BytesLeft
 leftWithText T = bytesLeft (countCrossed (T .answer)) (T .out)
+
+-- ---- a file that is cleaned, and its list
+
+pub record SalvageLeft : Type 0 where
+  pub answer : Crossed Sizes
+  pub out : List ℕ
+  pub report : List ℕ
+
+abbrev pub salvageLeft : Crossed Sizes → List ℕ → List ℕ → SalvageLeft
+salvageLeft a O R = record { answer = a; out = O; report = R }
+
+abbrev pub leftBySalvage : Salvage → SalvageLeft
+leftBySalvage S = salvageLeft (salvagedCrossed (S .answer)) (S .out) (S .report)
 
 -- ---- path data that is read
 

@@ -26,10 +26,11 @@ ghost use Rattle.verdict.specs.Verdict.{judgementOf};
 ghost use Rattle.saving.specs.Saving.{savedOf};
 ghost use Rattle.packer.specs.Packer.{packOf};
 ghost use Rattle.unpacker.specs.Unpacker.{unpackOf};
+ghost use Rattle.salvaging.specs.Salvage.{sizes, salvageOf};
 ghost use Rattle.export.specs.Export.{exportOf};
 ghost use Rattle.import.specs.Import.{importOf};
 ghost use Rattle.border.specs.Crossing.{outlineFor, formFor, crossed, numberCrossed, pointCrossed, coefficientsCrossed, parts, halvesCrossed, nearest, nearestCrossed, verdictCrossed, found, drawn};
-ghost use Rattle.wesalondo.specs.Left.{fitLeft, leftBy, flatLeft, leftByFlat, onPoints, readLeft, leftByReader, bytesLeft, leftByWriter, leftWithText, drawnLeft, leftByImport};
+ghost use Rattle.wesalondo.specs.Left.{fitLeft, leftBy, flatLeft, leftByFlat, onPoints, readLeft, leftByReader, bytesLeft, leftByWriter, leftWithText, salvageLeft, leftBySalvage, drawnLeft, leftByImport};
 use plane::Point;
 
 // ---- fits
@@ -521,6 +522,21 @@ pub extern "C" fn wes_unpack_file(file: &[u8], out: &mut [u8], size: &mut usize)
 {
     let answer = unpacker::unpack_file(file, out);
     border::put_listed(answer, size)
+}
+
+// A file, cleaned, and the list of the marks dropped.
+#[no_mangle]
+pub extern "C" fn wes_salvage(
+    file: &[u8],
+    out: &mut [u8],
+    report: &mut [u8],
+    size: &mut usize,
+    report_size: &mut usize,
+) -> u32
+    ensures { λ r. ⌜ salvageLeft (crossed r (sizes (now (size .exit)) (now («report_size» .exit)))) (now (out .exit)) (now (report .exit)) ≡ leftBySalvage (salvageOf (now (file .entry)) (now (out .entry)) (now (report .entry))) ⌝ }
+{
+    let answer = salvaging::salvage(file, out, report);
+    border::put_salvaged(answer, size, report_size)
 }
 
 // ---- path data

@@ -8,6 +8,7 @@ mod flat;
 mod kinds;
 mod packing;
 mod paths;
+mod salvaging;
 mod single;
 mod texts;
 mod types;

@@ -23,7 +23,7 @@ fn body(house: &House) -> Vec<u8> {
     body
 }
 
-fn packed(house: &House) -> Vec<u8> {
+pub fn packed(house: &House) -> Vec<u8> {
     file(house, &[record(8, &body(house))])
 }
 

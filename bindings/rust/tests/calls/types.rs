@@ -51,4 +51,5 @@ fn fits_go_between_threads() {
     goes::<List<'_>>();
     goes::<Path>();
     goes::<Refusal>();
+    goes::<Salvaged>();
 }

@@ -140,3 +140,37 @@ pub fn list_bits(list: &List<'_>) -> Vec<u64> {
 pub fn flat(marks: &[Point]) -> Vec<f64> {
     marks.iter().flat_map(|&mark| <[f64; 2]>::from(mark)).collect()
 }
+
+/// What is kept of a trace, and what is dropped, by the rule itself.
+pub fn sifted(marks: &[Point]) -> (Vec<Point>, Vec<Dropped>) {
+    let (mut kept, mut dropped) = (vec![], vec![]);
+    for (mark, &point) in marks.iter().enumerate() {
+        if !(point.x.abs() <= 1e6 && point.y.abs() <= 1e6) {
+            dropped.push(Dropped { mark, cause: Cause::Range });
+        } else if kept.last() == Some(&point) {
+            dropped.push(Dropped { mark, cause: Cause::Equal });
+        } else {
+            kept.push(point);
+        }
+    }
+    (kept, dropped)
+}
+
+/// The list of what was dropped.
+pub fn report(kept: usize, dropped: &[Dropped]) -> String {
+    let lines = dropped.iter().map(|d| format!("DROP {} {}\n", d.mark, format!("{:?}", d.cause).to_uppercase()));
+    format!("KEPT {kept} DROPPED {}\n{}", dropped.len(), lines.collect::<String>())
+}
+
+/// The bytes of a house file of marks alone, whose tolerance has these bits, by the format's own rules.
+pub fn marks_file(tolerance: u64, marks: &[Point]) -> Vec<u8> {
+    let length = 2 + 16 * marks.len() as u32;
+    let head = [&[10, 0, 0, 0, 1, 0][..], &tolerance.to_le_bytes(), &length.to_le_bytes(), &[2, 0]].concat();
+    head.into_iter().chain(flat(marks).into_iter().flat_map(f64::to_le_bytes)).collect()
+}
+
+/// What `salvage` is to give of a trace.
+pub fn salvaged(tolerance: u64, marks: &[Point]) -> Salvaged {
+    let (kept, dropped) = sifted(marks);
+    Salvaged { file: marks_file(tolerance, &kept), kept: kept.len(), report: report(kept.len(), &dropped), dropped }
+}

@@ -1,5 +1,5 @@
 //! The answer to one line of crates/replay, in its format.
-use crate::common::{flat, Kind, Room};
+use crate::common::{flat, report, Kind, Room};
 use wesalondo::*;
 
 /// The words of a line in turn.
@@ -91,6 +91,7 @@ pub fn answer_of(kind: &str, words: &mut Words) -> String {
         "export" => exported(words),
         "pack" => converted(words, pack_file),
         "unpack" => converted(words, unpack_file),
+        "salvage" => cleaned(words),
         other => panic!("the kind {other} is not known"),
     };
     assert_eq!(words.0.next(), None, "a word of {kind} is left");
@@ -128,12 +129,31 @@ fn exported(words: &mut Words) -> String {
     answer.map_or_else(|refusal| refusal.number().to_string(), |text| format!("0 {text}"))
 }
 
-/// A house file packed or unpacked, both by two digits a byte.
-fn converted(words: &mut Words, call: fn(&[u8]) -> Result<Vec<u8>, Refusal>) -> String {
+/// A house file, by two digits a byte.
+fn file(words: &mut Words) -> Vec<u8> {
     let digits = words.word().as_bytes().chunks(2).map(|pair| std::str::from_utf8(pair).unwrap());
-    let file: Vec<u8> = digits.map(|pair| u8::from_str_radix(pair, 16).unwrap_or_else(|_| panic!("{pair} is no byte"))).collect();
-    match call(&file) {
-        Ok(made) => format!("0 {}", made.iter().map(|byte| format!("{byte:02x}")).collect::<String>()),
+    digits.map(|pair| u8::from_str_radix(pair, 16).unwrap_or_else(|_| panic!("{pair} is no byte"))).collect()
+}
+
+fn digits(bytes: &[u8]) -> String {
+    bytes.iter().map(|byte| format!("{byte:02x}")).collect()
+}
+
+/// A house file packed or unpacked.
+fn converted(words: &mut Words, call: fn(&[u8]) -> Result<Vec<u8>, Refusal>) -> String {
+    match call(&file(words)) {
+        Ok(made) => format!("0 {}", digits(&made)),
+        Err(refusal) => refusal.number().to_string(),
+    }
+}
+
+/// A house file cleaned, and the list, which says what the values say.
+fn cleaned(words: &mut Words) -> String {
+    match salvage(&file(words)) {
+        Ok(made) => {
+            assert_eq!(made.report, report(made.kept, &made.dropped));
+            format!("0 {} {}", digits(&made.file), digits(made.report.as_bytes()))
+        }
         Err(refusal) => refusal.number().to_string(),
     }
 }
