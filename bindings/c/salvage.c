@@ -321,8 +321,8 @@ int main(int argc, char **argv) {
     random_traces();
     long_traces();
     broken_files();
-    expect_example(argv[1], "rested", 3, "KEPT 1 DROPPED 2\nDROP 1 EQUAL\nDROP 2 EQUAL\n", 6, 1);
-    expect_example(argv[1], "paused", 480, "KEPT 250 DROPPED 230\nDROP 186 EQUAL\nDROP 187 EQUAL\n", 6, 0);
+    expect_example(argv[1], "pressed", 3, "KEPT 1 DROPPED 2\nDROP 1 EQUAL\nDROP 2 EQUAL\n", 6, 1);
+    expect_example(argv[1], "rested", 480, "KEPT 250 DROPPED 230\nDROP 186 EQUAL\nDROP 187 EQUAL\n", 6, 0);
     expect_example(argv[1], "lost", 24, "KEPT 23 DROPPED 1\nDROP 11 RANGE\n", 5, 0);
     expect_example(argv[1], "cover", 142, "KEPT 142 DROPPED 0\n", 0, 0);
     expect_example(argv[1], "cushion", 85, "KEPT 85 DROPPED 0\n", 0, 0);

@@ -139,8 +139,8 @@ fn a_fit_may_still_refuse() {
 #[test]
 fn the_examples() {
     for (name, report, fitted) in [
-        ("rested", "KEPT 1 DROPPED 2\nDROP 1 EQUAL\nDROP 2 EQUAL\n", Some(Refusal::TooFew)),
-        ("paused", "KEPT 250 DROPPED 230\nDROP 186 EQUAL\nDROP 187 EQUAL\n", None),
+        ("pressed", "KEPT 1 DROPPED 2\nDROP 1 EQUAL\nDROP 2 EQUAL\n", Some(Refusal::TooFew)),
+        ("rested", "KEPT 250 DROPPED 230\nDROP 186 EQUAL\nDROP 187 EQUAL\n", None),
         ("lost", "KEPT 23 DROPPED 1\nDROP 11 RANGE\n", None),
         ("cover", "KEPT 142 DROPPED 0\n", None),
         ("cushion", "KEPT 85 DROPPED 0\n", None),
