@@ -22,13 +22,13 @@ sys.dont_write_bytecode = True
 import support
 from support import ROOT, SIDES, TRIANGLE, in_copy, read, straight, write
 
-from shared import house, pack_cases, path_cases
+from shared import cleaning, cleaning_cases, house, pack_cases, path_cases
 from shared.blocks import size_of
 from shared.checker import FAULT_A, FAULT_B, FAULT_C, FAULT_D, FAULT_E, PASSED, REFUSED, check, kept_for
 from shared.path_data import exported, imported, written
-from shared.table import FITS, FLAT_FITS, LINE_BYTES, LINE_FILE, LINE_MARKS, MOST_MARKS, Refused, fit_refusal
+from shared.table import FITS, FLAT_FITS, LINE_BYTES, LINE_FILE, LINE_MARKS, LINE_REPORT, MOST_MARKS, Refused, fit_refusal
 from shared.ties import CURVE, PARAMS, TIES
-from shared.words import NAN, numbers, pattern_of, patterns_of, word_of, words
+from shared.words import INFINITY, MINUS, NAN, numbers, pattern_of, patterns_of, word_of, words
 
 CARGO = '''#!/bin/sh
 # stands in for cargo: its Rust side answers as $RUST_SIDE says
@@ -126,7 +126,7 @@ class Compare(Case):
             self.compare(2, 'line 1 has more than the 21,000 marks', flo, write('long.txt', f'{kind} {word_of(0.5)} {LINE_MARKS + 1} {mark}\n'))
             self.compare(2, 'line 1 has more than the 21,000 marks or curves', flo, write('long.txt', f'{kind} {word_of(0.5)} 2 {mark} {mark} {LINE_MARKS + 1} 0\n'))
 
-        for kind in ('pack', 'import'):
+        for kind in ('pack', 'salvage', 'import'):
             self.compare(2, 'line 2 has more than the 4,600,000 bytes', flo, write('long.txt', f'{LINES[0]}\n{kind} {"0" * LINE_BYTES}\n'))
 
     def test_last_line_without_newline(self):
@@ -169,7 +169,7 @@ class Compare(Case):
         twins = [(line, after) for line, after in zip(lines, lines[1:]) if f'{line[0]}_flat' in FLAT_FITS]
         self.assertGreater(len(twins), 1000)
         self.assertTrue(all(after == [f'{line[0]}_flat', *line[1:]] for line, after in twins))
-        self.assertGreater(min(sum(line[0] == kind for line in lines) for kind in ('export', 'import', 'pack', 'unpack')), 500)
+        self.assertGreater(min(sum(line[0] == kind for line in lines) for kind in ('export', 'import', 'pack', 'unpack', 'salvage')), 500)
         for kind in ('check_worst', 'check_worst_ring'):
             said = self.answers([' '.join(line) for line in lines if line[0] == kind])
             faults = {answer[:7] for answer in said if answer.startswith('FAULT')}
@@ -595,6 +595,78 @@ class Packing(Case):
         self.assertGreater(taken, 500)
 
 
+def cleaned(data, *rooms):
+    """The cleaned file and the list, or the refusal."""
+    try:
+        return cleaning.salvage(data, *rooms)
+    except Refused as refused:
+        return refused.refusal
+
+
+class Cleaning(Case):
+    """House files without the marks that are out of range or pile up, by the document's text."""
+
+    def test_marks(self):
+        """Which marks are dropped and why, by hand."""
+        inf, nan, above = math.inf, math.nan, math.nextafter(1e6, math.inf)
+        for marks, want in (
+                ([], []), ([(1, 2)], []), ([(1, 2), (1, 2)], ['1 EQUAL']), ([(1, 2), (1, 3), (0, 3)], []), ([(1, 2), (2, 1), (1, 2)], []),
+                ([(1, 2), (nan, 2), (1, 2)], ['1 RANGE', '2 EQUAL']), ([(nan, nan), (nan, nan)], ['0 RANGE', '1 RANGE']), ([(1, 2), (1, inf), (-inf, 2), (3, 4)], ['1 RANGE', '2 RANGE']),
+                ([(1e6, -1e6), (above, 0), (0, -above), (1e6, -1e6)], ['1 RANGE', '2 RANGE', '3 EQUAL']), ([(above, 0), (above, 0)], ['0 RANGE', '1 RANGE']),
+                ([(0.0, -0.0), (-0.0, 0.0), (5e-324, 0.0), (0.0, 0.0)], ['1 EQUAL']), ([(1, 1)] * 11, [f'{i} EQUAL' for i in range(1, 11)])):
+            text = f'KEPT {len(marks) - len(want)} DROPPED {len(want)}\n' + ''.join(f'DROP {line}\n' for line in want)
+            file, said = cleaning.salvage(cleaning_cases.trace(*(patterns_of(*mark) for mark in marks)))
+            left = [mark for i, mark in enumerate(marks) if not any(line.startswith(f'{i} ') for line in want)]
+            self.assertEqual((said.decode('ascii'), file), (text, cleaning_cases.trace(*(patterns_of(*mark) for mark in left))))
+
+    def test_bytes(self):
+        """Tolerance and kept marks keep their bits, whatever they are; nothing else is left."""
+        kept, odd = [MINUS, 1], INFINITY + 1
+        whole = house.build(odd, kept + [0, 1] + [NAN, 0], [(0, [NAN] * 9)], [NAN] * 3, [2])
+        want = b'\x0a\0\0\0\x01\0' + odd.to_bytes(8, 'little') + b'\x12\0\0\0\x02\0' + bytes(7) + b'\x80\x01' + bytes(7)
+        for data in (whole, house.pack(whole)):
+            self.assertEqual(cleaning.salvage(data), (want, b'KEPT 1 DROPPED 2\nDROP 1 EQUAL\nDROP 2 RANGE\n'))
+
+    def hold(self, data):
+        """Of a file that is cleaned: kept and dropped are all marks, each once; cleaned again it is the same bytes. How many are dropped."""
+        held, (file, said) = house.parse(data), cleaning.salvage(data)
+        first, *drops = said.decode('ascii').split('\n')[:-1]
+        _, kept, _, dropped = first.split(' ')
+        away = [int(line.split(' ')[1]) for line in drops]
+        self.assertEqual((int(kept) + len(drops), int(dropped), away), (held.count, len(drops), sorted(set(away))))
+        left = [pattern for i in sorted({*range(held.count)} - {*away}) for pattern in held.marks[2 * i:2 * i + 2]]
+        self.assertEqual(file, house.build(held.tolerance, left))
+        self.assertEqual(cleaning.salvage(file), (file, f'KEPT {kept} DROPPED 0\n'.encode('ascii')))
+        self.assertTrue(len(file) <= len(data) and len(said) <= 55 + 21 * held.count)
+        return len(drops)
+
+    def test_cases(self):
+        hand = random.Random(11)
+        made = [*cleaning_cases.files(), *cleaning_cases.damaged_small(), *cleaning_cases.large_files(), *cleaning_cases.random_cases(hand, 300)]
+        whole = {data for data in made if house.parse(data)}
+        self.assertEqual({cleaned(data, 0, 0) for data in made if data not in whole}, {9})
+        drops = list(map(self.hold, whole))
+        self.assertGreater(min(drops.count(0), len(drops) - drops.count(0)), 100)
+
+    def test_room(self):
+        """Both slices have to suffice, and 9 comes first."""
+        for data in (cleaning_cases.trace(), cleaning_cases.trace(*[cleaning_cases.A] * 12)):
+            file, said = cleaning.salvage(data)
+            full = len(file), len(said)
+            self.assertEqual([cleaned(data, *room) for room in (full, (full[0] - 1, full[1]), (full[0], full[1] - 1), (0, 0))], [(file, said), 4, 4, 4])
+            self.assertEqual([cleaned(data + b'\0', *room) for room in (full, (0, 0))], [9, 9])
+
+    def test_program(self):
+        """What the program writes at its limits: 9 for too long a file, whatever it holds, and then 2 above 512 marks."""
+        most, more = map(cleaning_cases.long_trace, (512, 513))
+        self.assertEqual(cleaning.piped(most), cleaning.salvage(most))
+        longest = house.build(0, [0] * 8192, [(0, [0] * 9)] * 4095, [0] * 4096, [0] * 4095)
+        self.assertEqual(len(longest), cleaning.MOST_BYTES)
+        longer = house.build(0, [0] * 2 * 27132)
+        for data, number in ((more, 2), (longest, 2), (more[:-1], 9), (longer, 9), (b'', 9)):
+            self.assertEqual(cleaning.piped(data), (b'', f'REFUSED {number}\n'.encode('ascii')))
+
+
 class Long(Case):
     """As many marks as a line of replay holds, and one more."""
 
@@ -625,6 +697,18 @@ class Long(Case):
         self.assertEqual([said for _, said in rows[-2:]], ['4', '4'])
         self.assertEqual(self.answers([line for line, _ in rows]), [said for _, said in rows])
         self.assertEqual(self.answers([f'pack {"0" * LINE_BYTES}', rows[1][0]]), ['BAD', rows[1][1]])
+
+    def test_cleaning(self):
+        """As long a file as there is room for, and a mark more; as long a list, and a mark more. Of more marks than any fit takes all are cleaned."""
+        from vectors import cleaning as lines
+        most = (LINE_FILE - 20) // 16
+        ends = list(itertools.accumulate(len(f'DROP {i} RANGE\n') for i in range(LINE_MARKS)))
+        dropped = sum(end + len('KEPT 0 DROPPED 20000\n') <= LINE_REPORT for end in ends)
+        apart = cleaning_cases.A + cleaning_cases.B
+        whole = [house.build(0, (apart * most)[:2 * count]) for count in (most, most + 1)] + [house.build(0, [NAN, 0] * count) for count in (dropped, dropped + 1)]
+        rows = [lines.row(data) for data in [*whole, house.build(0, [NAN, 0] * 7000 + (apart * most)[:2 * most])]]
+        self.assertEqual([said == '4' for _, said in rows], [False, True, False, True, False])
+        self.assertEqual(self.answers([line for line, _ in rows]), [said for _, said in rows])
 
     def test_lists(self):
         """A curve between each two marks, in both forms: as it is, with the last curve off, and for a mark more."""
