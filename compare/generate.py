@@ -1,7 +1,7 @@
 #!/usr/bin/env python3
 """generate.py [SEED]: prints cases for replay and for the Rust, one a line; the same seed gives the same lines.
 
-Single curves, nearest points, outlines (smooth, noisy, long, damaged; by both engines where both have the fit), distances, numbers of blocks and their sizes, lists for the checker, path data, house files to pack and to unpack, and both sides of every limit.
+Single curves, nearest points, outlines (smooth, noisy, long, damaged; by both engines where both have the fit), distances, numbers of blocks and their sizes, lists for the checker, path data, house files to pack, to unpack and to clean, and both sides of every limit.
 """
 import math
 import os
@@ -11,6 +11,7 @@ import sys
 sys.dont_write_bytecode = True
 sys.path.insert(0, os.path.join(os.path.dirname(os.path.dirname(os.path.realpath(__file__))), 'tools'))
 
+from shared import cleaning_cases
 from shared.basis import point_at
 from shared.checker import kept_for
 from shared.command import Stop, run
@@ -420,6 +421,13 @@ def packing():
         yield f'{call} {data.hex()}'
 
 
+def cleaning():
+    """House files to clean, on both sides of every line, of few marks and of many; and random ones, whole and damaged."""
+    small = [*cleaning_cases.files(), *cleaning_cases.damaged_small(), *cleaning_cases.random_cases(hand, 400)]
+    for data in dict.fromkeys([*small, *cleaning_cases.large_files(), *cleaning_cases.heavy_files()]):
+        yield f'salvage {data.hex()}'
+
+
 def nonsense():
     yield 'bezier 3FF0000000000000'
     yield 'sqrt'
@@ -463,13 +471,14 @@ def nonsense():
     yield 'export RING 2 ' + ' '.join(['0000000000000000'] * 8)
     yield 'export RING 1 ' + ' '.join(['0000000000000000'] * 9)
     yield from ['pack', 'unpack', 'packs 00', 'unpack 0', 'pack 0A', 'unpack 0g', 'pack 00 00', 'pack  00', 'unpack 00 ', 'repack 00']
+    yield from ['salvage', 'salvages 00', 'salvage 0', 'salvage 0A', 'salvage 00 00']
 
 
 def main(words):
     if len(words) > 1 or not all(text.isdecimal() for text in words):
         raise Stop('usage: compare/generate.py [SEED], SEED a whole number')
     hand.seed(int(words[0]) if words else 1)
-    for part in (single, near, outlines, ends, joints, rings, limits, measures, lists, sizes, paths, packing, nonsense):
+    for part in (single, near, outlines, ends, joints, rings, limits, measures, lists, sizes, paths, packing, cleaning, nonsense):
         for case in by_both(part(), flat_line):
             print(case)
     return 0

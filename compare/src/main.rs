@@ -5,6 +5,7 @@
 //! After a tab may follow what the comparison wants to know: `lost` where an operation on the way was not finite, `depth D` of a search.
 mod pack;
 mod path;
+mod salvage;
 use flo_curves::bezier::*;
 use flo_curves::line::*;
 use std::cell::{Cell, RefCell};
@@ -249,7 +250,7 @@ fn answer(line: &str) -> Option<String> {
     let marks = |v: &[f64]| -> Vec<Mark> { points(v).into_iter().map(|c| Mark(c, None)).collect() };
     let show = |v: &[Mark]| -> String { let f: Vec<f64> = v.iter().flat_map(|m| [m.0.0, m.0.1]).collect(); format!("0{}", hex(&f)) };
     let wanted = match kind {
-        "sqrt" => 1, "basis" | "de_casteljau4" | "subdivide4" | "coefficients" => 9, "de_casteljau3" => 7, "de_casteljau2" => 5, "refine" => 12, "nearest" => 10, "distance" => 11, "blocks" | "size" | "pack" | "unpack" => 1,
+        "sqrt" => 1, "basis" | "de_casteljau4" | "subdivide4" | "coefficients" => 9, "de_casteljau3" => 7, "de_casteljau2" => 5, "refine" => 12, "nearest" => 10, "distance" => 11, "blocks" | "size" | "pack" | "unpack" | "salvage" => 1,
         "export" => return path::export(w),
         "direct" => w.len().max(5), "source" | "loop" | "joined" | "ring" | "check" | "check_ring" | "check_worst" | "check_worst_ring" => w.len().max(1), _ => return None,
     };
@@ -307,6 +308,7 @@ fn answer(line: &str) -> Option<String> {
             format!("0 {}", size)
         }
         "pack" | "unpack" => pack::answer(kind, w[0])?,
+        "salvage" => salvage::answer(w[0])?,
         "check" | "check_ring" | "check_worst" | "check_worst_ring" => check_line(kind.ends_with("_ring"), kind.starts_with("check_worst"), w)?,
         _ => {
             let v = numbers(w)?;

@@ -79,12 +79,20 @@ fn unpack(file: &[u8]) -> Result<Vec<u8>, u8> {
     Ok(house.with(house.kind(kept), &bodies))
 }
 
-/// `pack HEX` or `unpack HEX`: a file's bytes, two lower-case digits each.
-pub fn answer(kind: &str, text: &str) -> Option<String> {
+/// Whether bytes are a house file, packed or not: one whose curves do not meet is.
+pub fn is_file(file: &[u8]) -> bool { pack(file) != Err(9) || unpack(file).is_ok() }
+
+/// The bytes of a text, two lower-case digits each.
+pub fn bytes(text: &str) -> Option<Vec<u8>> {
     let digit = |b: &u8| match b { b'0'..=b'9' => Some(b - b'0'), b'a'..=b'f' => Some(b - b'a' + 10), _ => None };
     let digits: Option<Vec<u8>> = text.as_bytes().iter().map(digit).collect();
     let digits = digits.filter(|digits| digits.len() % 2 == 0)?;
-    let file: Vec<u8> = digits.chunks(2).map(|pair| 16 * pair[0] + pair[1]).collect();
-    let hex = |bytes: Vec<u8>| -> String { bytes.iter().map(|byte| format!("{:02x}", byte)).collect() };
-    Some(match if kind == "pack" { pack(&file) } else { unpack(&file) } { Ok(made) => format!("0 {}", hex(made)), Err(refusal) => refusal.to_string() })
+    Some(digits.chunks(2).map(|pair| 16 * pair[0] + pair[1]).collect())
+}
+pub fn hex(bytes: &[u8]) -> String { bytes.iter().map(|byte| format!("{:02x}", byte)).collect() }
+
+/// `pack HEX` or `unpack HEX`.
+pub fn answer(kind: &str, text: &str) -> Option<String> {
+    let file = bytes(text)?;
+    Some(match if kind == "pack" { pack(&file) } else { unpack(&file) } { Ok(made) => format!("0 {}", hex(&made)), Err(refusal) => refusal.to_string() })
 }
