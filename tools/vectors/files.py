@@ -1,4 +1,4 @@
-"""house_cases, listing, save, judge, path_out and path_in: house files that are listed, read and written again, damaged, packed, unpacked, fitted, judged, and written as path data.
+"""house_cases, listing, save, judge, path_out and path_in: house files that are listed, read and written again, damaged, packed, unpacked, cleaned, fitted, judged, and written as path data.
 
 A record is thirteen words (what to do, the file's three runs, the room in each lent slice) and the file's bytes; a run is so many bytes that are given and so many zeros behind them, so that large
 files are kept by their heads. Files are taken apart record by record
@@ -10,16 +10,16 @@ import os
 import re
 import struct
 
-from shared import house, kept, pack_cases
+from shared import cleaning, cleaning_cases, house, kept, pack_cases
 from shared.checker import PASSED, check
 from shared.command import Stop
 from shared.path_data import exported, imported
-from shared.table import LARGEST, MOST_DIRECT, MOST_MARKS
+from shared.table import LARGEST, MOST_DIRECT, MOST_MARKS, Refused
 from shared.words import INFINITY, MINUS, NAN, bits, digest_of, number, numbers, patterns_of, words
 from vectors import outlines
 
 NAME = 'house_cases'
-LIST, READ, PREFIXES, CHANGES, WRITE_WORST, WRITE_FIRST, PACK, UNPACK, UNPACK_PREFIXES, UNPACK_CHANGES = range(10)
+LIST, READ, PREFIXES, CHANGES, WRITE_WORST, WRITE_FIRST, PACK, UNPACK, UNPACK_PREFIXES, UNPACK_CHANGES, SALVAGE = range(11)
 CALLS = {PACK: house.pack, UNPACK: house.unpack}
 FILLED = b'\7'  # what stands in each byte that is lent to them
 HEAD = 13
@@ -30,6 +30,7 @@ KEPT = 2  # outlines, of 201 and 512 marks
 HALF = bits(0.5)
 ROOM = [10240, 1024, 1024, 10240, 5120, 100000]  # marks, first marks, worst marks, curves, parameters and bytes: enough for every file here of up to 4,097 marks
 NO_ROOM = [0] * 6
+LONGEST, LONGEST_LIST = 163840, 10240  # bytes of a file and of its list that the program has room for
 BEYOND = 65536  # a mark's number that two bytes do not hold
 
 
@@ -95,11 +96,28 @@ def again(data, held, room, todo):
 
 # ---- the packer, and the way back
 
+def lent_digest(front, count):
+    """A digest of so many bytes that were lent: what was written, and the rest as before."""
+    return f'{digest_of(front + FILLED * (count - len(front))):016x}'
+
+
 def packing_answer(call, data, room):
-    """The call's answer, and a digest of all that was lent to it: what was written, and the rest as before."""
+    """The call's answer, and a digest of all that was lent to it."""
     made = pack_cases.either(call, data, room[5])
     head, front = (f'0 {len(made)}', made) if isinstance(made, bytes) else (str(made), b'')
-    return f'{head} {digest_of(front + FILLED * (room[5] - len(front))):016x}\n'
+    return f'{head} {lent_digest(front, room[5])}\n'
+
+
+# ---- cleaning
+
+def cleaning_answer(data, room):
+    """The call's answer, and a digest of each slice that was lent to it."""
+    try:
+        file, list_ = cleaning.salvage(data, room[5], room[0])
+        head = f'0 {len(file)} {len(list_)}'
+    except Refused as refusal:
+        file, list_, head = b'', b'', str(refusal.refusal)
+    return f'{head} {lent_digest(file, room[5])} {lent_digest(list_, room[0])}\n'
 
 
 # ---- the listing
@@ -335,6 +353,30 @@ def packing_cases():
         yield UNPACK_CHANGES, data, ROOM
 
 
+def for_both(file, list_):
+    """Room for so many bytes of a cleaned file, and so many of its list."""
+    return [list_, *NO_ROOM[1:5], file]
+
+
+def cleaning_rooms(data):
+    """Just enough room for a file, a byte less in one slice and in the other, less in both, and some more. What is refused has some room, and none."""
+    try:
+        file, list_ = map(len, cleaning.salvage(data))
+    except Refused:
+        return [(3, 3), (0, 0)]
+    return [(file, list_), (file - 1, list_), (file, list_ - 1), (file - 1, list_ - 1), (file + 3, list_ + 5)]
+
+
+def clean_cases():
+    """Files to clean, the long ones in fewer rooms. Of more marks than any fit takes there is no 2: it is their list that there is no room for."""
+    rooms = [(data, room) for data in cleaning_cases.files() for room in cleaning_rooms(data)]
+    rooms += [(data, room) for data in map(cleaning_cases.long_trace, (512, 513, 5000)) for room in cleaning_rooms(data)[:3]]
+    rooms += [(data, cleaning_rooms(data)[0]) for data in cleaning_cases.with_more_curves(pack_cases.MANY)]
+    beyond = large(MOST_MARKS + 1)
+    rooms += [(data, (LONGEST, LONGEST_LIST)) for data in [cleaning_cases.long_trace(10000), *cleaning_cases.heavy_files(), beyond, beyond + b'\0']]
+    yield from ((SALVAGE, data, for_both(*room)) for data, room in rooms)
+
+
 def packed_cases():
     """Packed files that are read, in every room, and listed: what is written again is the file that was packed."""
     for data in [*pack_cases.that_pack(), *pack_cases.many_that_pack()]:
@@ -371,6 +413,7 @@ def cases(before):
         yield CHANGES, data, ROOM
     yield from packed_cases()
     yield from packing_cases()
+    yield from clean_cases()
 
 
 def prefixes(data):
@@ -397,6 +440,8 @@ def answer(todo, data, room, rust):
         return ' '.join(map(str, said)) + (' ' + again(data, held, room, todo) if held else '\n')
     if todo in CALLS:
         return packing_answer(CALLS[todo], data, room)
+    if todo == SALVAGE:
+        return cleaning_answer(data, room)
     others = (prefixes if todo in (PREFIXES, UNPACK_PREFIXES) else changes)(data)
     if todo in (PREFIXES, CHANGES):
         heads = [read_answer(other, room)[0][0] for other in others]

@@ -2,7 +2,7 @@
 
 Square roots, nearest points and border cases are those of the other programs; single curves, outlines and lists that are read from the kept
 input are asked of the Rust again, and so are distances; how many blocks there are, and their size, is counted by the document (shared/blocks.py); lists with one thing changed are judged by the document's rules (shared/checker.py), and
-path data and packed files are by modules of their own (shared/path_data.py, shared/house.py). A line that is no case is
+path data, packed files and cleaned ones are by modules of their own (shared/path_data.py, shared/house.py, shared/cleaning.py). A line that is no case is
 BAD; the Rust side, which reads lines too, has to say so as well, but for what is only too long for the program. Behind each outline of a direct, a joined or a ring fit comes the
 same for the second engine. The last line has no newline."""
 import math
@@ -13,7 +13,7 @@ from shared.checker import PASSED
 from shared.command import Stop
 from shared.table import FIRST_FITS, FITS, LINE_MARKS, by_both, flat_line
 from shared.words import INFINITY, MINUS, NAN, bits, numbers, pattern_of, patterns_of, word, word_of, words
-from vectors import lists, near, outlines, packing, paths, roots, single
+from vectors import cleaning, lists, near, outlines, packing, paths, roots, single
 
 NAME = 'replay'
 KEPT_CURVES = 230  # calls on single curves, 30 of them refused by 6
@@ -254,10 +254,11 @@ def miscounted():
 def bad():
     yield from ['', ' ', '  ', 'BAD', 'x', '0', HALF]
     yield from ['sqrt', 'basis', 'coefficients', 'refine', 'nearest', 'distance', 'blocks', 'size', *FITS, *CHECKS]
-    for line in [*GOOD, paths.GOOD, *packing.GOOD]:
+    for line in [*GOOD, paths.GOOD, *packing.GOOD, cleaning.GOOD]:
         yield from misspelt(line)
     yield from paths.bad()
     yield from packing.bad()
+    yield from cleaning.bad()
     yield from by_both([f'direct {HALF} {values(1, 0, -1)}', f'direct {HALF}'], flat_line)
     yield from [f'source_flat {HALF} {TWO}', f'loop_flat {HALF} {TWO}', '_flat']  # the second engine has no such fits
     yield from miscounted()
@@ -324,7 +325,7 @@ def made_rows():
     return {
         'roots': root_lines(), 'curve borders': to_ask(curve_borders()), 'nearest': nearest_lines() + [(line, '5') for line in nearest_borders()],
         'outline borders': to_ask(outline_borders()), 'whole': to_ask(whole()), 'roundings': to_ask(roundings()), 'nans': list(nans()), 'distances': to_ask(distance_lines()), 'blocks': list(block_lines()), 'sizes': list(size_lines()),
-        'paths': paths.rows(), 'packing': packing.rows()}
+        'paths': paths.rows(), 'packing': packing.rows(), 'cleaning': cleaning.rows()}
 
 
 def collected_lists(lines):
@@ -361,7 +362,7 @@ def cases(before):
     claims = kept.at_least(collected_lists(by_kind['lists']), KEPT_LISTS, NAME)
     rows = made['roots'] + to_ask(curves) + made['curve borders'] + made['nearest']
     rows += [*by_both(to_ask(fits) + made['outline borders'], flat_row)] + made['whole'] + made['roundings'] + made['nans'] + made['distances'] + made['blocks'] + made['sizes']
-    return rows + list(list_rows(claims)) + made['paths'] + made['packing']
+    return rows + list(list_rows(claims)) + made['paths'] + made['packing'] + made['cleaning']
 
 
 def answered(rows, rust):
@@ -377,7 +378,7 @@ def hold(lines, rust):
 
 
 def hold_alike(rows, kinds, name, rust):
-    """The Rust side has a checker of its own, and so export, import, pack and unpack, which say the same of every line."""
+    """The Rust side has a checker of its own, and so export, import, pack, unpack and salvage, which say the same of every line."""
     wanted = [row for row in rows if row[0].split(' ')[0] in kinds]
     for (line, want), (said, _) in zip(wanted, rust.ask([line for line, _ in wanted])):
         if said != want:
@@ -400,6 +401,7 @@ def make(rust):
     hold_alike(rows, CHECKS, 'checkers', rust)
     hold_alike(rows, paths.KINDS, 'readers and writers of path data', rust)
     hold_alike(rows, packing.KINDS, 'packers', rust)
+    hold_alike(rows, [cleaning.KIND], 'cleanings', rust)
     hold_roundings(rust)
     found = mixed(answered(rows, rust), [(line, 'BAD') for line in wrong]) + answered(end, rust)
     stdin = '\n'.join(line for line, _ in found).encode('latin-1')

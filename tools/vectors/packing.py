@@ -29,8 +29,12 @@ def rows():
 GOOD = [line('pack', pack_cases.marks_alone(1)), line('unpack', pack_cases.marks_alone(1))]
 
 
+def spoilt(call, good):
+    """Lines of a call with digits that are none, half a byte, and capital letters."""
+    yield from [call, f'{call} 0', f'{call} 000', f'{call} 0A', f'{call} A0', f'{call} 0g', f'{call} 0x00', f'{call} 0/', f'{call} :0', f'{call} `0', f'{call} 00 00', f'{call} -1', f'{call}\t00', f'{call}00']
+    yield good.upper().replace(call.upper(), call)  # the tolerance has letters
+
+
 def bad():
-    """Digits that are none, half a byte, and capital letters."""
-    for call in KINDS:
-        yield from [call, f'{call} 0', f'{call} 000', f'{call} 0A', f'{call} A0', f'{call} 0g', f'{call} 0x00', f'{call} 0/', f'{call} :0', f'{call} `0', f'{call} 00 00', f'{call} -1', f'{call}\t00', f'{call}00']
-        yield line(call, pack_cases.marks_alone(1)).upper().replace(call.upper(), call)  # the tolerance has letters
+    for call, good in zip(KINDS, GOOD):
+        yield from spoilt(call, good)

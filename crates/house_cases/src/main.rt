@@ -6,7 +6,7 @@
 // the writer's 0 and bytes, or a refusal in place of either; a line `DIFFERS` follows where the bytes are not the file's. 2 reads every
 // prefix, and 3 every change of one of the bytes that are given: how many were answered with 0, 2, 4 and 9. 4 does as 1, with a first worst mark that two bytes do not hold, and 5 with such a first first mark.
 // 6 packs the file and 7 unpacks it, into bytes that are all 7: 0 and the bytes, or the refusal, and behind either a digest of all bytes that were lent. 8 unpacks every prefix, and 9 every
-// change, as 2 and 3 read them.
+// change, as 2 and 3 read them. 10 cleans the file, into bytes that are all 7, with the room for marks as that for the list: 0 and both lengths, or the refusal, and behind either a digest of each slice.
 ghost use Prim.Native.Nat.{_<_};
 ghost use lib.ListN.{length};
 use cases::parts::front_bytes;
@@ -20,6 +20,8 @@ use libc::STDOUT_FILENO;
 use lines::Listed;
 use packer::pack_file;
 use reader::Read;
+use salvaging::Salvaged;
+use salvaging::salvage;
 use unpacker::unpack_file;
 use writer::Wrote;
 
@@ -42,6 +44,8 @@ const PACK: u64 = 6;
 const UNPACK: u64 = 7;
 
 const UNPACK_PREFIXES: u64 = 8;
+
+const SALVAGE: u64 = 10;
 
 // Where the bytes that are given of a file end, begin and end again twice, and how long it is.
 struct Runs {
@@ -418,7 +422,6 @@ fn digest(xs: &[u8]) -> u64 {
 fn print_digest(xs: &[u8]) {
     io::write_all(STDOUT_FILENO, b" ");
     io::print_hex(STDOUT_FILENO, digest(xs), 16);
-    cases::end_line();
 }
 
 // The answer of either way, without the end of its line.
@@ -446,6 +449,30 @@ fn pack(what: u64, file: &[u8], out: &mut [u8]) {
     let made = packed_or_unpacked(what, file, out);
     print_packing(made);
     print_digest(out);
+    cases::end_line();
+}
+
+// What cleaning answered, without the end of its line.
+fn print_cleaning(made: Salvaged) {
+    match made {
+        Salvaged::Bytes { file, report } => {
+            cases::print_count(0);
+            print_next(file as u64);
+            print_next(report as u64);
+        }
+        Salvaged::Refused(q) => {
+            cases::print_count(q as u64);
+        }
+    }
+}
+
+// The file, cleaned, and all that was lent.
+fn clean(file: &[u8], out: &mut [u8], list: &mut [u8]) {
+    let made = salvage(file, out, list);
+    print_cleaning(made);
+    print_digest(out);
+    print_digest(list);
+    cases::end_line();
 }
 
 // The word of a record's head that says a length.
@@ -490,6 +517,16 @@ fn list_record(head: &[u8; 104], file: &[u8]) {
 fn pack_record(what: u64, head: &[u8; 104], file: &[u8]) {
     let mut out = [7u8; WRITTEN];
     pack(what, file, lent_bytes(&mut out, length_at(head, 96)));
+}
+
+fn clean_record(head: &[u8; 104], file: &[u8]) {
+    let mut out = [7u8; WRITTEN];
+    let mut list = [7u8; NUMBERS];
+    clean(
+        file,
+        lent_bytes(&mut out, length_at(head, 96)),
+        lent_bytes(&mut list, length_at(head, 56)),
+    );
 }
 
 fn write_record(what: u64, head: &[u8; 104], file: &[u8]) {
@@ -559,6 +596,7 @@ fn record(head: &[u8; 104], file: &mut [u8]) {
         5 => write_record(5, head, file),
         PACK => pack_record(PACK, head, file),
         UNPACK => pack_record(UNPACK, head, file),
+        SALVAGE => clean_record(head, file),
         what => tally_record(what, head, file),
     }
 }

@@ -1,8 +1,8 @@
 // A line, answered by the kind that its first word names.
 use crate::kind::EXPORT;
 use crate::kind::PACK;
+use crate::kind::SALVAGE;
 use crate::kind::SINGLE_KINDS;
-use crate::kind::UNPACK;
 use crate::kind::kind_of;
 use crate::listing;
 use crate::outline;
@@ -73,9 +73,9 @@ fn long_case(kind: usize, line: &mut [u8], end: usize) -> bool {
 }
 
 // The room is no larger than that of `long_case`, and made as it is: where the compiler makes one function of both, it gives them one place.
-fn file_case(packs: bool, line: &mut [u8], end: usize) -> bool {
+fn file_case(kind: usize, line: &mut [u8], end: usize) -> bool {
     let mut out = room::file();
-    packing::packing_case(packs, line, end, &mut out)
+    packing::file_case(kind, line, end, &mut out)
 }
 
 // Whether a line is a case.
@@ -86,8 +86,8 @@ fn answered(line: &mut [u8]) -> bool {
     if kind < SINGLE_KINDS {
         return single_case(kind, line, end);
     }
-    if (kind == PACK) | (kind == UNPACK) {
-        return file_case(kind == PACK, line, end);
+    if (kind >= PACK) & (kind <= SALVAGE) {
+        return file_case(kind, line, end);
     }
     if room::is_short(line) {
         short_case(kind, line, end)

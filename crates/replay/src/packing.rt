@@ -1,7 +1,9 @@
-// Cases of packed house files. A file's bytes go where its digits stood, for they are half as many.
+// Cases of house files: packed, unpacked, and cleaned. A file's bytes go where its digits stood, for they are half as many.
 ghost use Prim.Native.Nat.{_<_, _≤_};
 ghost use lib.ListN.{length};
 use crate::cursor::NOWHERE;
+use crate::kind::PACK;
+use crate::kind::SALVAGE;
 use crate::print::print_accepted;
 use crate::print::print_bytes;
 use crate::print::print_refused;
@@ -10,6 +12,8 @@ use cases::parts::front_bytes;
 use libc::STDOUT_FILENO;
 use lines::Listed;
 use packer::pack_file;
+use salvaging::Salvaged;
+use salvaging::salvage;
 use unpacker::unpack_file;
 
 // The value of a digit, and 16 for any other byte.
@@ -93,8 +97,35 @@ fn say_packing(packs: bool, file: &[u8], out: &mut [u8]) {
     }
 }
 
-// pack HEX, unpack HEX: all behind the first blank. The room comes as an array by its type, so that no proof counts its bytes.
-pub fn packing_case(packs: bool, line: &mut [u8], at: usize, out: &mut [u8; room::FILE]) -> bool {
+// A cleaned file, and the list of the marks that were dropped.
+fn say_cleaned(file: &[u8], report: &[u8]) {
+    say_file(file);
+    io::write_all(STDOUT_FILENO, b" ");
+    print_bytes(report);
+}
+
+// What cleaning says of a file, with this room.
+fn say_salvaged(file: &[u8], out: &mut [u8]) {
+    let mut report = room::report();
+    match salvage(file, out, &mut report) {
+        Salvaged::Bytes { file: n, report: m } => {
+            say_cleaned(front_bytes(out, n), front_bytes(&report, m))
+        }
+        Salvaged::Refused(q) => print_refused(q),
+    }
+}
+
+// What a kind says of a file.
+fn say(kind: usize, file: &[u8], out: &mut [u8]) {
+    if kind == SALVAGE {
+        say_salvaged(file, out);
+    } else {
+        say_packing(kind == PACK, file, out);
+    }
+}
+
+// pack HEX, unpack HEX, salvage HEX: all behind the first blank. The room comes as an array by its type, so that no proof counts its bytes.
+pub fn file_case(kind: usize, line: &mut [u8], at: usize, out: &mut [u8; room::FILE]) -> bool {
     if at >= line.len() {
         return false;
     }
@@ -102,6 +133,6 @@ pub fn packing_case(packs: bool, line: &mut [u8], at: usize, out: &mut [u8; room
     if n == NOWHERE {
         return false;
     }
-    say_packing(packs, front_bytes(line, n), out);
+    say(kind, front_bytes(line, n), out);
     true
 }

@@ -24,11 +24,17 @@ const SHORT: usize = 8192;
 
 const SHORT_CURVES: usize = 8 * 2048;
 
-// A house file that was packed or unpacked has as many bytes as the curves of other kinds.
+// A house file that was packed, unpacked or cleaned has as many bytes as the curves of other kinds, and the list of dropped marks as many as their marks.
 pub const FILE: usize = 8 * CURVES;
+
+const REPORT: usize = 8 * MARKS;
 
 pub fn file() -> [u8; FILE] {
     [0; FILE]
+}
+
+pub fn report() -> [u8; REPORT] {
+    [0; REPORT]
 }
 
 pub fn line() -> [u8; LINE] {
