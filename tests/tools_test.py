@@ -703,10 +703,10 @@ class Long(Case):
         from vectors import cleaning as lines
         most = (LINE_FILE - 20) // 16
         ends = list(itertools.accumulate(len(f'DROP {i} RANGE\n') for i in range(LINE_MARKS)))
-        dropped = sum(end + len('KEPT 0 DROPPED 20000\n') <= LINE_REPORT for end in ends)
+        dropped = sum(end + len('KEPT 0 DROPPED 6000\n') <= LINE_REPORT for end in ends)
         apart = cleaning_cases.A + cleaning_cases.B
         whole = [house.build(0, (apart * most)[:2 * count]) for count in (most, most + 1)] + [house.build(0, [NAN, 0] * count) for count in (dropped, dropped + 1)]
-        rows = [lines.row(data) for data in [*whole, house.build(0, [NAN, 0] * 7000 + (apart * most)[:2 * most])]]
+        rows = [lines.row(data) for data in [*whole, house.build(0, [NAN, 0] * 6000 + (apart * most)[:2 * most])]]
         self.assertEqual([said == '4' for _, said in rows], [False, True, False, True, False])
         self.assertEqual(self.answers([line for line, _ in rows]), [said for _, said in rows])
 

@@ -22,7 +22,7 @@
 //     salvage HEX                                                            the same, to be cleaned
 //
 // A line has at most 4,600,000 bytes, 21,000 marks (and curves beside them), or 23,625 curves of path data: more are BAD, and a text that draws more is refused for room, as is a file
-// that has more than 1,512,000 bytes when it is packed, unpacked or cleaned, and one whose list of dropped marks has more than 336,000.
+// that has more than 1,512,000 bytes when it is packed, unpacked or cleaned, and one whose list of dropped marks has more than 100,000.
 //
 // An accepted case answers 0 and its numbers: the root; x y; a b c d; both halves; t; t and squared distance; for a fit K, then for each curve its
 // first mark, its worst mark and nine numbers, then every parameter; the distance; the count; the size; the path data; K, OPEN or CLOSED and eight

@@ -24,10 +24,11 @@ const SHORT: usize = 8192;
 
 const SHORT_CURVES: usize = 8 * 2048;
 
-// A house file that was packed, unpacked or cleaned has as many bytes as the curves of other kinds, and the list of dropped marks as many as their marks.
+// A house file that was packed, unpacked or cleaned has as many bytes as the curves of other kinds.
 pub const FILE: usize = 8 * CURVES;
 
-const REPORT: usize = 8 * MARKS;
+// The list of dropped marks, of some 6,000 at the most. The compiler gives it a place of its own beside the curves' one, so it takes from what is to stay free.
+const REPORT: usize = 100000;
 
 pub fn file() -> [u8; FILE] {
     [0; FILE]
