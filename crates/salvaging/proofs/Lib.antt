@@ -4,3 +4,4 @@ mod Walk
 mod Texts
 mod Ways
 pub mod Twice
+pub mod Enough

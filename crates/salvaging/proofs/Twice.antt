@@ -37,10 +37,10 @@ fit-kept (f ∷ fs) M h = fit-append 8 (keptBy f (take 2 M)) (keptIn fs (drop 2 
     one (Dropped c) = refl
 
 module _ (F : File) (w : wellFormed F ≡ true) where
-  abbrev k : ℕ
+  abbrev pub k : ℕ
   k = marksIn (cleaned F)
 
-  fewer : k ≤ marksIn F
+  pub fewer : k ≤ marksIn F
   fewer = omega (arith, adds F)
 
   clean-formed : Formed (cleaned F) k 0
@@ -56,7 +56,7 @@ module _ (F : File) (w : wellFormed F ≡ true) where
   held : heldOf (bytesOf (cleaned F)) ≡ ok (cleaned F)
   held = holds-held (record { formed = forming clean-formed; bytes = refl })
 
-  length-clean : length (bytesOf (cleaned F)) ≡ 20 + 16 * k
+  pub length-clean : length (bytesOf (cleaned F)) ≡ 20 + 16 * k
   length-clean = length-bytes (clean-formed .sized) ∙ size-none (cleaned F .form) k refl
 
   same : textsOf (cleaned F) ≡ unchanged F

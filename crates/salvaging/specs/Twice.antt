@@ -1,5 +1,5 @@
 -- What holds of every file that is cleaned: the statements. What holds of its marks alone, that each is kept or dropped once, is in `sieve`. Definitions only.
-use Prim.Native.Nat.{ℕ, _+_, _≤_}
+use Prim.Native.Nat.{ℕ, _+_, _*_, _≤_}
 use mathlib.Core.Path.{_≡_}
 use mathlib.Core.List.{List, []}
 use lib.ListN.{length}
@@ -8,7 +8,7 @@ use Rattle.house.specs.File.{File, marksIn, bytesOf}
 use Rattle.packed.specs.Unpacked.{heldOf}
 use Rattle.sieve.specs.Sieve.{dropsOf}
 use Rattle.salvaging.specs.Report.{reportOf}
-use Rattle.salvaging.specs.Salvage.{cleaned, Texts, salvageTexts, mostCleaned, benchTexts}
+use Rattle.salvaging.specs.Salvage.{cleaned, Texts, textsOf, salvageTexts, mostCleaned, benchTexts}
 
 -- the marks kept and the lines of the others add up to the marks read
 abbrev pub Adds : Type 0
@@ -25,3 +25,7 @@ Twice = (b : List ℕ) (F : File) → heldOf b ≡ ok F → salvageTexts (bytesO
 -- and by the program, if it took those bytes
 abbrev pub TwiceAtTheBench : Type 0
 TwiceAtTheBench = (b : List ℕ) (F : File) → heldOf b ≡ ok F → marksIn F ≤ mostCleaned → benchTexts (bytesOf (cleaned F)) ≡ ok (unchanged F)
+
+-- room that is always enough: for the cleaned file as many bytes as the file has, for the list 55 and 21 for each mark
+abbrev pub Enough : Type 0
+Enough = (b : List ℕ) (F : File) → heldOf b ≡ ok F → (length (textsOf F .file) ≤ length b) × (length (textsOf F .report) ≤ 55 + 21 * marksIn F)
