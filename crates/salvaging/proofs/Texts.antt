@@ -1,5 +1,5 @@
 -- Both texts of a file of n marks, as they are put together. Assumes nothing.
-use Prim.Native.Nat.{ℕ, _+_, _-_, _*_, _≤_}
+use Prim.Native.Nat.{ℕ, _+_, _-_, _*_, _/_, _≤_}
 use mathlib.Core.Path.{_≡_, refl, ap, _∙_}
 use mathlib.Core.List.{List, [], _++_, append-nil, append-assoc}
 use native.Mathlib.Omega.{arith}
@@ -31,9 +31,17 @@ module _ (b : List ℕ) (n : ℕ) where
   abbrev ds : List Drop
   ds = dropsOf (marksOf b n)
 
-  module _ (kept : ℕ) (ek : 2 * kept ≡ length K) where
-    -- ---- how many marks there are
+  -- ---- how many marks there are, by their bytes
 
+  module _ {marks : ℕ} (em : marks ≡ length (les K)) where
+    pub by-bytes : (2 * (marks / 16) ≡ length K) × ((marks ≡ 16 * (marks / 16)) × (marks / 16 ≤ n))
+    by-bytes =
+        let l = length-les K in
+        let a = kept-and-dropped (marksOf b n) in
+        let w = length-words (2 * n) (drop 20 b) in
+        (omega arith, (omega arith, omega arith))
+
+  module _ (kept : ℕ) (ek : 2 * kept ≡ length K) where
     pub kept-is : marksIn (cleaned F) ≡ kept
     unfolding cleaned
     kept-is = omega (arith, ek)

@@ -28,9 +28,9 @@ use packed_heads::Held;
 use packed_heads::find_held;
 use report::count_len;
 use report::put_count;
+use walks::Part;
 use walks::measure;
-use walks::put_drops;
-use walks::put_kept;
+use walks::put_part;
 
 // The most bytes that the program reads.
 const MOST_BYTES: usize = 434120;
@@ -53,7 +53,7 @@ fn put_file(file: &[u8], n: usize, kept: usize, out: &mut [u8])
     put_eight(out, sizes::HEAD_BYTES, eight(file, sizes::HEAD_BYTES));
     let size = sizes::KIND_FIELD + sizes::MARK_BYTES * kept;
     put_head(out, sizes::MARKS_HEAD, size as u64, sizes::MARKS_KIND);
-    put_kept(out, sizes::MARKS_AT, file, n);
+    put_part(out, sizes::MARKS_AT, Part::Marks, file, n);
 }
 
 // The list of the marks dropped, in the first bytes, which have room for it.
@@ -63,7 +63,7 @@ fn put_report(file: &[u8], n: usize, kept: usize, report: &mut [u8])
     ensures { λ _. ⌜ now (report .exit) ≡ written (reportOf kept (dropsOf (marksOf (now (file .entry)) n))) (now (report .entry)) ⌝ }
 {
     let lines = put_count(report, kept, n - kept);
-    put_drops(report, lines, file, n);
+    put_part(report, lines, Part::Lines, file, n);
 }
 
 // The file of n marks that is well formed, cleaned. Nothing is written before it is known that there is room for both.
@@ -71,10 +71,11 @@ fn clean(file: &[u8], n: usize, out: &mut [u8], report: &mut [u8]) -> Salvaged
     requires { ⌜ (marksAt + markBytes * n ≤ length (now file)) × (n < 2 ^ 28) ⌝ }
     ensures { λ r. ⌜ salvageLeft (salvagedAnswer r) (now (out .exit)) (now (report .exit)) ≡ handBoth (now (out .entry)) (now (report .entry)) (textsOf (fileAt (now (file .entry)) form.Eight n 0)) ⌝ }
 {
-    let found = measure(file, n);
-    let kept = found.kept;
-    let size = sizes::MARKS_AT + sizes::MARK_BYTES * kept;
-    let text = count_len(kept, n - kept) + found.lines;
+    let marks = measure(Part::Marks, file, n);
+    let lines = measure(Part::Lines, file, n);
+    let kept = marks / sizes::MARK_BYTES;
+    let size = sizes::MARKS_AT + marks;
+    let text = count_len(kept, n - kept) + lines;
     if out.len() < size {
         return Salvaged::Refused(NO_ROOM);
     }

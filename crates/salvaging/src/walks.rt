@@ -1,13 +1,11 @@
-// The marks of a file in order, by what becomes of each: counted, copied and listed, a walk for each.
+// The marks of a file in order, by what becomes of each: the bytes of those that are kept, and the lines of the others. Either part is measured by one walk and put by another.
 ghost use mathlib.Core.Path.{_≡_};
 ghost use Prim.Native.Nat.{_+_, _*_, _^_, _<_, _≤_};
-ghost use lib.ListN.{length, drop};
+ghost use lib.ListN.{length};
 ghost use Rattle.text.specs.Put.{Put};
-ghost use Rattle.house.specs.Limits.{markNumbers, markBytes, marksAt};
-ghost use Rattle.house.specs.Bytes.{words, les};
-ghost use Rattle.sieve.specs.Sieve.{keptBy, keptOf, dropsOf};
-ghost use Rattle.salvaging.specs.Report.{dropLines};
-ghost use Rattle.salvaging.specs.Layout.{marksOf, keeps};
+ghost use Rattle.house.specs.Limits.{markBytes, marksAt};
+ghost use Rattle.salvaging.specs.declared.walks.Part.the-variants as part;
+ghost use Rattle.salvaging.specs.Layout.{pieceOf, markLength, pieceLength, partOf};
 use super::report::fate_len;
 use super::report::put_fate;
 use house::sizes;
@@ -18,46 +16,36 @@ use sieve::fate_of;
 use sieve::mark_at;
 use text::put_bytes;
 
-// How many marks are kept, and how many bytes the lines of the others have.
-pub struct Survey {
-    pub kept: usize,
-    pub lines: usize,
+// What is put of the marks: those that are kept, or the lines of those that are dropped.
+pub enum Part {
+    Marks,
+    Lines,
 }
 
-// How many marks a fate keeps.
-fn keeps(fate: Fate) -> usize
-    ensures { λ r. ⌜ r ≡ keeps fate ⌝ }
+// How many bytes of its own a mark is given.
+fn mark_len(fate: Fate) -> usize
+    ensures { λ r. ⌜ (r ≤ 32) × (r ≡ markLength fate) ⌝ }
 {
     match fate {
-        Fate::Kept => 1,
+        Fate::Kept => sizes::MARK_BYTES,
         Fate::Dropped(_) => 0,
     }
 }
 
-// Counts the marks kept, and measures the lines of the others.
-pub fn measure(file: &[u8], n: usize) -> Survey
-    requires { ⌜ (marksAt + markBytes * n ≤ length (now file)) × (n < 2 ^ 28) ⌝ }
-    ensures { λ r. ⌜ (r .kept ≤ n) × ((markNumbers * r .kept ≡ length (keptOf (marksOf (now (file .entry)) n))) × ((r .lines ≤ 32 * n) × (r .lines ≡ length (dropLines (dropsOf (marksOf (now (file .entry)) n)))))) ⌝ }
+// How many bytes are put for mark i.
+fn piece_len(part: Part, i: usize, fate: Fate) -> usize
+    ensures { λ r. ⌜ (r ≤ 32) × (r ≡ pieceLength part i fate) ⌝ }
 {
-    let mut last = Last::Nothing;
-    let mut kept = 0;
-    let mut lines = 0;
-    let mut i = 0;
-    while i < n {
-        let p = mark_at(file, i);
-        let fate = fate_of(last, p);
-        kept += keeps(fate);
-        lines += fate_len(i, fate);
-        last = after(last, p, fate);
-        i += 1;
+    match part {
+        Part::Marks => mark_len(fate),
+        Part::Lines => fate_len(i, fate),
     }
-    Survey { kept, lines }
 }
 
 // Mark i as it stands in the file, at `at`, where it is kept.
 fn put_mark(out: &mut [u8], at: usize, file: &[u8], i: usize, fate: Fate) -> usize
-    requires { ⌜ (marksAt + markBytes * i + markBytes ≤ length (now file)) × (at + length (les (keptBy fate (words markNumbers (drop (marksAt + markBytes * i) (now file))))) ≤ length (now out)) ⌝ }
-    ensures { λ r. ⌜ Put (now (out .entry)) at (les (keptBy fate (words markNumbers (drop (marksAt + markBytes * i) (now (file .entry)))))) (now (out .exit)) r ⌝ }
+    requires { ⌜ (marksAt + markBytes * i + markBytes ≤ length (now file)) × (at + length (pieceOf part.Marks (now file) i fate) ≤ length (now out)) ⌝ }
+    ensures { λ r. ⌜ Put (now (out .entry)) at (pieceOf part.Marks (now (file .entry)) i fate) (now (out .exit)) r ⌝ }
 {
     match fate {
         Fate::Kept => {
@@ -69,28 +57,39 @@ fn put_mark(out: &mut [u8], at: usize, file: &[u8], i: usize, fate: Fate) -> usi
     }
 }
 
-// The marks kept, at `at`.
-pub fn put_kept(out: &mut [u8], at: usize, file: &[u8], n: usize) -> usize
-    requires { ⌜ (marksAt + markBytes * n ≤ length (now file)) × (at + length (les (keptOf (marksOf (now file) n))) ≤ length (now out)) ⌝ }
-    ensures { λ r. ⌜ Put (now (out .entry)) at (les (keptOf (marksOf (now (file .entry)) n))) (now (out .exit)) r ⌝ }
+// What is put for mark i, at `at`.
+fn put_piece(out: &mut [u8], at: usize, part: Part, file: &[u8], i: usize, fate: Fate) -> usize
+    requires { ⌜ (marksAt + markBytes * i + markBytes ≤ length (now file)) × (at + length (pieceOf part (now file) i fate) ≤ length (now out)) ⌝ }
+    ensures { λ r. ⌜ Put (now (out .entry)) at (pieceOf part (now (file .entry)) i fate) (now (out .exit)) r ⌝ }
+{
+    match part {
+        Part::Marks => put_mark(out, at, file, i, fate),
+        Part::Lines => put_fate(out, at, i, fate),
+    }
+}
+
+// How many bytes are put for n marks.
+pub fn measure(part: Part, file: &[u8], n: usize) -> usize
+    requires { ⌜ (marksAt + markBytes * n ≤ length (now file)) × (n < 2 ^ 28) ⌝ }
+    ensures { λ r. ⌜ (r ≤ 32 * n) × (r ≡ length (partOf part (now (file .entry)) n)) ⌝ }
 {
     let mut last = Last::Nothing;
-    let mut end = at;
+    let mut size = 0;
     let mut i = 0;
     while i < n {
         let p = mark_at(file, i);
         let fate = fate_of(last, p);
-        end = put_mark(out, end, file, i, fate);
+        size += piece_len(part, i, fate);
         last = after(last, p, fate);
         i += 1;
     }
-    end
+    size
 }
 
-// A line for each of the others, at `at`.
-pub fn put_drops(out: &mut [u8], at: usize, file: &[u8], n: usize) -> usize
-    requires { ⌜ (marksAt + markBytes * n ≤ length (now file)) × (at + length (dropLines (dropsOf (marksOf (now file) n))) ≤ length (now out)) ⌝ }
-    ensures { λ r. ⌜ Put (now (out .entry)) at (dropLines (dropsOf (marksOf (now (file .entry)) n))) (now (out .exit)) r ⌝ }
+// What is put for n marks, at `at`.
+pub fn put_part(out: &mut [u8], at: usize, part: Part, file: &[u8], n: usize) -> usize
+    requires { ⌜ (marksAt + markBytes * n ≤ length (now file)) × (at + length (partOf part (now file) n) ≤ length (now out)) ⌝ }
+    ensures { λ r. ⌜ Put (now (out .entry)) at (partOf part (now (file .entry)) n) (now (out .exit)) r ⌝ }
 {
     let mut last = Last::Nothing;
     let mut end = at;
@@ -98,7 +97,7 @@ pub fn put_drops(out: &mut [u8], at: usize, file: &[u8], n: usize) -> usize
     while i < n {
         let p = mark_at(file, i);
         let fate = fate_of(last, p);
-        end = put_fate(out, end, i, fate);
+        end = put_piece(out, end, part, file, i, fate);
         last = after(last, p, fate);
         i += 1;
     }

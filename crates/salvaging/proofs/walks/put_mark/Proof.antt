@@ -5,9 +5,9 @@ use Prim.Native.Nat.{_+_, _-_, _*_}
 use native.Mathlib.Nat.{add-zero}
 use native.Mathlib.Omega.{arith}
 use lib.ListN.{length-take, length-drop}
-use Rattle.house.specs.Bytes.{allFit, rowBytes}
+use Rattle.house.specs.Bytes.{rowBytes, allFit}
 use Rattle.house.proofs.Numbers.{fit-each}
-use Rattle.salvaging.proofs.Walk.{mark-length, mark-put}
+use Rattle.salvaging.proofs.Walk.{kept-length, mark-put}
 use borrow.Author.Needs.{needs}
 use Rattle.salvaging.proofs.walks.put_mark.Statement.{statement}
 use Rattle.salvaging.proofs.walks.put_mark.Tie as tie
@@ -38,7 +38,7 @@ part-put-bytes-end : tie.Need-part-put-bytes-end
 part-put-bytes-end c = search needs
 
 put-bytes-requires : tie.Need-put-bytes-requires
-put-bytes-requires c κs = let a = c .before .before .before .before .before .before .args in simp (length-take, length-drop) (omega (arith, c .before .before .before .before .before .before .pre .0, c .before .before .before .before .before .before .pre .1, mark-length (a .file .now) (a .i) (bytes (c .before .before .before .before)) (c .before .before .before .before .before .before .pre .0) (c .before .before .enum-told .given .1)))
+put-bytes-requires c κs = let a = c .before .before .before .before .before .before .args in simp (length-take, length-drop) (omega (arith, c .before .before .before .before .before .before .pre .0, c .before .before .before .before .before .before .pre .1, kept-length (a .file .now) (a .i) (c .before .before .enum-told .given .1)))
 
 enum-told-2 : tie.Need-enum-told-2
 enum-told-2 c = search needs
