@@ -299,7 +299,7 @@ def parser():
     add_flat(verb)
     verb.add_argument('--svg', action='store_true', help='print an SVG file with the path, which a browser or Inkscape opens at true scale')
 
-    verb = add_verb(verbs, clean, 'Writes each file without the marks that are out of range or equal the one before them, and a drawing that shows those in grey. That a fit takes what is kept is not promised.',
+    verb = add_verb(verbs, clean, 'Writes each file without the marks that are out of range or equal the last one kept, and a drawing that shows those in grey. That a fit takes what is kept is not promised.',
                     'wesalondo clean rested.house --out cleaned --fit')
     verb.add_argument('files', metavar='FILE', nargs='+', help='a house file of up to 512 marks; curves that it has are not kept')
     verb.add_argument('--out', metavar='DIR', required=True, help='the folder to write to, each file under its own name and its drawing with .svg in place of the ending; not the folder that it is in')
