@@ -26,14 +26,15 @@ use Rattle.float.proofs.Answers.{not-refused, unless-ok}
 use Rattle.grammar.proofs.Formed.{Turn, plain, full, Sized, Formed, formed, params-some}
 use Rattle.grammar.proofs.Rooms.{Places, placing}
 use Rattle.packed.proofs.Candidate.{Stored, held-stored, stored-formed}
-use Rattle.desk.specs.Desk.{roomMarks, mostBytes, Roomy, fileIn, refusalIn, crowdedAs}
+use Rattle.limits.specs.Limits.{mostRead}
+use Rattle.desk.specs.Desk.{roomMarks, Roomy, fileIn, refusalIn, crowdedAs}
 use Rattle.desk.proofs.Numbers.{front}
 
 -- ---- the call
 
-pub too-long : (b : List ℕ) {M P W C Q : List ℕ} → mostBytes < length b → outcome (refused 9) M P W C Q ≡ settled (fileIn b) M P W C Q
+pub too-long : (b : List ℕ) {M P W C Q : List ℕ} → mostRead < length b → outcome (refused 9) M P W C Q ≡ settled (fileIn b) M P W C Q
 unfolding fileIn
-too-long b h = rw (lt-leb (length b) mostBytes h)
+too-long b h = rw (lt-leb (length b) mostRead h)
 
 -- a file of at most 4,096 marks
 abbrev few : File → Answer File
@@ -82,15 +83,15 @@ no-other b {q} e = go (isFile b) (isPacked b) e
     go false true x = not-refused q x
     go false false x = cc
 
-read-as : (b : List ℕ) → length b ≤ mostBytes → fileIn b ≡ moved (judged b 8192 4095 4095 36855 4096)
+read-as : (b : List ℕ) → length b ≤ mostRead → fileIn b ≡ moved (judged b 8192 4095 4095 36855 4096)
 unfolding fileIn judged
-read-as b h = rw (le-leb (length b) mostBytes h) (go (heldOf b) refl)
+read-as b h = rw (le-leb (length b) mostRead h) (go (heldOf b) refl)
   where
     go : (a : Answer File) → heldOf b ≡ a → _>>=_ a few ≡ moved (_>>=_ a (λ F. within F 8192 4095 4095 36855 4096))
     go (ok F) x = let f = formed F (stored-formed (held-stored x)) in held F (f .sized) (f .way)
     go (refused q) x = rw (no-other b x)
 
-module _ (b M P W C Q : List ℕ) (r : Read) {M′ P′ W′ C′ Q′ : List ℕ} (h : length b ≤ mostBytes) (y : Roomy M P W C Q) (e : outcome (readAnswer r) M′ P′ W′ C′ Q′ ≡ readOf b M P W C Q) where
+module _ (b M P W C Q : List ℕ) (r : Read) {M′ P′ W′ C′ Q′ : List ℕ} (h : length b ≤ mostRead) (y : Roomy M P W C Q) (e : outcome (readAnswer r) M′ P′ W′ C′ Q′ ≡ readOf b M P W C Q) where
   lent : outcome (readAnswer r) M′ P′ W′ C′ Q′ ≡ settled (judged b 8192 4095 4095 36855 4096) M P W C Q
   unfolding readOf
   lent = e ∙ rw (y .marks, y .firsts, y .worsts, y .curves, y .params)
@@ -121,7 +122,7 @@ record Within (b : List ℕ) (F : File) : Type 0 where
 
 within-file : {b : List ℕ} {F : File} → fileIn b ≡ ok F → Within b F
 unfolding fileIn
-within-file {b} {F} e = let u = unless-ok 9 (leb (length b) mostBytes) (_>>=_ (heldOf b) few) e in go (heldOf b) refl (u .1)
+within-file {b} {F} e = let u = unless-ok 9 (leb (length b) mostRead) (_>>=_ (heldOf b) few) e in go (heldOf b) refl (u .1)
   where
     go : (a : Answer File) → heldOf b ≡ a → _>>=_ a few ≡ ok F → Within b F
     go (ok G) x y =

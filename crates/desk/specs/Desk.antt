@@ -8,6 +8,7 @@ use lib.ListN.{length, replicate}
 use lib.Ieee.{Float, binary64, ofBits, toBits}
 use Rattle.float.specs.Number.{f0}
 use Rattle.float.specs.Answer.{Answer, ok, unless, _>>=_}
+use Rattle.limits.specs.Limits.{mostRead}
 use Rattle.house.specs.Limits.{tooMany, noRoom, badlyFormed}
 use Rattle.house.specs.File.{File, marksIn}
 use Rattle.packed.specs.Unpacked.{heldOf}
@@ -38,10 +39,6 @@ noMarks n = replicate n 0
 abbrev pub roomMarks : ℕ
 roomMarks = 4096
 
--- the longest file of so many: 4,095 curves with their worst marks, and the parameters
-abbrev pub mostBytes : ℕ
-mostBytes = 434120
-
 -- slices with room for that
 pub record Roomy (M P W C Q : List ℕ) : Type 0 where
   pub marks : length M ≡ 8192
@@ -52,7 +49,7 @@ pub record Roomy (M P W C Q : List ℕ) : Type 0 where
 
 -- 9 or 2, or the file, in either form
 unfoldable pub fileIn : List ℕ → Answer File
-fileIn b = unless badlyFormed (leb (length b) mostBytes) do
+fileIn b = unless badlyFormed (leb (length b) mostRead) do
   F ← heldOf b
   unless tooMany (leb (marksIn F) roomMarks) (ok F)
 

@@ -10,11 +10,9 @@ use float::refusal::BADLY_FORMED;
 use float::refusal::NO_ROOM;
 use float::refusal::TOO_MANY;
 use float::to_bits;
+use limits::MOST_READ;
 use reader::Read;
 use reader::read_file;
-
-// The longest house file of 4,096 marks: 4,095 curves with their worst marks, and the parameters.
-const MOST_BYTES: usize = 434120;
 
 // ---- numbers and patterns
 
@@ -118,7 +116,7 @@ pub fn open_file(
     requires { ⌜ Roomy (now marks) (now firsts) (now worsts) (now curves) (now params) ⌝ }
     ensures { λ r. ⌜ outcome (readAnswer r) (now (marks .exit)) (now (firsts .exit)) (now (worsts .exit)) (now (curves .exit)) (now (params .exit)) ≡ settled (fileIn (now (file .entry))) (now (marks .entry)) (now (firsts .entry)) (now (worsts .entry)) (now (curves .entry)) (now (params .entry)) ⌝ }
 {
-    if file.len() > MOST_BYTES {
+    if file.len() > MOST_READ {
         return Read::Refused(BADLY_FORMED);
     }
     let read = read_file(file, marks, firsts, worsts, curves, params);

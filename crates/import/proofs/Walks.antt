@@ -7,6 +7,7 @@ use native.Mathlib.Omega.{arith}
 use lib.Ieee.{Float}
 use lib.ListN.{length, drop}
 use Rattle.float.specs.Answer.{Answer, ok, refused, _>>=_}
+use Rattle.plane.specs.Plane.{equal}
 use Rattle.plane.specs.declared.Point.{Point}
 use Rattle.plane.specs.declared.Curve.{Curve}
 use Rattle.path.specs.Range.{noPath}
@@ -14,7 +15,7 @@ use Rattle.path.specs.Grammar as grammar
 use Rattle.path.specs.Grammar.{Segment, line, curve, step, Drawing, drawing, then, draws}
 use Rattle.path.specs.declared.Letter.{Letter}
 use Rattle.marks.specs.Line.{lineOf}
-use Rattle.path.specs.Curves.{segmentSmall, segmentsSmall, there, closing, curveFrom, curvesFrom}
+use Rattle.path.specs.Curves.{segmentSmall, segmentsSmall, closing, curveFrom, curvesFrom}
 use Rattle.import.specs.Drawn.{cappedSegment, Bent, bent, drawn, closed, ended, nextAnswer, stepAnswer, Marked}
 use Rattle.import.specs.Walk.{placed, filled, cappedSegments, drawsOf, Done, left, leftAnswer, Closes}
 use Rattle.import.specs.declared.Step.{Step}
@@ -93,11 +94,11 @@ module _ (m p : Point) (k : ℕ) (s : Bool) (C : List Float) where
 
 -- Z
 module _ (m p : Point) (k : ℕ) (C : List Float) where
-  pub closes-there : there p m ≡ true → Closes m p k C k C
+  pub closes-there : equal p m ≡ true → Closes m p k C k C
   unfolding closing filled
   closes-there h = record { count = rw h (omega arith); out = rw h refl }
 
-  pub closes-line : {c : Curve} {D : List Float} → there p m ≡ false → c ≡ lineOf p m .val → D ≡ placed C k c → Closes m p k C (k + 1) D
+  pub closes-line : {c : Curve} {D : List Float} → equal p m ≡ false → c ≡ lineOf p m .val → D ≡ placed C k c → Closes m p k C (k + 1) D
   unfolding closing filled
   closes-line h e f = record { count = rw h refl; out = rw h (f ∙ ap (placed C k) e) }
 

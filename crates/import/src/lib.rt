@@ -7,7 +7,7 @@ ghost use Rattle.float.specs.Slices.{written};
 ghost use Rattle.marks.specs.Line.{lineOf};
 ghost use Rattle.form.specs.Form.{curveNumbers};
 ghost use Rattle.path.specs.Grammar.{pair as pairOf, arguments, drawnBy, step, pathOf};
-ghost use Rattle.path.specs.Curves.{there, eights};
+ghost use Rattle.path.specs.Curves.{eights};
 ghost use Rattle.import.specs.Import.{left as leaving, importedAnswer, importOf};
 ghost use Rattle.path.specs.declared.Letter.the-variants as letters;
 ghost use Rattle.numerals.specs.Numerals.{mapped};
@@ -28,6 +28,7 @@ use path::Letter;
 use path::is_small;
 use plane::Curve;
 use plane::Point;
+use plane::equal;
 use thousandths::nearest;
 
 // How many curves were read, and whether Z closed them; or why none were.
@@ -269,19 +270,12 @@ enum Walked {
     Nothing,
 }
 
-// Whether two points are equal by value.
-fn is_there(p: Point, q: Point) -> bool
-    ensures { λ r. ⌜ r ≡ there p q ⌝ }
-{
-    (p.x == q.x) & (p.y == q.y)
-}
-
 // How many curves there are with Z at p, which puts a line back to the start unless p is there.
 fn close(out: &mut [f64], start: Point, p: Point, count: usize) -> usize
     requires { ⌜ (count < 2 ^ 63) × (Marked start × Marked p) ⌝ }
     ensures { λ r. ⌜ Closes start p count (now (out .entry)) r (now (out .exit)) ⌝ }
 {
-    if is_there(p, start) {
+    if equal(p, start) {
         return count;
     }
     put_curve(out, count, line(p, start));

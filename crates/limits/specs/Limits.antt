@@ -1,4 +1,4 @@
--- How many marks an outline may have. Definitions only.
+-- How many marks an outline may have, and how many bytes a file that a program reads. Definitions only.
 use Prim.Native.Nat.{ℕ, _^_}
 
 -- the most marks that a fit by blocks, the checker and a house file take
@@ -9,3 +9,7 @@ mostMarks = 100000
 -- a mark's number fits, and no sum over marks then passes a usize.
 abbrev pub mostNumbered : ℕ
 mostNumbered = 2 ^ 32
+
+-- the most bytes that the programs behind the bench's command read: the longest house file of 4,096 marks, with 4,095 curves, their worst marks, and the parameters
+abbrev pub mostRead : ℕ
+mostRead = 434120

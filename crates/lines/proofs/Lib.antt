@@ -1,3 +1,3 @@
-mod Turns
+pub mod Turns
 pub mod Handed
 pub mod Agree

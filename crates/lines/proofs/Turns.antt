@@ -8,8 +8,14 @@ use lib.ListN.{length, take, drop, getD, length-append}
 use lib.Seq.{take-suc, take-take, drop-drop}
 use lib.Ieee.{Float, nan}
 use Rattle.text.specs.Put.{Put}
+use Rattle.text.specs.Text.{decimal}
 use Rattle.text.proofs.Digits.{length-hex}
-use Rattle.lines.specs.Lines.{numbers, pieceLine, pieceLines}
+use Rattle.lines.specs.Lines.{pairLine, numbers, pieceLine, pieceLines}
+
+-- how long a line of two words and two numbers is
+pub length-pair : (w : List ℕ) (a : ℕ) (v : List ℕ) (b : ℕ) → length (pairLine w a v b) ≡ length w + length (decimal a) + length v + length (decimal b) + 1
+unfolding pairLine
+length-pair w a v b = simp length-append (omega arith)
 
 pub length-numbers : (xs : List Float) → length (numbers xs) ≡ 17 * length xs
 unfolding numbers

@@ -22,12 +22,15 @@ blank = 32 ∷ []
 abbrev pub newline : List ℕ
 newline = 10 ∷ []
 
--- a word and one number, and a word and two numbers
+-- a word and one number; two words, each with a number behind it; a word and two numbers
 unfoldable pub oneLine : List ℕ → ℕ → List ℕ
 oneLine w a = (w ++ decimal a) ++ newline
 
+unfoldable pub pairLine : List ℕ → ℕ → List ℕ → ℕ → List ℕ
+pairLine w a v b = (((w ++ decimal a) ++ v) ++ decimal b) ++ newline
+
 unfoldable pub twoLine : List ℕ → ℕ → ℕ → List ℕ
-twoLine w a b = (((w ++ decimal a) ++ blank) ++ decimal b) ++ newline
+twoLine w a b = pairLine w a blank b
 
 -- numbers by their bits, a blank before each
 unfoldable pub numbers : List Float → List ℕ

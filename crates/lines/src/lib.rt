@@ -6,7 +6,7 @@ ghost use mathlib.Core.List.{_∷_, []};
 ghost use lib.ListN.{length, take};
 ghost use Rattle.form.specs.Form.{curveNumbers, recordNumbers};
 ghost use Rattle.text.specs.Put.{Put};
-ghost use Rattle.lines.specs.Lines.{oneLine, twoLine, numbers, pieceLine, pieceLines, outlineLines, refusalLine};
+ghost use Rattle.lines.specs.Lines.{oneLine, pairLine, twoLine, numbers, pieceLine, pieceLines, outlineLines, refusalLine};
 ghost use Rattle.lines.specs.Handed.{handed, listedAnswer, handOver};
 use float::refusal::NO_ROOM;
 use float::to_bits;
@@ -26,16 +26,24 @@ pub fn put_one(out: &mut [u8], word: &[u8], a: u64) -> usize
     put_bytes(out, end, b"\n")
 }
 
+// Two words, each with a number behind it, on a line.
+pub fn put_pair(out: &mut [u8], word: &[u8], a: u64, between: &[u8], b: u64) -> usize
+    requires { ⌜ length (pairLine (now word) a (now between) b) ≤ length (now out) ⌝ }
+    ensures { λ r. ⌜ Put (now (out .entry)) 0 (pairLine (now (word .entry)) a (now (between .entry)) b) (now (out .exit)) r ⌝ }
+{
+    let first = put_bytes(out, 0, word);
+    let second = put_decimal(out, first, a);
+    let number = put_bytes(out, second, between);
+    let end = put_decimal(out, number, b);
+    put_bytes(out, end, b"\n")
+}
+
 // A word and two numbers, on a line.
 pub fn put_two(out: &mut [u8], word: &[u8], a: u64, b: u64) -> usize
     requires { ⌜ length (now word) + 42 ≤ length (now out) ⌝ }
     ensures { λ r. ⌜ (r ≤ length (now (word .entry)) + 42) × Put (now (out .entry)) 0 (twoLine (now (word .entry)) a b) (now (out .exit)) r ⌝ }
 {
-    let first = put_bytes(out, 0, word);
-    let between = put_decimal(out, first, a);
-    let second = put_bytes(out, between, b" ");
-    let end = put_decimal(out, second, b);
-    put_bytes(out, end, b"\n")
+    put_pair(out, word, a, b" ", b)
 }
 
 // One number, after a blank.

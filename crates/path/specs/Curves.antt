@@ -1,8 +1,8 @@
 -- The curves of a path. Definitions only.
 use mathlib.Core.Bool.{Bool, true, not, _&&_, cond}
 use mathlib.Core.List.{List, [], _∷_}
-use lib.Ieee.{Float, eq}
-use Rattle.plane.specs.Plane.{at}
+use lib.Ieee.{Float}
+use Rattle.plane.specs.Plane.{at, equal}
 use Rattle.plane.specs.declared.Point.{Point}
 use Rattle.plane.specs.declared.Curve.{Curve}
 use Rattle.marks.specs.Line.{lineOf}
@@ -35,13 +35,9 @@ unfoldable pub curveFrom : Point → Segment → Curve
 curveFrom p (line q) = lineOf p (pointAt q) .val
 curveFrom p (curve a b c) = record { start = p; cp1 = pointAt a; cp2 = pointAt b; end = pointAt c }
 
--- equal by value
-unfoldable pub there : Point → Point → Bool
-there p q = eq (p .x) (q .x) && eq (p .y) (q .y)
-
 -- Z at the point p draws a line back to m, unless the path is there already
 unfoldable pub closing : Bool → Point → Point → List Curve
-closing z m p = cond (z && not (there p m)) (lineOf p m .val ∷ []) []
+closing z m p = cond (z && not (equal p m)) (lineOf p m .val ∷ []) []
 
 -- the curves of the segments from p on, and of Z
 unfoldable pub curvesFrom : Bool → Point → Point → List Segment → List Curve

@@ -9,9 +9,10 @@ use Rattle.float.specs.Answer.{ok}
 use Rattle.float.specs.Number.{finite}
 use Rattle.float.proofs.Bits.{no-number}
 use Rattle.float.proofs.Truth.{is-so, both}
+use Rattle.plane.specs.Plane.{equal}
 use Rattle.plane.specs.declared.Point.{Point}
 use Rattle.plane.specs.declared.Curve.{Curve}
-use Rattle.path.specs.Curves.{segmentsSmall, pathSmall, pointAt, curveFrom, there, closing, curvesFrom, curvesOf}
+use Rattle.path.specs.Curves.{segmentsSmall, pathSmall, pointAt, curveFrom, closing, curvesFrom, curvesOf}
 use Rattle.path.specs.Text.{pathText}
 use Rattle.import.specs.Import.{readOf}
 use Rattle.path_trips.specs.Trips.{near, nearPoint, nearCurve, row}
@@ -44,12 +45,12 @@ unfolding finite
 self x h = is-so (finite x) (eq x x) h (λ e. ap finite (no-number x e))
 
 -- a path is where it is
-there-self : {p : Point} → NearP p → there (nearPoint p) (nearPoint p) ≡ true
-unfolding there nearPoint
-there-self {p} n = both _ _ (self (near (p .x)) (n .x .finite-is)) (self (near (p .y)) (n .y .finite-is))
+equal-self : {p : Point} → NearP p → equal (nearPoint p) (nearPoint p) ≡ true
+unfolding equal nearPoint
+equal-self {p} n = both _ _ (self (near (p .x)) (n .x .finite-is)) (self (near (p .y)) (n .y .finite-is))
 
 -- so Z draws no line
-closing-none : (ring : Bool) (m p : Point) → (ring ≡ true → there p m ≡ true) → closing ring m p ≡ []
+closing-none : (ring : Bool) (m p : Point) → (ring ≡ true → equal p m ≡ true) → closing ring m p ≡ []
 unfolding closing
 closing-none true m p h = rw (h refl)
 closing-none false m p h = refl
@@ -73,11 +74,11 @@ module _ (ring : Bool) (n : ℕ) (f : ℕ → Curve) (w : Whole ring (suc n) f) 
   closed-back : closing ring (nearPoint (f 0 .start)) (nearPoint (f n .end)) ≡ []
   closed-back = closing-none ring (nearPoint (f 0 .start)) (nearPoint (f n .end)) met
     where
-      met : ring ≡ true → there (nearPoint (f n .end)) (nearPoint (f 0 .start)) ≡ true
+      met : ring ≡ true → equal (nearPoint (f n .end)) (nearPoint (f 0 .start)) ≡ true
       met h =
           let e : suc n - 1 ≡ n = omega arith in
           let q : f n .end ≡ f 0 .start = rw e at (w .round h) in
-          rw q (there-self (w .nears 0 (omega arith) .start))
+          rw q (equal-self (w .nears 0 (omega arith) .start))
 
   curves-are : curvesFrom ring (nearPoint (f 0 .start)) (nearPoint (f 0 .start)) (row (suc n) (λ i. segmentOf (f i))) ≡ row (suc n) (λ i. nearCurve (f i))
   curves-are = curves-back ring (nearPoint (f 0 .start)) (nearPoint (f 0 .start)) n f refl (w .joints) closed-back

@@ -1,5 +1,5 @@
 -- Points of the plane, operation by operation as in coordinate.rs and coord2.rs. Definitions only.
-use mathlib.Core.Bool.{cond}
+use mathlib.Core.Bool.{Bool, _&&_, cond}
 use lib.Ieee.{Float, eq}
 use Rattle.float.specs.Number.{f0, f1}
 use Rattle.float.specs.Calc.{Calc, give, _>>=_, _+!_, _-!_, _*!_, _/!_}
@@ -10,6 +10,10 @@ use Rattle.plane.specs.declared.Direction.the-variants.{Toward, Nowhere}
 
 abbrev pub at : Float → Float → Point
 at x y = record { x = x; y = y }
+
+-- equal in both coordinates, as numbers: minus zero equals zero, and a NaN equals nothing
+unfoldable pub equal : Point → Point → Bool
+equal p q = eq (p .x) (q .x) && eq (p .y) (q .y)
 
 unfoldable pub plus : Point → Point → Calc Point
 plus p q = do

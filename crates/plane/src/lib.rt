@@ -1,6 +1,6 @@
 // Points and curves of the plane by value, with the arithmetic of coordinate.rs and coord2.rs in its order of operations.
 ghost use mathlib.Core.Path.{_≡_};
-ghost use Rattle.plane.specs.Plane.{plus, minus, times, dotOf, magnitudeOf, distanceOf, directionBy, directionOf, orZero};
+ghost use Rattle.plane.specs.Plane.{equal, plus, minus, times, dotOf, magnitudeOf, distanceOf, directionBy, directionOf, orZero};
 ghost use Rattle.plane.specs.Range.{coordinate, pointInRange, curveInRange, pointFinite};
 
 // A point of the plane, or a vector.
@@ -21,6 +21,13 @@ pub struct Curve {
 pub enum Direction {
     Toward(Point),
     Nowhere,
+}
+
+// Whether two points are equal in both coordinates. Numbers are compared and not their bits, so minus zero equals zero.
+pub fn equal(p: Point, q: Point) -> bool
+    ensures { λ r. ⌜ r ≡ equal p q ⌝ }
+{
+    (p.x == q.x) & (p.y == q.y)
 }
 
 // The sum of two vectors.

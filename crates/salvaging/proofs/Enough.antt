@@ -18,12 +18,12 @@ use Rattle.sieve.specs.declared.Fate.{Fate}
 use Rattle.sieve.specs.declared.Fate.the-variants.{Kept, Dropped}
 use Rattle.sieve.specs.declared.Last.the-variants.{Nothing}
 use Rattle.sieve.specs.Sieve.{dropBy, dropsFrom, fatesOf, dropsOf}
-use Rattle.sieve.proofs.Traces.{length-fates}
+use Rattle.sieve.proofs.Traces.{length-fates, adds}
 use Rattle.salvaging.specs.Report.{countLine, dropLines, reportOf}
 use Rattle.salvaging.specs.Salvage.{cleaned, textsOf}
 use Rattle.salvaging.specs.Twice.{Enough}
 use Rattle.salvaging.proofs.Sizes.{count-length, dropped-length, lines-append, lines-kept}
-use Rattle.salvaging.proofs.Twice.{adds, fewer, length-clean}
+use Rattle.salvaging.proofs.Twice.{fewer, length-clean}
 
 -- ---- the file
 
@@ -68,4 +68,4 @@ enough b F h =
     let w = stored-formed (held-stored h) in
     let f = formed F w .few in
     let l = fewer F w in
-    (omega (arith, stored-least (held-stored h), length-clean F w), list-most (marksIn (cleaned F)) (F .marks) (omega arith) (omega arith) (omega (arith, adds F)))
+    (omega (arith, stored-least (held-stored h), length-clean F w), list-most (marksIn (cleaned F)) (F .marks) (omega arith) (omega arith) (omega (arith, adds (F .marks))))

@@ -5,16 +5,16 @@ use mathlib.Core.List.{List, [], _∷_, _++_, append-nil, append-assoc}
 use native.Mathlib.Omega.{arith}
 use lib.ListN.{length, length-append}
 use Rattle.text.specs.Text.{decimal}
+use Rattle.lines.proofs.Turns.{length-pair}
 use Rattle.sieve.specs.declared.Cause.{Cause}
 use Rattle.sieve.specs.declared.Cause.the-variants.{Range, Equal}
 use Rattle.sieve.specs.declared.Fate.{Fate}
 use Rattle.sieve.specs.declared.Fate.the-variants.{Kept, Dropped}
 use Rattle.sieve.specs.Sieve.{Drop, dropBy}
-use Rattle.salvaging.specs.Report.{causeWord, countLine, dropLine, dropLines}
+use Rattle.salvaging.specs.Report.{keptWord, droppedWord, causeWord, countLine, dropLine, dropLines}
 
 pub count-length : (k d : ℕ) → length (countLine k d) ≡ 15 + length (decimal k) + length (decimal d)
-unfolding countLine
-count-length k d = simp length-append (omega arith)
+count-length k d = omega (arith, length-pair keptWord k droppedWord d)
 
 pub cause-length : (c : Cause) → length (causeWord c) ≡ 5
 cause-length Range = refl

@@ -20,11 +20,7 @@ use Rattle.sieve.specs.declared.Fate.the-variants.{Kept, Dropped}
 use Rattle.sieve.specs.Sieve.{keptBy, keptIn, fatesOf}
 use Rattle.sieve.proofs.Traces as traces
 use Rattle.salvaging.specs.Salvage.{cleaned, textsOf, salvageTexts, benchTexts}
-use Rattle.salvaging.specs.Twice.{Adds, unchanged, Twice, TwiceAtTheBench}
-
-pub adds : Adds
-unfolding cleaned
-adds F = traces.adds (F .marks)
+use Rattle.salvaging.specs.Twice.{unchanged, Twice, TwiceAtTheBench}
 
 -- what is kept fits its fields
 fit-kept : (fs : List Fate) (M : List ℕ) → allFit 8 M ≡ true → allFit 8 (keptIn fs M) ≡ true
@@ -41,7 +37,8 @@ module _ (F : File) (w : wellFormed F ≡ true) where
   k = marksIn (cleaned F)
 
   pub fewer : k ≤ marksIn F
-  fewer = omega (arith, adds F)
+  unfolding cleaned
+  fewer = omega (arith, traces.adds (F .marks))
 
   clean-formed : Formed (cleaned F) k 0
   unfolding cleaned allFit

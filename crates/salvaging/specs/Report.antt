@@ -3,7 +3,7 @@ use Prim.Native.Nat.{ℕ}
 use mathlib.Core.List.{List, [], _∷_, _++_}
 use lib.ListN.{length}
 use Rattle.text.specs.Text.{decimal}
-use Rattle.lines.specs.Lines.{blank, newline}
+use Rattle.lines.specs.Lines.{blank, newline, pairLine}
 use Rattle.sieve.specs.declared.Cause.{Cause}
 use Rattle.sieve.specs.declared.Cause.the-variants.{Range, Equal}
 use Rattle.sieve.specs.Sieve.{Drop}
@@ -24,8 +24,8 @@ causeWord Range = 82 ∷ 65 ∷ 78 ∷ 71 ∷ 69 ∷ []
 causeWord Equal = 69 ∷ 81 ∷ 85 ∷ 65 ∷ 76 ∷ []
 
 -- how many marks were kept, and how many dropped
-unfoldable pub countLine : ℕ → ℕ → List ℕ
-countLine k d = (((keptWord ++ decimal k) ++ droppedWord) ++ decimal d) ++ newline
+abbrev pub countLine : ℕ → ℕ → List ℕ
+countLine k d = pairLine keptWord k droppedWord d
 
 -- a dropped mark: its number and the cause
 unfoldable pub dropLine : ℕ → Cause → List ℕ

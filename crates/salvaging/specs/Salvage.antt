@@ -6,6 +6,7 @@ use lib.Dec.{leb}
 use lib.ListN.{length}
 use Rattle.float.specs.Answer.{Answer, ok, refused, unless, _>>=_}
 use Rattle.float.specs.Slices.{written}
+use Rattle.limits.specs.Limits.{mostRead}
 use Rattle.form.specs.declared.Form.the-variants.{Eight}
 use Rattle.lines.specs.Lines.{refusalLine}
 use Rattle.house.specs.Limits.{tooMany, noRoom, badlyFormed}
@@ -19,19 +20,16 @@ use Rattle.salvaging.specs.Report.{reportOf}
 -- ---- what a file is cleaned to
 
 -- its tolerance and the marks kept, and no curves
-abbrev pub cleanFile : ℕ → List ℕ → File
-cleanFile t M = record {
+unfoldable pub cleaned : File → File
+cleaned F = record {
   form = Eight;
-  tolerance = t;
-  marks = M;
+  tolerance = F .tolerance;
+  marks = keptOf (F .marks);
   firsts = [];
   worsts = [];
   curves = [];
   params = [];
 }
-
-unfoldable pub cleaned : File → File
-cleaned F = cleanFile (F .tolerance) (keptOf (F .marks))
 
 -- the bytes of a file, and the list of the marks dropped
 pub record Texts : Type 0 where
@@ -85,16 +83,13 @@ salvageOf b O R = bothTo O R (salvageTexts b)
 
 -- ---- what the program prints
 
--- the most bytes that it reads, and the most marks
-abbrev pub mostBytes : ℕ
-mostBytes = 434120
-
+-- the most marks that it cleans
 abbrev pub mostCleaned : ℕ
 mostCleaned = 512
 
 -- 9 or 2, or both texts
 unfoldable pub benchTexts : List ℕ → Answer Texts
-benchTexts b = unless badlyFormed (leb (length b) mostBytes) do
+benchTexts b = unless badlyFormed (leb (length b) mostRead) do
   F ← heldOf b
   unless tooMany (leb (marksIn F) mostCleaned) (ok (textsOf F))
 

@@ -1,4 +1,4 @@
--- What holds of every file that is cleaned: the statements. What holds of its marks alone, that each is kept or dropped once, is in `sieve`. Definitions only.
+-- What holds of every file that is cleaned: the statements. What holds of its marks alone, that kept and dropped add up and each is one of them, once, is in `sieve`. Definitions only.
 use Prim.Native.Nat.{ℕ, _+_, _*_, _≤_}
 use mathlib.Core.Path.{_≡_}
 use mathlib.Core.List.{List, []}
@@ -6,13 +6,8 @@ use lib.ListN.{length}
 use Rattle.float.specs.Answer.{ok}
 use Rattle.house.specs.File.{File, marksIn, bytesOf}
 use Rattle.packed.specs.Unpacked.{heldOf}
-use Rattle.sieve.specs.Sieve.{dropsOf}
 use Rattle.salvaging.specs.Report.{reportOf}
 use Rattle.salvaging.specs.Salvage.{cleaned, Texts, textsOf, salvageTexts, mostCleaned, benchTexts}
-
--- the marks kept and the lines of the others add up to the marks read
-abbrev pub Adds : Type 0
-Adds = (F : File) → marksIn (cleaned F) + length (dropsOf (F .marks)) ≡ marksIn F
 
 -- what the cleaned file is cleaned to: the same bytes, and a list of no mark
 abbrev pub unchanged : File → Texts

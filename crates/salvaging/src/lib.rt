@@ -23,19 +23,17 @@ use house::bytes::eight;
 use house::bytes::put_eight;
 use house::bytes::put_head;
 use house::sizes;
+use limits::MOST_READ;
 use lines::Listed;
+use lines::put_pair;
 use packed_heads::Held;
 use packed_heads::find_held;
 use report::count_len;
-use report::put_count;
 use walks::Part;
 use walks::measure;
 use walks::put_part;
 
-// The most bytes that the program reads.
-const MOST_BYTES: usize = 434120;
-
-// The most marks that it cleans.
+// The most marks that the program cleans.
 const MOST_CLEANED: usize = 512;
 
 // How many bytes of the cleaned file and of the list were written; or why none were.
@@ -62,7 +60,8 @@ fn put_report(file: &[u8], n: usize, kept: usize, report: &mut [u8])
     requires { ⌜ n - kept ≡ length (dropsOf (marksOf (now file) n)) ⌝ }
     ensures { λ _. ⌜ now (report .exit) ≡ written (reportOf kept (dropsOf (marksOf (now (file .entry)) n))) (now (report .entry)) ⌝ }
 {
-    let lines = put_count(report, kept, n - kept);
+    let dropped = (n - kept) as u64;
+    let lines = put_pair(report, b"KEPT ", kept as u64, b" DROPPED ", dropped);
     put_part(report, lines, Part::Lines, file, n);
 }
 
@@ -134,7 +133,7 @@ fn refuse(q: u32, report: &mut [u8]) -> Salvaged
 pub fn salvage_file(file: &[u8], out: &mut [u8], report: &mut [u8]) -> Salvaged
     ensures { λ r. ⌜ salvageLeft (salvagedAnswer r) (now (out .exit)) (now (report .exit)) ≡ printedOf (now (file .entry)) (now (out .entry)) (now (report .entry)) ⌝ }
 {
-    if file.len() > MOST_BYTES {
+    if file.len() > MOST_READ {
         return refuse(BADLY_FORMED, report);
     }
     let held = find_held(file);

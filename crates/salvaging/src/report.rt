@@ -18,18 +18,6 @@ pub fn count_len(kept: usize, dropped: usize) -> usize
     15 + decimal_len(kept as u64) + decimal_len(dropped as u64)
 }
 
-// How many marks were kept and how many dropped, on the first line.
-pub fn put_count(out: &mut [u8], kept: usize, dropped: usize) -> usize
-    requires { ⌜ length (countLine kept dropped) ≤ length (now out) ⌝ }
-    ensures { λ r. ⌜ Put (now (out .entry)) 0 (countLine kept dropped) (now (out .exit)) r ⌝ }
-{
-    let first = put_bytes(out, 0, b"KEPT ");
-    let between = put_decimal(out, first, kept as u64);
-    let second = put_bytes(out, between, b" DROPPED ");
-    let end = put_decimal(out, second, dropped as u64);
-    put_bytes(out, end, b"\n")
-}
-
 // The word of a cause.
 fn put_cause(out: &mut [u8], at: usize, cause: Cause) -> usize
     requires { ⌜ at + 5 ≤ length (now out) ⌝ }

@@ -1,22 +1,16 @@
 -- What holds of every trace. Assumes nothing.
 use Prim.Native.Nat.{ℕ, suc, _+_, _*_, _/_}
 use mathlib.Core.Path.{_≡_, refl, ap, _∙_}
-use mathlib.Core.Bool.{Bool, true, false, _&&_}
 use mathlib.Core.List.{List, [], _∷_, _++_}
 use native.Mathlib.Omega.{arith}
 use lib.ListN.{length, take, drop}
 use lib.Seq.{drop-drop}
-use lib.Ieee.{binary64, ofBits}
-use Rattle.plane.specs.Range.{coordinate, pointInRange}
-use Rattle.plane.specs.declared.Point.{Point}
-use Rattle.house.proofs.Numbers.{split}
-use Rattle.sieve.specs.declared.Cause.the-variants.{Range}
 use Rattle.sieve.specs.declared.Fate.{Fate}
 use Rattle.sieve.specs.declared.Fate.the-variants.{Kept, Dropped}
 use Rattle.sieve.specs.declared.Last.{Last}
 use Rattle.sieve.specs.declared.Last.the-variants.{Nothing, Mark}
 use Rattle.sieve.specs.Sieve.{mark, fateOf, after, fates, keptIn, dropsFrom, fatesOf}
-use Rattle.sieve.specs.Traces.{times, counting, keptNumbers, dropNumbers, picked, near, Adds, Once, Picks, Again, Ranged}
+use Rattle.sieve.specs.Traces.{times, counting, keptNumbers, dropNumbers, picked, Adds, Once, Picks, Again}
 
 -- ---- one fate for each mark
 
@@ -89,30 +83,3 @@ again-from last (x ∷ (y ∷ M)) i = go (fateOf last (mark x y)) refl (again-fr
 
 pub again : Again
 again M = again-from Nothing M 0
-
--- ---- in range
-
-kept-near : (last : Last) (p : Point) → fateOf last p ≡ Kept → pointInRange p ≡ true
-unfolding fateOf
-kept-near last p e = go (pointInRange p) refl
-  where
-    go : (b : Bool) → pointInRange p ≡ b → pointInRange p ≡ true
-    go true h = h
-    go false h = let d : Dropped Range ≡ Kept = rw h at e in let z : _≡_ {A = ℕ} 0 1 = cc in absurd (omega arith)
-
-in-range : (x y : ℕ) → pointInRange (mark x y) ≡ true → coordinate (ofBits binary64 x) && coordinate (ofBits binary64 y) ≡ true
-unfolding pointInRange
-in-range x y h = h
-
-ranged-from : (last : Last) (M : List ℕ) → near (keptIn (fates last M) M) ≡ true
-unfolding fates keptIn near after
-ranged-from last [] = refl
-ranged-from last (x ∷ []) = refl
-ranged-from last (x ∷ (y ∷ M)) = go (fateOf last (mark x y)) refl (ranged-from last M) (ranged-from (Mark (mark x y)) M)
-  where
-    go : (f : Fate) → fateOf last (mark x y) ≡ f → near (keptIn (fates last M) M) ≡ true → near (keptIn (fates (Mark (mark x y)) M) M) ≡ true → near (keptIn (fates last (x ∷ (y ∷ M))) (x ∷ (y ∷ M))) ≡ true
-    go Kept e a b = let n = split (coordinate (ofBits binary64 x)) (coordinate (ofBits binary64 y)) (in-range x y (kept-near last (mark x y) e)) in rw (e, n .0, n .1) b
-    go (Dropped c) e a b = rw e a
-
-pub ranged : Ranged
-ranged M = ranged-from Nothing M

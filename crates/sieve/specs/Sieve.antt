@@ -1,10 +1,10 @@
 -- Which marks of a shaky trace are kept, and why the others are dropped. Definitions only.
 use Prim.Native.Nat.{ℕ, suc}
-use mathlib.Core.Bool.{Bool, false, _&&_, cond}
+use mathlib.Core.Bool.{Bool, false, cond}
 use mathlib.Core.List.{List, [], _∷_, _++_}
 use lib.ListN.{take, drop}
-use lib.Ieee.{binary64, ofBits, eq}
-use Rattle.plane.specs.Plane.{at}
+use lib.Ieee.{binary64, ofBits}
+use Rattle.plane.specs.Plane.{at, equal}
 use Rattle.plane.specs.Range.{pointInRange}
 use Rattle.plane.specs.declared.Point.{Point}
 use Rattle.house.specs.Limits.{markNumbers}
@@ -21,11 +21,7 @@ use Rattle.sieve.specs.declared.Last.the-variants.{Nothing, Mark}
 abbrev pub mark : ℕ → ℕ → Point
 mark x y = at (ofBits binary64 x) (ofBits binary64 y)
 
--- equal in both coordinates, as numbers: minus zero equals zero
-unfoldable pub equal : Point → Point → Bool
-equal p q = eq (p .x) (q .x) && eq (p .y) (q .y)
-
--- equal to the last mark kept, if there is one
+-- equal in both coordinates to the last mark kept, if there is one
 unfoldable pub again : Last → Point → Bool
 again Nothing p = false
 again (Mark q) p = equal p q

@@ -1,12 +1,10 @@
 -- What holds of every trace: the statements, and the words that they need. Definitions only.
 use Prim.Native.Nat.{ℕ, zero, suc, _+_, _*_, _/_}
 use mathlib.Core.Path.{_≡_}
-use mathlib.Core.Bool.{Bool, true, _&&_, cond}
+use mathlib.Core.Bool.{cond}
 use mathlib.Core.List.{List, [], _∷_, _++_, map}
 use lib.Dec.{eqb}
 use lib.ListN.{length, take, drop}
-use lib.Ieee.{binary64, ofBits}
-use Rattle.plane.specs.Range.{coordinate}
 use Rattle.house.specs.Limits.{markNumbers}
 use Rattle.sieve.specs.declared.Fate.{Fate}
 use Rattle.sieve.specs.declared.Fate.the-variants.{Kept, Dropped}
@@ -39,11 +37,6 @@ unfoldable pub picked : List ℕ → List ℕ → List ℕ
 picked M [] = []
 picked M (j ∷ js) = take markNumbers (drop (markNumbers * j) M) ++ picked M js
 
--- each number in range, by its bits
-unfoldable pub near : List ℕ → Bool
-near [] = true
-near (x ∷ xs) = coordinate (ofBits binary64 x) && near xs
-
 -- ---- statements
 
 -- marks kept and marks dropped add up to the marks read
@@ -61,7 +54,3 @@ Picks = (M : List ℕ) → keptOf M ≡ picked M (keptNumbers 0 (fatesOf M))
 -- of what is kept, nothing is dropped
 abbrev pub Again : Type 0
 Again = (M : List ℕ) → (keptOf (keptOf M) ≡ keptOf M) × (dropsOf (keptOf M) ≡ [])
-
--- what is kept is in range, as a fit asks it of its marks
-abbrev pub Ranged : Type 0
-Ranged = (M : List ℕ) → near (keptOf M) ≡ true

@@ -4,11 +4,12 @@ ghost use Prim.Native.Nat.{_+_, _*_, _≤_};
 ghost use lib.ListN.{length};
 ghost use Rattle.house.specs.Limits.{numberField, markBytes, marksAt};
 ghost use Rattle.house.specs.Bytes.{num};
-ghost use Rattle.sieve.specs.Sieve.{mark, equal as equalOf, again as againOf, fateOf, after as afterOf};
+ghost use Rattle.sieve.specs.Sieve.{mark, again as againOf, fateOf, after as afterOf};
 use float::of_bits;
 use house::bytes::eight;
 use house::sizes;
 use plane::Point;
+use plane::equal;
 use plane::point_in_range;
 
 // Why a mark is dropped: a coordinate is out of range, or the mark is equal to the last one kept.
@@ -39,13 +40,6 @@ pub fn mark_at(file: &[u8], i: usize) -> Point
         x: of_bits(eight(file, at)),
         y: of_bits(eight(file, at + sizes::NUMBER_FIELD)),
     }
-}
-
-// Whether two marks are equal in both coordinates. Numbers are compared and not their bits, so minus zero equals zero.
-fn equal(p: Point, q: Point) -> bool
-    ensures { λ r. ⌜ r ≡ equalOf p q ⌝ }
-{
-    (p.x == q.x) & (p.y == q.y)
 }
 
 // Whether a mark is equal to the last one kept.

@@ -2,3 +2,4 @@ pub mod Values
 pub mod Parts
 pub mod Passes
 pub mod Packs
+pub mod Ranges

@@ -28,7 +28,7 @@ use Rattle.sound.proofs.Sound.{sound-passes}
 use Rattle.accepted.proofs.Laid.{laid-many, laid-curves}
 use Rattle.accepted.proofs.Theorem.{Given, blocks-given, laid-sound}
 use Rattle.lines.specs.Lines.{twoLine}
-use Rattle.limits.specs.Limits.{mostMarks}
+use Rattle.limits.specs.Limits.{mostMarks, mostRead}
 use Rattle.house.specs.declared.sizes.Field.{Field}
 use Rattle.house.specs.Limits.{curveBytes}
 use Rattle.house.specs.File.{File, bytesOf, marksIn, curvesIn, wellFormed}
@@ -39,7 +39,7 @@ use Rattle.grammar.proofs.Rooms.{size-some}
 use Rattle.grammar.proofs.Whole.{length-bytes}
 use Rattle.packed.proofs.Candidate.{holds-held}
 use Rattle.writer.specs.Writer.{fileFor}
-use Rattle.desk.specs.Desk.{roomMarks, mostBytes, floats, patterns, zeros, noMarks, fileIn}
+use Rattle.desk.specs.Desk.{roomMarks, floats, patterns, zeros, noMarks, fileIn}
 use Rattle.desk.proofs.Numbers.{front, length-floats, length-patterns}
 use Rattle.desk.proofs.Opened.{file-formed}
 use Rattle.verdict.specs.Verdict.{passedWord, listIn, verdictIn, fileLine, lineOf, judgementOf}
@@ -174,7 +174,7 @@ module _ (t : ℕ) (M : List ℕ) (k : ℕ) (C C′ : List Float) (F F′ W W′
         let m = marks-long in
         let c = count-marks in
         let z = ap (λ (f : Field). curveBytes Nine f * k) (small-field n few-marks) in
-        rw (le-leb (length (bytesOf G)) mostBytes (omega arith), holds-held (record { formed = forming whole-file; bytes = refl }), le-leb (marksIn G) roomMarks (omega arith))
+        rw (le-leb (length (bytesOf G)) mostRead (omega arith), holds-held (record { formed = forming whole-file; bytes = refl }), le-leb (marksIn G) roomMarks (omega arith))
 
     list-passes : listIn G ≡ ok passed
     unfolding listIn

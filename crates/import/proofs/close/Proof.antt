@@ -5,13 +5,13 @@ use Rattle.import.proofs.Walks.{closes-there, closes-line}
 use Rattle.import.proofs.close.Statement.{statement}
 use Rattle.import.proofs.close.Tie as tie
 
-is-there-requires : tie.Need-is-there-requires
-is-there-requires c κs = search needs
+equal-requires : tie.Need-equal-requires
+equal-requires c κs = search needs
 
 returns : tie.Need-returns
 returns c =
     let a = c .before .before .before .args in
-    closes-there (a .start) (a .p) (a .count) (a .out .now) (sym (c .before .is-there .ensures) ∙ c .if1 .taken)
+    closes-there (a .start) (a .p) (a .count) (a .out .now) (sym (c .before .equal .ensures) ∙ c .if1 .taken)
 
 line-requires : tie.Need-line-requires
 line-requires c κs = search needs
@@ -28,13 +28,13 @@ same-length c = search needs
 returns-2 : tie.Need-returns-2
 returns-2 c =
     let a = c .before .before .before .before .before .before .before .before .args in
-    closes-line (a .start) (a .p) (a .count) (a .out .now) (sym (c .before .before .before .before .before .before .is-there .ensures) ∙ c .before .before .before .before .before .if1 .left) (c .before .before .before .line .ensures) (c .before .before .put-curve .ensures)
+    closes-line (a .start) (a .p) (a .count) (a .out .now) (sym (c .before .before .before .before .before .before .equal .ensures) ∙ c .before .before .before .before .before .if1 .left) (c .before .before .before .line .ensures) (c .before .before .put-curve .ensures)
 
 pub close-spec : {M : Type 1} → statement M
 close-spec =
     tie.close
     (tie.spec
-    is-there-requires
+    equal-requires
     returns
     line-requires
     put-curve-requires
