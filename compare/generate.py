@@ -1,7 +1,7 @@
 #!/usr/bin/env python3
 """generate.py [SEED]: prints cases for replay and for the Rust, one a line; the same seed gives the same lines.
 
-Single curves, nearest points, outlines (smooth, noisy, long, damaged; by both engines where both have the fit), distances, numbers of blocks and their sizes, lists for the checker, path data, house files to pack, to unpack and to clean, what a joined fit counts, alone and entered into totals, and both sides of every limit.
+Single curves, nearest points, outlines (smooth, noisy, long, damaged; by both engines where both have the fit), distances, numbers of blocks and their sizes, lists for the checker, path data, house files to pack, to unpack and to clean, and both sides of every limit.
 """
 import math
 import os
@@ -11,7 +11,7 @@ import sys
 sys.dont_write_bytecode = True
 sys.path.insert(0, os.path.join(os.path.dirname(os.path.dirname(os.path.realpath(__file__))), 'tools'))
 
-from shared import cleaning_cases, season_cases
+from shared import cleaning_cases
 from shared.basis import point_at
 from shared.checker import kept_for
 from shared.command import Stop, run
@@ -21,8 +21,7 @@ from shared.pack_cases import files, large_files, random_cases
 from shared.path_cases import TEXTS, meeting, random_list, random_number, random_soup, random_text
 from shared.path_cases import lists as path_lists
 from shared.path_data import exported
-from shared.season import NOTHING
-from shared.table import COUNTED, LINE_MARKS, Refused, by_both, flat_line
+from shared.table import LINE_MARKS, Refused, by_both, flat_line
 from shared.ties import CURVE, PARAMS, TIES
 from shared.words import word_of
 
@@ -429,41 +428,6 @@ def cleaning():
         yield f'salvage {data.hex()}'
 
 
-def counted(marks, tolerance):
-    return line(COUNTED, tolerance, marks)
-
-
-def counts():
-    """Joined outlines, counted: in every shape, of one block and of several, folded where these meet; with their ends put to the test; and at both sides of every limit."""
-    for shape in SHAPES:
-        for n in (2, 3, 4, 7, 20, 60):
-            yield counted(shape(n, 100.0), 0.5)
-            yield counted(shape(n, hand.uniform(1, 2000)), hand.choice([0.0, 0.05, 1.0, 20.0]))
-        yield counted(shape(251, 1500.0), 2.0)
-    for n in (199, 200, 201, 249, 250, 400, 512, 513, 1000, 4097, LINE_MARKS):
-        yield counted(noisy(n, 800.0), 3.0)
-    for about in ABOUTS:
-        marks = wave(200, 800.0)
-        yield counted(marks[:298] + about + marks[304:], 1.5)
-    for marks in ENDS:
-        for tolerance in (0.0, 0.25):
-            yield counted(marks, tolerance)
-    good = circle(6, 50.0)
-    for bad in (NAN, INF, -INF, BIG, above(BIG), -above(BIG), -0.0, LEAST, -LEAST):
-        yield counted(good[:5] + [bad] + good[6:], 0.5)
-        yield counted(good, bad)
-    for marks in ([], [1.0], [1.0, 2.0], [1.0, 2.0, 3.0], [NAN], [NAN, 2.0], good[:-1], [1.0, 1.0] * 2, [1.0, 1.0] * 3):
-        yield counted(marks, 0.5)
-        yield counted(marks, NAN)
-
-
-def entering():
-    """House files that are entered into totals, on both sides of every line of the format, of 512 marks and of the largest total; and random ones, whole and damaged."""
-    yield from season_cases.lines()
-    yield from (season_cases.line_of(NOTHING, data) for data in season_cases.large_files())
-    yield from season_cases.random_lines(hand, 100)
-
-
 def nonsense():
     yield 'bezier 3FF0000000000000'
     yield 'sqrt'
@@ -508,16 +472,13 @@ def nonsense():
     yield 'export RING 1 ' + ' '.join(['0000000000000000'] * 9)
     yield from ['pack', 'unpack', 'packs 00', 'unpack 0', 'pack 0A', 'unpack 0g', 'pack 00 00', 'pack  00', 'unpack 00 ', 'repack 00']
     yield from ['salvage', 'salvages 00', 'salvage 0', 'salvage 0A', 'salvage 00 00']
-    yield from ['counted', 'counteds 3FF0000000000000', 'counted 3ff0000000000000', 'counted_flat 3FF0000000000000']
-    zeros = 'enter 0 0 0 0 0 0 0'
-    yield from ['enter', 'enter 00', zeros, f'{zeros} 0', f'{zeros} 0A', f'{zeros} 00 00', f'{zeros}  00', 'enter 0 0 0 0 0 0 00 00', 'enter 0 0 0 0 0 0 18446744073709551616 00', 'enter 0 0 0 -1 0 0 0 00']
 
 
 def main(words):
     if len(words) > 1 or not all(text.isdecimal() for text in words):
         raise Stop('usage: compare/generate.py [SEED], SEED a whole number')
     hand.seed(int(words[0]) if words else 1)
-    for part in (single, near, outlines, ends, joints, rings, limits, measures, lists, sizes, paths, packing, cleaning, counts, entering, nonsense):
+    for part in (single, near, outlines, ends, joints, rings, limits, measures, lists, sizes, paths, packing, cleaning, nonsense):
         for case in by_both(part(), flat_line):
             print(case)
     return 0

@@ -1,4 +1,4 @@
-"""The drawings, in-process: what is drawn where, on one sheet and over many; of sound lists, and of lists that are nearly anything; and the season's chart. tests/cli runs these."""
+"""The drawings, in-process: what is drawn where, on one sheet and over many; of sound lists, and of lists that are nearly anything. tests/cli runs these."""
 import math
 import re
 import types
@@ -6,7 +6,6 @@ import unittest
 import xml.etree.ElementTree
 
 import support
-from bench import chart, season
 from bench.cleaning import EQUAL, RANGE, Cleaned, Drop, spans
 from bench.curves import at, cover, extent, seam_angle
 from bench.draw import draw
@@ -85,13 +84,6 @@ def label_boxes(drawn):
             x, y, size = (float(found.get(name)) for name in ('x', 'y', 'font-size'))
             wide = WIDE * size * len(found.text)
             yield found.text, (x - wide / 2, y - size * 0.8, x + wide / 2, y + size * 0.1)
-
-
-def bars_by_words(drawn):
-    """The bars of a chart from left to right, each with the words that show where a pointer rests on it, and x, y, width and height."""
-    found = [(group.find(f'{SVG}title'), group.find(f'{SVG}rect')) for group in drawn.iter(f'{SVG}g')]
-    bars = [(words.text, tuple(float(bar.get(side)) for side in ('x', 'y', 'width', 'height'))) for words, bar in found if bar is not None]
-    return sorted(bars, key=lambda one: one[1][0])
 
 
 class Curves(unittest.TestCase):
@@ -551,95 +543,3 @@ class Pages(unittest.TestCase):
             curves = chords(marks)
             curves[5][1] = (wild, 0.0)
             self.assertLess(len(self.made('A4', marks, curves, far=None)[1]), 40)
-
-
-def season_of(entries, refusals=(), behind=0, unread=0):
-    """A season whose outlines have these tolerances and curves, three marks for each curve; then refused ones, of which 9 is the last."""
-    outlines = [season.Outline(f'{k}.house', support.marks_file(3 * curves if curves < 1000 else 3, tolerance)) for k, (tolerance, curves) in enumerate(entries)]
-    for one, (_, curves) in zip(outlines, entries):
-        one.marks = 3 * curves
-    outlines += [season.Outline(f'refused {number}.house', b'junk' if number == 9 else support.marks_file(1)) for number in refusals]
-    lines = [f'OUTLINE {k} {3 * curves} 1 {curves} {2 * curves - 1} {5 * curves}' for k, (_, curves) in enumerate(entries, 1)]
-    lines += [f'OUTLINE {k} REFUSED {number}' for k, number in enumerate(refusals, len(entries) + 1)]
-    total = sum(curves for _, curves in entries)
-    lines.append(f'TOTAL {len(entries)} {len(refusals)} {3 * total} {len(entries)} {total} {2 * total - len(entries)} {5 * total}')
-    return season.Season(types.SimpleNamespace(outlines=outlines, behind=behind, unread=unread), ''.join(line + '\n' for line in lines))
-
-
-def words_and_boxes(drawn):
-    """All words of a chart with the boxes that they take, turned ones too."""
-    turned = {one: group.get('transform') for group in drawn.iter(f'{SVG}g') if group.get('transform') for one in group}
-    for found in drawn.iter(f'{SVG}text'):
-        x, y, size = (float(found.get(name)) for name in ('x', 'y', 'font-size'))
-        wide = WIDE * size * len(found.text)
-        left = x - {'start': 0, 'middle': wide / 2, 'end': wide}[found.get('text-anchor')]
-        box = left, y - 0.75 * size, left + wide, y + 0.2 * size
-        if found in turned:
-            u, v = map(float, re.fullmatch(r'translate\((\S+) (\S+)\) rotate\(-90\)', turned[found]).groups())
-            box = u + box[1], v - box[2], u + box[3], v - box[0]
-        yield found.text, box
-
-
-class Charts(unittest.TestCase):
-    def drawn(self, *words, **rest):
-        return xml.etree.ElementTree.fromstring(chart.draw(season_of(*words, **rest)))
-
-    def page(self, drawn):
-        return [float(drawn.get(side)[:-2]) for side in ('width', 'height')]
-
-    def held(self, drawn, entries):
-        """A bar for each tolerance, as high as its curves on the scale at the left; all words are on the page, and none on another or on a bar."""
-        limits = sorted({tolerance for tolerance, _ in entries})
-        groups = [[curves for tolerance, curves in entries if tolerance == limit] for limit in limits]
-        bars = bars_by_words(drawn)
-        self.assertEqual([words.split(':')[0] for words, _ in bars], [f'{repr(limit).removesuffix(".0")} mm' for limit in limits])
-        boxes = list(words_and_boxes(drawn))
-        lines = [[float(line.get(side)) for side in ('x1', 'y1', 'x2', 'y2')] for line in drawn.iter(f'{SVG}line')]
-        foot = bars[0][1][1] + bars[0][1][3]
-        numbers = [(int(words.replace(',', '')), top, low) for words, (_, top, right, low) in boxes if right < bars[0][1][0] and words.replace(',', '').isdigit()]
-        scale = {round(y, 3): number for _, y, _, _ in lines for number, top, low in numbers if top < y < low and y < foot + 0.1}
-        self.assertEqual((scale[round(foot, 3)], len(scale) <= 7), (0, True))
-        top = min(scale)
-        for (_, (_, y, _, high)), curves in zip(bars, map(sum, groups)):
-            self.assertAlmostEqual(y + high, foot, 2)
-            self.assertLessEqual(abs(high - curves * (foot - top) / scale[top]), 0.002)
-        wide, tall = self.page(drawn)
-        taken = boxes + [('', (x, y, x + broad, y + high)) for _, (x, y, broad, high) in bars]
-        for k, (words, (left, high, right, low)) in enumerate(taken):
-            self.assertTrue(0 < left and right < wide and 0 < high and low < tall, words)
-            for other, box in taken[k + 1:]:
-                self.assertFalse(box[0] < right and left < box[2] and box[1] < low and high < box[3], (words, other))
-        return [words for words, _ in boxes]
-
-    def test_one_to_forty(self):
-        """Few and many tolerances, short and long, few and many curves; up to forty of usual ones go on a sheet of A4."""
-        for count in (1, 2, 3, 5, 8, 13, 20, 27, 40):
-            for most in (3, 150, 99999):
-                entries = [(round(0.05 * (k % count + 1), 2), 1 + k * 7919 % most) for k in range(2 * count - 1)]
-                drawn = self.drawn(entries, refusals=[5, 2, 5])
-                shown = self.held(drawn, entries)
-                self.assertLess(self.page(drawn)[0], 297)
-                self.assertLess(self.page(drawn)[1], 210)
-                for words in ('tolerance, mm', 'number of curves', 'outlines', 'curves per 100 marks', "The season's count: curves against tolerance"):
-                    self.assertEqual(shown.count(words), 1)
-                self.assertIn('(refusal 2, too many: 1; refusal 5, bad number: 2).', ' '.join(shown))
-
-    def test_odd_tolerances(self):
-        """Of all digits, of none, as large as can be; and more bars than a sheet has room for."""
-        for limits in ([0.0], [5e-324, 0.0, 1.7976931348623157e308], [0.1 * 3 * k for k in range(1, 17)], [0.05 * k for k in range(100)]):
-            self.held(self.drawn([(limit, 9 + k) for k, limit in enumerate(limits)]), [(limit, 9 + k) for k, limit in enumerate(limits)])
-
-    def test_large_counts(self):
-        for curves in (1, 6, 7, 10, 999, 1000, 10 ** 9, 6 * 10 ** 18):
-            self.held(self.drawn([(0.5, curves), (1.0, 1)]), [(0.5, curves), (1.0, 1)])
-
-    def test_words(self):
-        """What stands above and below the bars."""
-        drawn = self.drawn([(1.0, 4), (0.5, 7), (0.5, 1)])
-        self.assertEqual([words for words, _ in bars_by_words(drawn)], ['0.5 mm: 8 curves, 2 outlines, 24 marks, 33.3 curves per 100 marks', '1 mm: 4 curves, 1 outline, 12 marks, 33.3 curves per 100 marks'])
-        self.assertIn('3 outlines accepted, 36 marks, 12 curves.', all_words(drawn))
-        self.assertIn('No outline is refused.', all_words(drawn))
-        words = all_words(self.drawn([(1.0, 1)], refusals=[6, 9], behind=3, unread=1))
-        for piece in ('1 outline accepted, 3 marks, 1 curve.', 'In no bar: 2 refused outlines (refusal 6, broke down: 1; refusal 9, bad file: 1).', 'refused 9.house is broken. The count ends there; 3 files behind it are not counted.',
-                      'Not counted: 1 file that could not be read.'):
-            self.assertIn(piece, words)

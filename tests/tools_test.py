@@ -22,11 +22,11 @@ sys.dont_write_bytecode = True
 import support
 from support import ROOT, SIDES, TRIANGLE, in_copy, read, straight, write
 
-from shared import cleaning, cleaning_cases, house, pack_cases, path_cases, stream
-from shared.blocks import blocks_of, size_of
+from shared import cleaning, cleaning_cases, house, pack_cases, path_cases
+from shared.blocks import size_of
 from shared.checker import FAULT_A, FAULT_B, FAULT_C, FAULT_D, FAULT_E, PASSED, REFUSED, check, kept_for
 from shared.path_data import exported, imported, written
-from shared.table import FLAT_FITS, LINE_BYTES, LINE_FILE, LINE_MARKS, LINE_REPORT, MOST_MARKS, OUTLINES, Refused, fit_refusal
+from shared.table import FITS, FLAT_FITS, LINE_BYTES, LINE_FILE, LINE_MARKS, LINE_REPORT, MOST_MARKS, Refused, fit_refusal
 from shared.ties import CURVE, PARAMS, TIES
 from shared.words import INFINITY, MINUS, NAN, numbers, pattern_of, patterns_of, word_of, words
 
@@ -119,14 +119,14 @@ class Compare(Case):
         self.compare(2, 'line 2 is not plain text', flo, write('accent.txt', LINES[0] + '\nsqrt é\n'))
         self.compare(2, 'line 1 is not plain text', flo, write('bytes.txt', bytes(range(128, 256))))
         mark = words(patterns_of(1.0, 2.0))
-        for kind in ('joined', 'ring', 'joined_flat', 'ring_flat', 'counted'):
+        for kind in ('joined', 'ring', 'joined_flat', 'ring_flat'):
             long_fit = ' '.join([kind, word_of(0.5)] + [mark] * (LINE_MARKS + 1))
             self.compare(2, 'line 2 has more than the 21,000 marks', flo, write('long.txt', f'{LINES[0]}\n{long_fit}\n'))
         for kind in ('check', 'check_ring', 'check_worst', 'check_worst_ring'):
             self.compare(2, 'line 1 has more than the 21,000 marks', flo, write('long.txt', f'{kind} {word_of(0.5)} {LINE_MARKS + 1} {mark}\n'))
             self.compare(2, 'line 1 has more than the 21,000 marks or curves', flo, write('long.txt', f'{kind} {word_of(0.5)} 2 {mark} {mark} {LINE_MARKS + 1} 0\n'))
 
-        for kind in ('pack', 'salvage', 'import', 'enter 0 0 0 0 0 0 0'):
+        for kind in ('pack', 'salvage', 'import'):
             self.compare(2, 'line 2 has more than the 4,600,000 bytes', flo, write('long.txt', f'{LINES[0]}\n{kind} {"0" * LINE_BYTES}\n'))
 
     def test_last_line_without_newline(self):
@@ -169,8 +169,7 @@ class Compare(Case):
         twins = [(line, after) for line, after in zip(lines, lines[1:]) if f'{line[0]}_flat' in FLAT_FITS]
         self.assertGreater(len(twins), 1000)
         self.assertTrue(all(after == [f'{line[0]}_flat', *line[1:]] for line, after in twins))
-        self.assertGreater(min(sum(line[0] == kind for line in lines) for kind in ('export', 'import', 'pack', 'unpack', 'salvage', 'enter')), 500)
-        self.assertGreater(sum(line[0] == 'counted' for line in lines), 200)
+        self.assertGreater(min(sum(line[0] == kind for line in lines) for kind in ('export', 'import', 'pack', 'unpack', 'salvage')), 500)
         for kind in ('check_worst', 'check_worst_ring'):
             said = self.answers([' '.join(line) for line in lines if line[0] == kind])
             faults = {answer[:7] for answer in said if answer.startswith('FAULT')}
@@ -291,7 +290,7 @@ class Vectors(Case):
 
     def test_broken_inputs(self):
         flo = in_copy('flo curves')
-        for name in ('sqrt_cases', 'eval_cases', 'fit_cases', 'check_cases', 'nearest_cases', 'house_cases', 'replay', 'season'):
+        for name in ('sqrt_cases', 'eval_cases', 'fit_cases', 'check_cases', 'nearest_cases', 'house_cases', 'replay'):
             try:
                 for data in (b'', read(f'crates/{name}/stdin')[:100]):
                     write(f'crates/{name}/stdin', data)
@@ -668,64 +667,13 @@ class Cleaning(Case):
             self.assertEqual(cleaning.piped(data), (b'', f'REFUSED {number}\n'.encode('ascii')))
 
 
-class Streams(Case):
-    """Where a house file of a stream ends, by its bytes alone."""
-
-    def whole(self):
-        """House files of every form: marks alone, none of them too; curves of each kind, one and many; packed."""
-        hand = random.Random(12)
-        made = [*cleaning_cases.files(), *cleaning_cases.large_files(), *(pack_cases.random_file(hand) for _ in range(200))]
-        return [one for data in made for one in (data, pack_cases.either(house.pack, data)) if isinstance(one, bytes) and house.parse(one)]
-
-    def test_whole_files(self):
-        """A whole file ends where it ends, whatever house file is behind it; all of them one behind the other are taken apart again."""
-        whole, after = self.whole(), pack_cases.marks_alone(2)
-        kinds = {kind for data in whole for kind, _ in house.records_of(data)}
-        self.assertEqual(kinds, {1, 2, 3, 4, 5, 6, 7, 8})
-        for data in whole:
-            for behind in (b'', after[:1], after[:5], after[:6], after, bytes(9), b'\2\0\0\0\4\0'):
-                self.assertEqual(stream.end_of(data + behind), len(data))
-        for some in (whole, whole[::-1]):
-            self.assertEqual(list(stream.split(b''.join(some))), some)
-
-    def test_prefixes(self):
-        """What is cut short claims all that there is; but for marks whose curves are cut off with less than a head left, which are a file by themselves."""
-        for data in (pack_cases.marks_alone(3), pack_cases.list_of(4, 3), pack_cases.list_of(4, 2, True), house.pack(pack_cases.list_of(4, 2))):
-            marks = 20 + 16 * house.parse(data).count
-            for end in range(1, len(data)):
-                self.assertEqual(stream.end_of(data[:end]), marks if marks <= end < marks + 6 else end)
-
-    def test_by_hand(self):
-        """Lengths are taken as they stand, and kinds too: behind curves any record is the last."""
-        marks = pack_cases.marks_alone(1)
-        for records, end in (
-                ([(3, 8), (3, 0), (4, 5), (3, 9)], 3), ([(8, 5), (7, 1), (6, 0), (5, 0), (1, 8), (2, 4)], 5), ([(3, 8), (0, 2)], 2), ([(4, 8), (3, 8)], 0), ([(1, 8)], 0), ([(9, 8)], 0), ([(3, 8)], 1)):
-            made = [house.record(kind, bytes(length)) for kind, length in records]
-            self.assertEqual(stream.end_of(marks + b''.join(made)), len(marks) + sum(map(len, made[:end])))
-        for length, want in ((0, 4 + 7), (1, 5 + 4)):  # a length that is less than the kind takes: the next head begins in the one before, and says 3, or 0
-            self.assertEqual(stream.end_of(marks + length.to_bytes(4, 'little') + b'\3\0' + bytes(20)), len(marks) + want)
-        self.assertEqual(stream.end_of(marks + b'\xff\xff\xff\xff\3\0' + bytes(20)), len(marks) + 26)
-        self.assertEqual([stream.end_of(bytes(count)) for count in (1, 14, 19, 20, 21, 40)], [1, 14, 19, 20, 20, 20])
-
-    def test_in_hand(self):
-        """Of a file that is too long what is looked at is taken, and is no file."""
-        most, more = (pack_cases.marks_alone(count) for count in (249998, 249999))
-        self.assertEqual([len(data) for data in (most, more)], [stream.IN_HAND - 12, stream.IN_HAND + 4])
-        first, *rest = stream.split(most + more)
-        self.assertEqual((first == most, [len(data) for data in rest], house.parse(rest[0])), (True, [stream.IN_HAND, 4], None))
-
-    def test_curves_at_the_front(self):
-        for data, want in ((b'', False), (bytes(9), False), (pack_cases.marks_alone(2), False), (house.record(4, b''), False), (b'\2\0\0\0\3', False), *((house.record(kind, b''), True) for kind in (3, 5, 6, 7, 8))):
-            self.assertEqual(stream.begins_with_curves(data), want)
-
-
 class Long(Case):
     """As many marks as a line of replay holds, and one more."""
 
     def test_fits(self):
         mark, other = words(patterns_of(1, 2)), word_of(1.0)
         direct = ('direct', 'direct_flat')
-        for kind in [kind for kind in OUTLINES if kind not in direct]:
+        for kind in [kind for kind in FITS if kind not in direct]:
             line = ' '.join([kind, word_of(0.5)] + [mark] * LINE_MARKS)
             self.assertEqual(self.answers([line, f'{line} {other}', f'{line} {mark}', f'{kind} {word_of(0.5)} {mark} {mark} {mark}']), ['6', 'BAD', 'BAD', '6'])
         for kind in direct:
@@ -739,15 +687,6 @@ class Long(Case):
         for kind, count in (('joined', LINE_MARKS - 1), ('ring', LINE_MARKS)):
             first, second = self.answers([f'{one} {word_of(0.0)} {teeth}' for one in (kind, f'{kind}_flat')])
             self.assertEqual((first == second, first.split(' ', 2)[:2]), (True, ['0', str(count)]))
-
-    def test_counts(self):
-        """Of so many teeth every part is cut until it has two marks, so that there is a curve for each two; and of a straight line none is cut."""
-        from vectors import outlines
-        straight_line = words(patterns_of(*(value for i in range(LINE_MARKS) for value in (i, 0))))
-        teeth, line = self.answers([f'counted {word_of(0.0)} {words(outlines.saw(LINE_MARKS))}', f'counted {word_of(0.5)} {straight_line}'])
-        blocks, curves = blocks_of(LINE_MARKS), LINE_MARKS - 1
-        self.assertEqual(teeth.split(' ')[:4], ['0', str(blocks), str(curves), str(2 * curves - blocks)])
-        self.assertEqual(line, f'0 {blocks} {blocks} {blocks} {2 * blocks}')
 
     def test_packing(self):
         """A curve between each two of 5,000 marks, both ways; as long a file as there is room for, and a mark more."""

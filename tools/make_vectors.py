@@ -19,12 +19,12 @@ sys.path.insert(0, os.path.dirname(os.path.realpath(__file__)))
 from shared import kept
 from shared.command import Stop, run
 from shared.rust import Rust
-from vectors import creators, files, lines, lists, near, outlines, roots, salvage, season, single, sizes
+from vectors import creators, files, lines, lists, near, outlines, roots, salvage, single, sizes
 
 MAKERS = {
     'sqrt_cases': roots.make, 'eval_cases': single.make, 'fit_cases': outlines.make, 'check_cases': lists.make, 'nearest_cases': near.make,
     'house_cases': files.make, 'listing': files.make_listing, 'save': files.make_save, 'judge': files.make_judge, 'path_out': files.make_path_out, 'path_in': files.make_path_in,
-    'replay': lines.make, 'creators': creators.make, 'size_cases': sizes.make, 'salvage': salvage.make, 'season': season.make}
+    'replay': lines.make, 'creators': creators.make, 'size_cases': sizes.make, 'salvage': salvage.make}
 ASK_NOTHING = ('sqrt_cases', 'size_cases', 'creators', 'salvage')
 USAGE = 'usage: tools/make_vectors.py [FLO_CURVES] [PROGRAM..] [--write], PROGRAM one of ' + ' '.join(MAKERS)
 

@@ -14,7 +14,7 @@ import struct
 import sys
 from collections import namedtuple
 
-SECOND = ('wes_fit_curve_cubic_flat', 'wes_fit_joined_flat', 'wes_fit_ring_flat', 'wes_fit_joined_counted')
+SECOND = ('wes_fit_curve_cubic_flat', 'wes_fit_joined_flat', 'wes_fit_ring_flat')
 FIRST = ('wes_fit_curve_cubic', 'wes_fit_joined', 'wes_fit_ring')
 OUTSIDE = {'memcpy', 'memset'}  # what the archive asks of whoever links it; their own stack is not counted
 LARGE = 4096 + 256  # more than this is a large frame: a block of a ring is 200 marks, in 3,200 bytes

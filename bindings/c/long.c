@@ -302,7 +302,6 @@ static void expect_line(const Line *l) {
         }
         expect_fit(l, fit);
         if (&fits[fit->twin] != fit) expect_fit(l, &fits[fit->twin]);
-        if (fit == &fits[JOINED]) expect_fit(l, &fits[COUNTED]);
         return;
     }
     CHECK(is(l->what, "marks"), "nothing is known of %s", l->what);

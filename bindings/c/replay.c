@@ -140,19 +140,6 @@ static void loop_case(void) { fit_marks(&fits[LOOP], take_number()); }
 static void joined_case(void) { fit_marks(&fits[JOINED], take_number()); }
 static void ring_case(void) { fit_marks(&fits[RING], take_number()); }
 
-/* What the joined fit took. */
-static void counted_case(void) {
-    double tolerance = take_number();
-    size_t made, count = (size_t)(line_end - at) / 17, parts = open_for(&fits[COUNTED], count / 2);
-    take_numbers(marks, count);
-    lend(&open, parts * sizeof(uint32_t), 62);
-    uint32_t number = fit_by(&fits[COUNTED], marks, count, tolerance, curves, 9 * CURVES, firsts, CURVES, worsts, CURVES, params,
-                             MOST_MARKS + 1, indices(&open), parts, &made);
-    CHECK(open_left(&open, number), "counted of %zu numbers: open parts after %u", count, number);
-    say_count(number);
-    for (size_t i = 0; number == 0 && i < 4; i++) say_count(counts[i]);
-}
-
 static void direct_case(void) {
     double tolerance = take_number();
     take_numbers(tangents, 4);
@@ -268,16 +255,6 @@ static void salvage_case(void) {
     say_bytes(list, list_size);
 }
 
-/* A file entered into given totals: what it comes to, and the totals after it. */
-static void enter_case(void) {
-    uint64_t totals[7], five[5] = {77, 77, 77, 77, 77};
-    for (size_t i = 0; i < COUNT(totals); i++) totals[i] = take(10);
-    size_t count = take_file();
-    say_count(wes_count_file(given, count, totals, five));
-    for (size_t i = 0; i < COUNT(five); i++) say_count(five[i]);
-    for (size_t i = 0; i < COUNT(totals); i++) say_count(totals[i]);
-}
-
 /* ---- Kinds */
 
 typedef struct {
@@ -312,8 +289,6 @@ static Kind kinds[] = {
     {"pack", pack_case, 0},
     {"unpack", unpack_case, 0},
     {"salvage", salvage_case, 0},
-    {"counted", counted_case, 0},
-    {"enter", enter_case, 0},
 };
 
 enum { KINDS = COUNT(kinds) };

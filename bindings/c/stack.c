@@ -61,7 +61,6 @@ static double curves[9 * LONG], eight[8 * LONG], params[LONG + 1], out8[8], more
 static uint32_t firsts[LONG], worsts[LONG], open[2 * LONG], answer;
 static uint8_t file[LONGEST_FILE], text[LONGEST_FILE], report[55 + 21 * LONG];
 static size_t made, file_size, size, report_size, curve, mark;
-static uint64_t totals[7], outline_counts[5];
 static bool nine;
 
 static void fit_from(size_t fit, const double *from) {
@@ -118,12 +117,6 @@ static void fit_curve_cubic(void) { fit_from(DIRECT, deep); }
 static void fit_joined_flat(void) { fit_from(JOINED_FLAT, marks); }
 static void fit_ring_flat(void) { fit_from(RING_FLAT, marks); }
 static void fit_curve_cubic_flat(void) { fit_from(DIRECT_FLAT, deep); }
-static void count_file(void) { answer = wes_count_file(file, file_size, totals, outline_counts); }
-
-static void fit_joined_counted(void) {
-    answer = wes_fit_joined_counted(marks, 2 * n, tolerance, curves, 9 * LONG, firsts, LONG, worsts, LONG, params, LONG + 1, open, 2 * LONG,
-                                    counts);
-}
 
 static void check_worst(void) {
     answer = wes_check_worst(marks, 2 * n, tolerance, made, curves, 9 * LONG, firsts, LONG, worsts, LONG, params, LONG, &curve, &mark);
@@ -196,7 +189,6 @@ static const struct {
     {"wes_fit_joined_flat", all_marks, fit_joined_flat},
     {"wes_fit_ring_flat", all_marks, fit_ring_flat},
     {"wes_fit_curve_cubic_flat", short_outline, fit_curve_cubic_flat},
-    {"wes_fit_joined_counted", all_marks, fit_joined_counted},
     {"wes_basis", all_marks, basis},
     {"wes_de_casteljau4", all_marks, de_casteljau4},
     {"wes_de_casteljau3", all_marks, de_casteljau3},
@@ -206,7 +198,6 @@ static const struct {
     {"wes_nearest_point_on_curve", all_marks, nearest_point},
     {"wes_nearest_point_on_curve_newton_raphson_with_estimate", all_marks, refined_point},
     {"wes_list_outline", short_file, list_outline},
-    {"wes_count_file", short_file, count_file},
     {"wes_judge_file", bench_curves, judge_file},
     {"wes_save_fit", bench_file, save_fit},
     {"wes_export_path", drawn_list, export_path},

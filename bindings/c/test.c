@@ -98,28 +98,6 @@ static uint32_t direct_flat(const double *marks, size_t marks_len, double tolera
                                     firsts, firsts_len, worsts, worsts_len, params, params_len, open, open_len, made);
 }
 
-/* The counts, between two places that no call may touch. */
-enum { BESIDE = 77 };
-static size_t row[6];
-size_t *const counts = row + 1;
-
-static uint32_t counted_flat(const double *marks, size_t marks_len, double tolerance, double *curves, size_t curves_len, uint32_t *firsts,
-                             size_t firsts_len, uint32_t *worsts, size_t worsts_len, double *params, size_t params_len, uint32_t *open,
-                             size_t open_len, size_t *made) {
-    for (size_t i = 0; i < COUNT(row); i++) row[i] = BESIDE;
-    uint32_t answer = wes_fit_joined_counted(marks, marks_len, tolerance, curves, curves_len, firsts, firsts_len, worsts, worsts_len,
-                                             params, params_len, open, open_len, counts);
-    size_t blocks = counts[0], parts = counts[2], solutions = counts[3];
-    *made = counts[1];
-    CHECK(row[0] == BESIDE && row[5] == BESIDE, "places beside the counts");
-    if (answer != 0)
-        CHECK(blocks == 0 && *made == 0 && parts == 0 && solutions == 0, "counts after %u", answer);
-    else
-        CHECK(blocks == wes_joined_blocks(marks_len / 2) && parts + blocks == 2 * *made && solutions <= 9 * parts,
-              "%zu marks: %zu blocks, %zu curves, %zu parts, %zu solutions", marks_len / 2, blocks, *made, parts, solutions);
-    return answer;
-}
-
 const Fit fits[FITS] = {
     [JOINED] = {"fit_joined", wes_fit_joined, NULL, JOINED_FLAT, false, MOST_MARKS},
     [RING] = {"fit_ring", wes_fit_ring, NULL, RING_FLAT, true, MOST_MARKS},
@@ -129,7 +107,6 @@ const Fit fits[FITS] = {
     [JOINED_FLAT] = {"fit_joined_flat", NULL, wes_fit_joined_flat, JOINED, false, MOST_MARKS},
     [RING_FLAT] = {"fit_ring_flat", NULL, wes_fit_ring_flat, RING, true, MOST_MARKS},
     [DIRECT_FLAT] = {"fit_curve_cubic_flat", NULL, direct_flat, DIRECT, false, MOST_DIRECT},
-    [COUNTED] = {"fit_joined_counted", NULL, counted_flat, JOINED, false, MOST_MARKS},
 };
 
 uint32_t fit_by(const Fit *fit, const double *marks, size_t marks_len, double tolerance, double *curves, size_t curves_len,

@@ -52,7 +52,7 @@ uint32_t *indices(const Lent *slice);
 bool kept_from(const Lent *slice, size_t from);
 bool all_zero(const Lent *slice);
 
-/* ---- The fits: five of the first engine, and four of the second, which is lent a slice of open parts as well. */
+/* ---- The fits: five of the first engine, and three of the second, which is lent a slice of open parts as well. */
 typedef uint32_t FitCall(const double *marks, size_t marks_len, double tolerance, double *curves, size_t curves_len, uint32_t *firsts,
                          size_t firsts_len, uint32_t *worsts, size_t worsts_len, double *params, size_t params_len, size_t *made);
 
@@ -61,7 +61,7 @@ typedef uint32_t FlatCall(const double *marks, size_t marks_len, double toleranc
                           size_t open_len, size_t *made);
 
 /* One of `call` and `flat` is its call, by the engine. `twin` is the number of the fit that must answer alike: of the other engine's, if
-   that has it, and else its own. The counted fit has the joined one for it. */
+   that has it, and else its own. */
 typedef struct {
     const char *name;
     FitCall *call;
@@ -71,7 +71,7 @@ typedef struct {
     size_t most;
 } Fit;
 
-enum { JOINED, RING, SOURCE, LOOP, DIRECT, JOINED_FLAT, RING_FLAT, DIRECT_FLAT, COUNTED, FITS };
+enum { JOINED, RING, SOURCE, LOOP, DIRECT, JOINED_FLAT, RING_FLAT, DIRECT_FLAT, FITS };
 
 extern const Fit fits[FITS];
 
@@ -82,10 +82,6 @@ uint32_t fit_by(const Fit *fit, const double *marks, size_t marks_len, double to
 
 /* The tangents that the direct fit is handed: start x and y, end x and y. */
 extern double tangents[4];
-
-/* What the counted fit handed back when it was last called: blocks, curves, parts and solutions. That they are zeros of a refused one, and
-   of any other what the header says of them, is tested at every call. */
-extern size_t *const counts;
 
 /* The fewest marks of a fit; of n marks the most curves, how many parameters they have, and how many numbers their open parts want. */
 size_t fewest(const Fit *fit);

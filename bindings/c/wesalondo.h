@@ -1,16 +1,16 @@
 /* Wesalondo for C and C++: the proved library libwesalondo.a, which `rt staticlib wesalondo` makes, for x86-64 Linux.
 
    ANSWERS. A call answers 0, or the number of a refusal (WES_TOO_FEW and so on; README.md has them all). The checkers also answer a fault, which is
-   its letter: 'A' to 'E'. Where a call refuses, every single value and every array of fixed length that it hands back is zeros (`made`, `point`, ..), but for
-   the totals of wes_count_file, in which a refused outline counts too. Slices stay as they were, but 6 leaves every number of the slices lent to a fit zero, those
-   of `open` too. Where several refusals would do, the first of 9, 3, 1, 2, 4, 5 is given, and 6 or 8 only where none of these is; wes_write_file,
-   wes_pack_file, wes_export_path and wes_import_path have orders of their own, and wes_count_file gives 13 in place of any other answer.
+   its letter: 'A' to 'E'. Where a call refuses, every single value and every array of fixed length that it hands back is zeros (`made`, `point`, ..).
+   Slices stay as they were, but 6 leaves every number of the slices lent to a fit zero, those of `open` too. Where several refusals would do, the first of
+   9, 3, 1, 2, 4, 5 is given, and 6 or 8 only where none of these is; wes_write_file, wes_pack_file, wes_export_path and wes_import_path have orders of
+   their own.
 
    RANGES, behind refusal 5. A coordinate is finite and at most 1,000,000 in magnitude, a tangent's component at most 2; a tolerance is finite and not below
    zero; a parameter or an estimate is finite; a dimension is 0 or 1; there are at most 64 rounds of Newton's.
 
    LIMITS, behind refusal 2. The fits by blocks, the checkers, wes_read_file and wes_write_file take up to 100,000 marks; wes_fit_curve_cubic,
-   wes_fit_curve_cubic_flat, wes_list_outline and wes_count_file 512; wes_judge_file and wes_save_fit 4,096, and files of up to 434,120 bytes, with 9 above; wes_pack_file,
+   wes_fit_curve_cubic_flat and wes_list_outline 512; wes_judge_file and wes_save_fit 4,096, and files of up to 434,120 bytes, with 9 above; wes_pack_file,
    wes_unpack_file and wes_salvage any number.
 
    SLICES. A slice is a pointer and how many elements it has (`marks`, `marks_len`). Marks are x and y in turn, so n marks are a slice of 2n numbers.
@@ -25,12 +25,12 @@
    The library keeps nothing between calls and has no data of its own: calls from several threads at once are fine, on different slices.
 
    STACK, in KB of 1,024 bytes, rounded up; that of the second engine in bytes. These figures are measured, not proved: the most that bindings/c/stack.c saw on
-   2026-11-18.
-     wes_fit_joined 127 KB, wes_fit_ring 127 KB, wes_fit_curve 127 KB, wes_fit_curve_loop 127 KB, wes_fit_curve_cubic 313 KB,
-     wes_fit_joined_flat 5832 bytes, wes_fit_ring_flat 5832 bytes, wes_fit_curve_cubic_flat 5832 bytes, wes_fit_joined_counted 5720 bytes,
-     wes_nearest_point_on_curve 24 KB, wes_list_outline 255 KB, wes_count_file 62 KB, wes_judge_file 801 KB, wes_save_fit 1279 KB; every other call at most 1 KB.
-   Seen over outlines of 99,998 marks, whose blocks are the longest, and files of them (512 for the direct fits, the listing and the count, 4,096 for the other two
-   on files), among them zigzags that a fit cuts one mark at a time, as deep as it can go. A fit by blocks takes so much for its longest block, of 200 marks,
+   2026-11-17.
+     wes_fit_joined 124 KB, wes_fit_ring 124 KB, wes_fit_curve 123 KB, wes_fit_curve_loop 123 KB, wes_fit_curve_cubic 305 KB,
+     wes_fit_joined_flat 5672 bytes, wes_fit_ring_flat 5672 bytes, wes_fit_curve_cubic_flat 5672 bytes,
+     wes_nearest_point_on_curve 24 KB, wes_list_outline 252 KB, wes_judge_file 801 KB, wes_save_fit 1276 KB; every other call at most 1 KB.
+   Seen over outlines of 99,998 marks, whose blocks are the longest, and files of them (512 for the direct fits and the listing, 4,096 for the other two on
+   files), among them zigzags that a fit cuts one mark at a time, as deep as it can go. A fit by blocks takes so much for its longest block, of 200 marks,
    however many there are: some 0.6 KB for a mark of it, as a direct fit does for each of its marks. The second engine takes as much for five marks as for all
    of these, and no input can make it take more: bindings/c/graph.py goes through the archive's code along every call, and adds up what each function takes (of
    memset, the one that the archive does not hold, it knows nothing). Slices are the caller's: for 100,000 marks those of a fit are 8.8 MB beside 1.6 MB of marks,
@@ -67,8 +67,7 @@ enum {
     WES_BADLY_FORMED = 9,  /* a house file is badly formed, or its curves are not of the kind that suits its number of marks; or is too long for the call */
     WES_TOO_LARGE = 10,    /* a number of path data, or on the way to it, is above 1,000,000,000 in magnitude */
     WES_NO_PATH = 11,      /* a text is not path data that is read */
-    WES_NOT_JOINED = 12,   /* curves that do not meet bit for bit, on the way to path data or to a packed file; or none, on the way to path data */
-    WES_PAST_LIMIT = 13    /* an outline with which a total of a season would pass 18,446,744,073,709,551,615 */
+    WES_NOT_JOINED = 12    /* curves that do not meet bit for bit, on the way to path data or to a packed file; or none, on the way to path data */
 };
 
 /* ---- Fits: marks to curves.
@@ -125,13 +124,6 @@ uint32_t wes_fit_joined_flat(const double *restrict marks, size_t marks_len, dou
 uint32_t wes_fit_ring_flat(const double *restrict marks, size_t marks_len, double tolerance, double *restrict curves, size_t curves_len,
                            uint32_t *restrict firsts, size_t firsts_len, uint32_t *restrict worsts, size_t worsts_len,
                            double *restrict params, size_t params_len, uint32_t *restrict open, size_t open_len, size_t *restrict made);
-
-/* wes_fit_joined by the second engine, with what the method took for it in `counts`, in place of `made`: blocks; curves, which are how many are made; parts, or how
-   often a run of marks was tried as one curve, be it a line of two marks, accepted, or cut; and solutions, or how often least squares were solved, which is never for a
-   line of two marks and two to nine times for any other part. Of b blocks and k curves there are 2k - b parts, and b is wes_joined_blocks of the marks. */
-uint32_t wes_fit_joined_counted(const double *restrict marks, size_t marks_len, double tolerance, double *restrict curves, size_t curves_len,
-                                uint32_t *restrict firsts, size_t firsts_len, uint32_t *restrict worsts, size_t worsts_len,
-                                double *restrict params, size_t params_len, uint32_t *restrict open, size_t open_len, size_t counts[4]);
 
 /* ---- Checkers: whether `count` curves are a sound list for these marks and this tolerance, whoever made them.
    0 is a sound list; 'A' to 'E' the first fault, at the curve number `curve` and the mark number `mark`: a wrong count or first mark (A), a curve's numbers or
@@ -243,13 +235,6 @@ uint32_t wes_unpack_file(const uint8_t *file, size_t file_len, uint8_t *restrict
    tolerance out of range (5). Refusals: 9, 4 (where either slice is too short), in this order; both slices stay as they were then. */
 uint32_t wes_salvage(const uint8_t *file, size_t file_len, uint8_t *restrict out, size_t out_len, uint8_t *restrict report, size_t report_len,
                      size_t *restrict size, size_t *restrict report_size);
-
-/* Enters the outline of a file, packed or not, into a season's totals: how many outlines were accepted and how many refused, and of the accepted ones the sums of
-   marks, blocks, curves, parts and solutions. They begin with zeros, and are read and written. What the outline comes to by its joined fit, as wes_fit_joined_counted
-   counts, is handed back in `counts`: marks, blocks, curves, parts and solutions. Where the file holds curves, they are not looked at. An outline that is refused
-   by 9, 2 (more than 512 marks), 1, 5 or 6 counts among the refused and nowhere else. Where a total would pass 18,446,744,073,709,551,615, the answer is 13 in place
-   of any other, and the totals stay as they were. */
-uint32_t wes_count_file(const uint8_t *file, size_t file_len, uint64_t totals[7], uint64_t counts[5]);
 
 /* ---- Path data, as SVG 1.1 has it: one subpath of absolute M, L, C and Z. */
 

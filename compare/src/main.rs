@@ -6,7 +6,6 @@
 mod pack;
 mod path;
 mod salvage;
-mod season;
 use flo_curves::bezier::*;
 use flo_curves::line::*;
 use std::cell::{Cell, RefCell};
@@ -15,11 +14,7 @@ use std::ops::*;
 use std::rc::Rc;
 use std::str;
 
-thread_local! {
-    static LOST: Cell<bool> = Cell::new(false);
-    /// First and last mark of every curve that a fit of the line has made of marks, in order, whether it was kept or not.
-    static MADE: RefCell<Vec<[usize; 2]>> = RefCell::default();
-}
+thread_local! { static LOST: Cell<bool> = Cell::new(false); }
 /// Passes a number on, and notes one that is not finite.
 fn watch(v: f64) -> f64 { if !v.is_finite() { LOST.with(|l| l.set(true)); } v }
 
@@ -49,10 +44,7 @@ impl Coordinate for Mark {
 struct Kept { start: Mark, controls: (Mark, Mark), end: Mark, asked: Rc<RefCell<Vec<f64>>> }
 impl Geo for Kept { type Point = Mark; }
 impl BezierCurveFactory for Kept {
-    fn from_points(start: Mark, controls: (Mark, Mark), end: Mark) -> Kept {
-        if let (Some(first), Some(last)) = (start.1, end.1) { MADE.with(|made| made.borrow_mut().push([first, last])); }
-        Kept { start, controls, end, asked: Rc::default() }
-    }
+    fn from_points(start: Mark, controls: (Mark, Mark), end: Mark) -> Kept { Kept { start, controls, end, asked: Rc::default() } }
 }
 impl BezierCurve for Kept {
     fn start_point(&self) -> Mark { self.start }
@@ -99,8 +91,6 @@ fn first_block(n: usize) -> usize {
 fn direction<P: Coordinate>(v: P) -> Option<P> { Some(v.to_unit_vector()).filter(|_| v.magnitude() != 0.0) }
 /// The vector of `tangent_between`, which the crate keeps to itself: at a mark, from its two neighbours.
 fn between<P: Coordinate>(before: P, at: P, after: P) -> P { ((before - at) + (at - after)) * 0.5 }
-/// The marks at which the blocks of a joined fit of so many marks start: k·size below the last one.
-fn block_starts(n: usize) -> impl Iterator<Item = usize> { (0..n - 1).step_by(block_size(n)) }
 /// The joined fit: block k from mark k·size to mark (k+1)·size, both included, each by the crate's `fit_curve_cubic`. At a mark where two blocks meet the left one
 /// ends with the direction between that mark's neighbours and the right one starts with it times -1; where there is none, each takes that of the chord from the mark to its own
 /// neighbour, or zero. At the outline's two ends it is that of the first and the last two marks.
@@ -111,7 +101,7 @@ fn joined<C: BezierCurveFactory>(ring: bool, p: &[C::Point], tolerance: f64) -> 
     let after = |i: usize| p[if i == last { 1 } else { i + 1 }];
     let chord = |from: usize, to: C::Point| (to - p[from]).to_unit_vector();
     let shared = |i: usize| direction(between(before(i), p[i], after(i)));
-    block_starts(p.len()).flat_map(|from| {
+    (0..).map(|k| k * size).take_while(|from| *from < last).flat_map(|from| {
         let to = (from + size).min(last);
         let start = if from == 0 && !ring { chord(0, p[1]) } else { shared(from).map_or_else(|| chord(from, after(from)), |t| t * -1.0) };
         let end = if to == last && !ring { chord(last, p[last - 1]) } else { shared(to).unwrap_or_else(|| chord(to, before(to))) };
@@ -132,21 +122,17 @@ fn square(c: &Plain, mark: Coord2, t: f64) -> f64 { let off = mark - c.point_at_
 fn farthest(squares: impl Iterator<Item = f64>) -> (usize, f64) {
     squares.enumerate().fold((0, 0.0), |worst, (i, far)| if far > worst.1 { (i, far) } else { worst })
 }
-/// A fit's curves by the crate's own types, each beside the watched run's; None where the two are not the same bits.
-fn both(kind: &str, tolerance: f64, tangents: Option<(Coord2, Coord2)>, p: &[Coord2]) -> Option<Vec<(Plain, Kept)>> {
+/// Count, and of each curve first mark, worst mark, its numbers and the largest distance; then the parameters of a fit. The plain run's curves and the watched run's must be the same bits.
+/// A curve's last mark is measured with its others, at 1, where the distance is 0: so it does not count which curve a joint is under.
+fn fitted(kind: &str, tolerance: f64, tangents: Option<(Coord2, Coord2)>, p: &[Coord2]) -> String {
     let marks: Vec<Mark> = p.iter().enumerate().map(|(i, c)| Mark(*c, Some(i))).collect();
     let plain: Vec<Plain> = fit(kind, tolerance, tangents, p);
     let kept: Vec<Kept> = fit(kind, tolerance, tangents.map(|(s, e)| (Mark(s, None), Mark(e, None))), &marks);
-    let alike = plain.len() == kept.len() && plain.iter().zip(&kept).all(|(c, k)| eight(c).map(bits) == eight(k).map(bits));
-    if alike { Some(plain.into_iter().zip(kept).collect()) } else { None }
-}
-/// Count, and of each curve first mark, worst mark, its numbers and the largest distance; then the parameters of a fit.
-/// A curve's last mark is measured with its others, at 1, where the distance is 0: so it does not count which curve a joint is under.
-fn fitted(kind: &str, tolerance: f64, tangents: Option<(Coord2, Coord2)>, p: &[Coord2]) -> String {
-    let Some(curves) = both(kind, tolerance, tangents, p) else { return "UNLIKE".into() };
     let mut at = vec![0.0; p.len()];
-    let mut out = format!("0 {}", curves.len());
-    for (c, k) in &curves {
+    let mut out = format!("0 {}", plain.len());
+    if plain.len() != kept.len() { return "UNLIKE".into(); }
+    for (c, k) in plain.iter().zip(&kept) {
+        if eight(c).map(bits) != eight(k).map(bits) { return "UNLIKE".into(); }
         let (first, last, asked) = (k.start.1.unwrap(), k.end.1.unwrap(), k.asked.borrow());
         let own = if last - first == 1 { &[0.0, 1.0][..] } else { &asked[..] };
         if own.len() != last - first + 1 { return "UNLIKE".into(); }
@@ -155,15 +141,6 @@ fn fitted(kind: &str, tolerance: f64, tangents: Option<(Coord2, Coord2)>, p: &[C
         out += &format!(" {} {}{}{}", first, first + worst, hex(&eight(c)), hex(&[far.sqrt()]));
     }
     out + &hex(&at)
-}
-/// Blocks, curves, parts and least-squares solutions of a joined fit, as its run shows them: the crate makes a curve of a part's marks once for every solution, and once for a line of
-/// two marks, which has none; and nothing else comes between the curves of one part. None where the two runs differ.
-fn counts(tolerance: f64, p: &[Coord2]) -> Option<[usize; 4]> {
-    let curves = both("joined", tolerance, None, p)?;
-    let mut made = MADE.take();
-    let solutions = made.iter().filter(|[first, last]| last - first > 1).count();
-    made.dedup();
-    Some([block_starts(p.len()).count(), curves.len(), made.len(), solutions])
 }
 
 /// Newton refinement once more, with the numbers watched that the crate's own call lets pass unseen.
@@ -213,19 +190,14 @@ fn search_depth(p: &[Coord2], q: Coord2) -> Option<usize> {
 fn outline(ring: bool, given: &[Coord2]) -> Vec<Coord2> { given.iter().chain(given.first().filter(|_| ring)).copied().collect() }
 fn fewest(ring: bool) -> usize { if ring { 3 } else { 2 } }
 
-/// Whether a mark or the tolerance is out of range.
-fn beyond(tolerance: f64, marks: &[Coord2]) -> bool {
-    let wild = |v: f64| !(v.abs() <= 1_000_000.0);
-    marks.iter().any(|m| wild(m.0) || wild(m.1)) || !(tolerance >= 0.0 && tolerance.is_finite())
-}
-
 /// The list checker by the document's rules; the crate has none. Points and distances are the crate's. A curve has eight numbers, or nine where worst marks are kept.
 fn check(ring: bool, tolerance: f64, given: &[Coord2], firsts: &[usize], worsts: Option<&[usize]>, curves: &[Vec<f64>], at: &[f64]) -> String {
     let marks = outline(ring, given);
     let (n, count) = (marks.len(), curves.len());
+    let wild = |v: f64| !(v.abs() <= 1_000_000.0);
     if given.len() < fewest(ring) { return "1".into(); }
     if given.len() > MOST_MARKS { return "2".into(); }
-    if beyond(tolerance, &marks) { return "5".into(); }
+    if marks.iter().any(|m| wild(m.0) || wild(m.1)) || !(tolerance >= 0.0 && tolerance.is_finite()) { return "5".into(); }
     if count < 1 || count > n - 1 { return "FAULT A 0 0".into(); }
     for k in 0..count {
         if firsts[k] >= n - 1 || (if k == 0 { firsts[0] != 0 } else { firsts[k] <= firsts[k - 1] }) { return format!("FAULT A {} 0", k); }
@@ -279,8 +251,8 @@ fn answer(line: &str) -> Option<String> {
     let show = |v: &[Mark]| -> String { let f: Vec<f64> = v.iter().flat_map(|m| [m.0.0, m.0.1]).collect(); format!("0{}", hex(&f)) };
     let wanted = match kind {
         "sqrt" => 1, "basis" | "de_casteljau4" | "subdivide4" | "coefficients" => 9, "de_casteljau3" => 7, "de_casteljau2" => 5, "refine" => 12, "nearest" => 10, "distance" => 11, "blocks" | "size" | "pack" | "unpack" | "salvage" => 1,
-        "export" => return path::export(w), "enter" => 8,
-        "direct" => w.len().max(5), "source" | "loop" | "joined" | "ring" | "counted" | "check" | "check_ring" | "check_worst" | "check_worst_ring" => w.len().max(1), _ => return None,
+        "export" => return path::export(w),
+        "direct" => w.len().max(5), "source" | "loop" | "joined" | "ring" | "check" | "check_ring" | "check_worst" | "check_worst_ring" => w.len().max(1), _ => return None,
     };
     if w.len() != wanted { return None; }
     Some(match kind {
@@ -337,16 +309,12 @@ fn answer(line: &str) -> Option<String> {
         }
         "pack" | "unpack" => pack::answer(kind, w[0])?,
         "salvage" => salvage::answer(w[0])?,
-        "enter" => season::answer(&w[..7], w[7])?,
         "check" | "check_ring" | "check_worst" | "check_worst_ring" => check_line(kind.ends_with("_ring"), kind.starts_with("check_worst"), w)?,
         _ => {
             let v = numbers(w)?;
             let (ring, tolerance, rest) = (kind == "ring", v[0], &v[if kind == "direct" { 5 } else { 1 }..]);
             let tangents = if kind == "direct" { Some((Coord2(v[1], v[2]), Coord2(v[3], v[4]))) } else { None };
-            if rest.len() % 2 == 1 { return Some("3".into()); }
-            if rest.len() < 2 * fewest(ring) { return Some("1".into()); }
-            let marks = outline(ring, &points(rest));
-            if kind == "counted" { season::counted(tolerance, &marks) } else { fitted(kind, tolerance, tangents, &marks) }
+            if rest.len() % 2 == 1 { "3".into() } else if rest.len() < 2 * fewest(ring) { "1".into() } else { fitted(kind, tolerance, tangents, &outline(ring, &points(rest))) }
         }
     })
 }
@@ -356,8 +324,7 @@ fn all() {
     let mut out = BufWriter::new(stdout().lock());
     for line in stdin().lock().split(b'\n') {
         let line = line.expect("standard input");
-        LOST.set(false);
-        MADE.take();
+        LOST.with(|l| l.set(false));
         let said = std::panic::catch_unwind(|| match line.strip_prefix(b"import ") {
             Some(text) => path::import(text), // a text may have any bytes
             None => str::from_utf8(&line).ok().and_then(answer).unwrap_or("BAD".into()),

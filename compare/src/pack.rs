@@ -80,11 +80,7 @@ fn unpack(file: &[u8]) -> Result<Vec<u8>, u8> {
 }
 
 /// Whether bytes are a house file, packed or not: one whose curves do not meet is.
-fn is_file(file: &[u8]) -> bool { pack(file) != Err(9) || unpack(file).is_ok() }
-/// A house file's tolerance and its marks, as bytes; None for bytes that are none.
-pub fn outline(file: &[u8]) -> Option<(&[u8], &[u8])> {
-    House::read(file).filter(|_| is_file(file)).map(|house| (&house.front[6..14], &house.front[20..]))
-}
+pub fn is_file(file: &[u8]) -> bool { pack(file) != Err(9) || unpack(file).is_ok() }
 
 /// The bytes of a text, two lower-case digits each.
 pub fn bytes(text: &str) -> Option<Vec<u8>> {

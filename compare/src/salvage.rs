@@ -1,6 +1,7 @@
 //! Cleaning a house file for `salvage`, which the crate has not: written apart from the port and from Python, by the bits as whole numbers. No float is made of a mark.
 use crate::pack;
 
+const MARKS_AT: usize = 20;
 /// The bits of 1,000,000. Without the sign numbers rise as their bits do, and infinities and NaNs are above all of them.
 const LARGEST: u64 = 0x412E_8480_0000_0000;
 const UNSIGNED: u64 = u64::MAX >> 1;
@@ -10,9 +11,10 @@ fn equal(a: u64, b: u64) -> bool { a == b || (a | b) & UNSIGNED == 0 }
 
 /// The cleaned file and the list of what was dropped; None for bytes that are no house file.
 fn salvage(file: &[u8]) -> Option<(Vec<u8>, String)> {
-    let (_, marks) = pack::outline(file)?;
+    if !pack::is_file(file) { return None; }
+    let bytes = u32::from_le_bytes(file[14..18].try_into().ok()?) as usize - 2;
     let (mut kept, mut drops, mut last): (Vec<u8>, Vec<String>, Option<[u64; 2]>) = (vec![], vec![], None);
-    for (number, bytes) in marks.chunks(16).enumerate() {
+    for (number, bytes) in file[MARKS_AT..MARKS_AT + bytes].chunks(16).enumerate() {
         let mark = [0, 8].map(|at| u64::from_le_bytes(bytes[at..at + 8].try_into().expect("eight bytes")));
         if mark.iter().any(|v| v & UNSIGNED > LARGEST) {
             drops.push(format!("DROP {} RANGE\n", number));

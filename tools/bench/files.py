@@ -22,25 +22,25 @@ def stop(path, error):
     return Stop(f'{shown(path)}: {error.strerror or error}')
 
 
-def read(path, most=LONGEST + 1):
-    """The bytes of a file, or of standard input for `-`; of a longer file than any house file one byte more than the longest has, which is refused. All of them where `most` is None."""
+def read(path):
+    """The bytes of a file, or of standard input for `-`; of a longer file than any house file one byte more than the longest has, which is refused."""
     if path == '-' and sys.stdin is None:
         raise Stop('standard input is closed')
     try:
         if path == '-':
-            return sys.stdin.buffer.read(most)
+            return sys.stdin.buffer.read(LONGEST + 1)
         with open(path, 'rb') as file:
-            return read_whole(file, path, most)
+            return read_whole(file, path)
     except OSError as error:
         raise stop(path, error)
 
 
-def read_whole(file, path, most):
+def read_whole(file, path):
     """A regular file has the length that it is said to have, before and after it is read; otherwise someone is writing to it."""
     before = os.fstat(file.fileno())
-    data = file.read(most)
+    data = file.read(LONGEST + 1)
     after = os.fstat(file.fileno())
-    if stat.S_ISREG(before.st_mode) and any(min(found.st_size, most or found.st_size) != len(data) for found in (before, after)):
+    if stat.S_ISREG(before.st_mode) and any(min(found.st_size, LONGEST + 1) != len(data) for found in (before, after)):
         raise Stop(f'{shown(path)}: it changed while it was read; try again when it is written')
     return data
 
@@ -57,11 +57,6 @@ def write(path, data):
             replace(os.path.realpath(path), data)
     except OSError as error:
         raise stop(path, error)
-
-
-def written(path, data):
-    """The line that says where something went."""
-    return f'written: {shown(path)}, {len(data)} bytes'
 
 
 # ---- files that are written to a folder, under their own names

@@ -3,12 +3,12 @@ import argparse
 import os
 import sys
 
-from bench import cleaning, files, outline, packing, programs, said, season as seasons
+from bench import cleaning, files, outline, packing, programs, said
 from bench.several import Done, go_through
 from bench.tables import curve_table, refused_row, table_head, table_row
 from shared.command import Stop, run, say
 
-VERBS = ('fit', 'check', 'plot', 'path', 'clean', 'pack', 'unpack', 'season', 'explain')
+VERBS = ('fit', 'check', 'plot', 'path', 'clean', 'pack', 'unpack', 'explain')
 
 
 # ---- fit
@@ -39,8 +39,12 @@ def fit_lines(path, words, wide):
         lines += curve_table(listed)
     if words.save is not None:
         files.write(words.save, made)
-        lines.append(files.written(words.save, made))
+        lines.append(written(words.save, made))
     return Done(0, lines)
+
+
+def written(path, data):
+    return f'written: {files.shown(path)}, {len(data)} bytes'
 
 
 def fit_listing(path, words):
@@ -181,7 +185,7 @@ def plot(words):
         sys.stdout.buffer.write(data)
     else:
         files.write(words.out, data)
-        print(files.written(words.out, data))
+        print(written(words.out, data))
     trouble = outline.trouble(listed)
     if trouble is None:
         return 0
@@ -223,13 +227,6 @@ def unpack(words):
     return packing.go('unpack', words)
 
 
-# ---- season
-
-def season(words):
-    hold_names(words)
-    return seasons.go(words)
-
-
 # ---- explain
 
 def explain(words):
@@ -266,7 +263,7 @@ def add_flat(verb, more=''):
 
 
 def parser():
-    whole = Parser(prog='wesalondo', allow_abbrev=False, description="Fits the marks of house files by smooth curves, checks curves, draws them, writes them for a cutter, cleans shaky traces, packs files for keeping, and counts what a season's outlines cost.",
+    whole = Parser(prog='wesalondo', allow_abbrev=False, description='Fits the marks of house files by smooth curves, checks curves, draws them, writes them for a cutter, cleans shaky traces, and packs files for keeping.',
                    epilog='example: wesalondo fit examples/cover.house. The programs behind it are proved and built on first use. '
                           'Exit status: 0 all good; 1 something is refused or faulty; 2 something could not be run.')
     verbs = whole.add_subparsers(metavar='VERB', required=True, parser_class=Parser)
@@ -316,13 +313,8 @@ def parser():
         verb.add_argument('files', metavar='FILE', nargs='+', help='a house file; one without curves is copied as it is')
         verb.add_argument('--out', metavar='DIR', required=True, help='the folder to write to, each file under its own name; not the folder that it is in')
 
-    verb = add_verb(verbs, season, 'Counts what the outlines of all files come to, one by one and in all: marks, blocks, curves, parts tried and least-squares solutions; says what each tolerance costs, '
-                    'and draws a bar chart of curves against tolerance. The count ends at a file that is broken.', 'wesalondo season june/*.house july/*.house --out season.svg')
-    verb.add_argument('files', metavar='FILE', nargs='+', help='a house file of up to 512 marks, or several one behind the other; - for standard input; curves that it has are not looked at')
-    verb.add_argument('--out', metavar='OUT.svg', default=seasons.CHART, help='where the chart goes; without it %(default)s, in the folder that you are in')
-
     verb = add_verb(verbs, explain, 'Says what a refusal or a fault means and what to do; all of them without a number.', 'wesalondo explain 5')
-    verb.add_argument('number', metavar='N', nargs='?', help='a refusal, 1 to 6 or 8 to 13, or a fault, A to E')
+    verb.add_argument('number', metavar='N', nargs='?', help='a refusal, 1 to 6 or 8 to 12, or a fault, A to E')
     return whole
 
 

@@ -7,14 +7,13 @@ import re
 import shutil
 import signal
 import subprocess
-import tempfile
 
 from bench.progress import Line
 from shared.command import Stop, say
 from shared.crates import CRATES, reach, read_crates
 from shared.kept import ROOT, replace
 
-NAMES = ('judge', 'save', 'replay', 'salvage', 'season')
+NAMES = ('judge', 'save', 'replay', 'salvage')
 RUNNER = os.path.join(ROOT, 'tools', 'run_program')
 TARGET = os.path.join(ROOT, 'target')
 STAMP, LOCK, LOG = (os.path.join(TARGET, f'wesalondo.{part}') for part in ('stamp', 'lock', 'log'))
@@ -23,31 +22,14 @@ STAMP, LOCK, LOG = (os.path.join(TARGET, f'wesalondo.{part}') for part in ('stam
 def run_both(name, data):
     """What a program writes to these bytes, on standard output and on standard error."""
     done = subprocess.run([RUNNER, name], input=data, capture_output=True)
-    hold(name, done.returncode, done.stderr)
+    if done.returncode:
+        raise Stop(done.stderr.decode('utf-8', 'replace') or f'the program {name} ended with status {done.returncode}')
     return done.stdout, done.stderr
 
 
 def run(name, data):
     """What a program writes to these bytes on standard output."""
     return run_both(name, data)[0]
-
-
-def run_on(name, parts):
-    """The same to bytes that are made as the program reads them; it may end before it has read all."""
-    with tempfile.TemporaryFile() as out, tempfile.TemporaryFile() as trouble:
-        with contextlib.suppress(BrokenPipeError), subprocess.Popen([RUNNER, name], stdin=subprocess.PIPE, stdout=out, stderr=trouble) as process:
-            for part in parts:
-                process.stdin.write(part)
-        out.seek(0)
-        trouble.seek(0)
-        hold(name, process.returncode, trouble.read())
-        return out.read()
-
-
-def hold(name, status, trouble):
-    """A program that was built ends well; if it does not, what it says on standard error is all there is to say."""
-    if status:
-        raise Stop(trouble.decode('utf-8', 'replace') or f'the program {name} ended with status {status}')
 
 
 # ---- whether they are there

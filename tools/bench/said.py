@@ -54,7 +54,7 @@ def rows():
 def row(name):
     known = rows()
     if name not in known:
-        raise Stop(f'there is no {name!r}: the refusals are 1 to 6 and 8 to 13, and the faults A to E' if known else f'{PAGE} has no table of refusals')
+        raise Stop(f'there is no {name!r}: the refusals are 1 to 6 and 8 to 12, and the faults A to E' if known else f'{PAGE} has no table of refusals')
     return known[name]
 
 
@@ -64,11 +64,6 @@ def refusal(number, marks=None):
     if marks is None:
         return f'refused {number}, {short}: {meaning}'
     return f'refused {number}, {short} ({marks:,} marks): {meaning} What to do: {remedy}'
-
-
-def short(number):
-    """A refusal in a word or two, for a table."""
-    return row(str(number))[0]
 
 
 def given():

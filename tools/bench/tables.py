@@ -1,6 +1,4 @@
-"""The tables of fits: a line for each file, and below it one for each curve; and how the cells of a table are set."""
-from itertools import zip_longest
-
+"""The tables of fits: a line for each file, and below it one for each curve."""
 from bench import said
 
 HEAD = ('marks', 'curves', 'blocks', 'block size', 'largest distance', 'at mark', 'under curve')
@@ -28,11 +26,5 @@ def curve_table(listed):
     for curve, (first, end, worst) in enumerate(zip(listed.firsts, listed.ends(), listed.worst)):
         mark, far = ('-', 'no number') if worst is None else (worst[1], f'{said.millimetres(worst[0], listed.tolerance)} mm')
         rows.append((curve, first, end, mark, far))
-    return ['    ' + line for line in aligned(rows)]
-
-
-def aligned(rows, first='>'):
-    """Rows of cells as lines, each cell at the right of its column; those of the first column where it is asked for. A row may end early."""
-    wides = [max(len(str(cell)) for cell in column) for column in zip_longest(*rows, fillvalue='')]
-    sides = [first] + ['>'] * len(wides)
-    return ['  '.join(f'{cell:{side}{wide}}' for cell, side, wide in zip(row, sides, wides)) for row in rows]
+    wides = [max(len(str(cell)) for cell in column) for column in zip(*rows)]
+    return ['  ' + ''.join(f'  {cell:>{wide}}' for cell, wide in zip(row, wides)) for row in rows]

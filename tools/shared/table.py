@@ -10,15 +10,13 @@ MOST_MARKS = 100000     # of the fits by blocks, of the list checker and of a ho
 BENCH_MARKS = 4096      # that the programs judge and save have room for
 LINE_MARKS = 21000      # that a line of replay holds
 LINE_BYTES = 4600000    # of such a line
-LINE_FILE = 1512000     # of a house file that it packs, unpacks, cleans or enters
+LINE_FILE = 1512000     # of a house file that it packs, unpacks or cleans
 LINE_REPORT = 100000    # of the list of the marks that are dropped there
-MOST_DIRECT = 512       # marks of the direct fit, of the listing, and of an outline of the season's count
+MOST_DIRECT = 512       # marks of the direct fit and of the listing
 FLAT = '_flat'          # behind a fit's name: by the second engine, which has the last three
 FIRST_FITS = ('source', 'loop', 'direct', 'joined', 'ring')
 FLAT_FITS = tuple(kind + FLAT for kind in FIRST_FITS[2:])
 FITS = FIRST_FITS + FLAT_FITS
-COUNTED = 'counted'     # the joined fit, counted
-OUTLINES = (*FITS, COUNTED)  # what is asked by an outline
 
 
 class Refused(Exception):
@@ -87,7 +85,7 @@ def fit_refusal(words, room_is_short=False):
 def refusal(words):
     """What the table says of a well-formed case by 1, 2, 3 or 5, and 0 if it says nothing."""
     kind, rest = words[0], words[1:]
-    if kind in OUTLINES:
+    if kind in FITS:
         return fit_refusal(words)
     if kind == 'coefficients':
         bad = int(rest[0]) > 1 or outside(rest[1:], LARGEST)

@@ -2,26 +2,25 @@
 
 Square roots, nearest points and border cases are those of the other programs; single curves, outlines and lists that are read from the kept
 input are asked of the Rust again, and so are distances; how many blocks there are, and their size, is counted by the document (shared/blocks.py); lists with one thing changed are judged by the document's rules (shared/checker.py), and
-path data, packed files and cleaned ones are by modules of their own (shared/path_data.py, shared/house.py, shared/cleaning.py), and so are entries into totals (shared/season.py), with the Rust's counts. A line that is no case is
+path data, packed files and cleaned ones are by modules of their own (shared/path_data.py, shared/house.py, shared/cleaning.py). A line that is no case is
 BAD; the Rust side, which reads lines too, has to say so as well, but for what is only too long for the program. Behind each outline of a direct, a joined or a ring fit comes the
 same for the second engine. The last line has no newline."""
 import math
 
-from shared import kept, season_cases
+from shared import kept
 from shared.blocks import blocks_of, size_of
 from shared.checker import PASSED
 from shared.command import Stop
-from shared.table import COUNTED, FIRST_FITS, FITS, LINE_MARKS, OUTLINES, by_both, flat_line
+from shared.table import FIRST_FITS, FITS, LINE_MARKS, by_both, flat_line
 from shared.words import INFINITY, MINUS, NAN, bits, numbers, pattern_of, patterns_of, word, word_of, words
-from vectors import cleaning, counting, lists, near, outlines, packing, paths, roots, single
+from vectors import cleaning, lists, near, outlines, packing, paths, roots, single
 
 NAME = 'replay'
 KEPT_CURVES = 230  # calls on single curves, 30 of them refused by 6
 KEPT_OUTLINES = 186
 KEPT_LISTS = 24    # sound lists, seven of them with changed copies
-KEPT_COUNTS = 98   # joined outlines that were counted
 CHECKS = ('check', 'check_ring', 'check_worst', 'check_worst_ring')
-COLLECTED = {'curves': single.KINDS, 'outlines': FIRST_FITS, 'lists': CHECKS[:2], 'counts': (COUNTED,)}  # lists in the record of nine are made from those
+COLLECTED = {'curves': single.KINDS, 'outlines': FIRST_FITS, 'lists': CHECKS[:2]}  # lists in the record of nine are made from those
 
 
 def values(*floats):
@@ -194,8 +193,7 @@ GOOD = [
     f'check_ring {HALF} 3 {THREE} 1 0 {values(0, 0, 8, 0, 4, 8, 0, 0)} {values(0, 0.25, 0.75, 1)}',
     f'check_worst {HALF} 2 {TWO} 1 0 0 {values(0, 0, 1.32, 0, 2.64, 0, 4, 0, 0)} {values(0, 1)}',
     f'check_worst_ring {HALF} 3 {THREE} 1 0 1 {values(0, 0, 8, 0, 4, 8, 0, 0, 0)} {values(0, 0.25, 0.75, 1)}', f'distance {ARCH} {QUERY} {HALF}', 'blocks 7', 'size 7',
-    f'direct_flat {HALF} {values(1, 0, -1, 0)} {TWO}', f'joined_flat {HALF} {TWO}', f'ring_flat {HALF} {THREE}',
-    f'{COUNTED} {HALF} {TWO}']
+    f'direct_flat {HALF} {values(1, 0, -1, 0)} {TWO}', f'joined_flat {HALF} {TWO}', f'ring_flat {HALF} {THREE}']
 
 
 def misspelt(line):
@@ -207,7 +205,7 @@ def misspelt(line):
         name.upper() + ' ' + rest, name[:-1] + ' ' + rest, name + 'x ' + rest, line[:-1], line + '+']
     for digit in 'G@/:':
         yield head + ' ' + digit * 16
-    if name not in OUTLINES:
+    if name not in FITS:
         yield from [head, f'{line} {HALF}', line + ' 1']
     if HALF in line:
         for other in ('3fe0000000000000', '3FE000000000000', '3FE00000000000000', '0x3FE00000000000', '+3FE000000000000', '0.5'):
@@ -255,15 +253,14 @@ def miscounted():
 
 def bad():
     yield from ['', ' ', '  ', 'BAD', 'x', '0', HALF]
-    yield from ['sqrt', 'basis', 'coefficients', 'refine', 'nearest', 'distance', 'blocks', 'size', *OUTLINES, counting.ENTER, *CHECKS]
-    for line in [*GOOD, paths.GOOD, *packing.GOOD, cleaning.GOOD, counting.GOOD]:
+    yield from ['sqrt', 'basis', 'coefficients', 'refine', 'nearest', 'distance', 'blocks', 'size', *FITS, *CHECKS]
+    for line in [*GOOD, paths.GOOD, *packing.GOOD, cleaning.GOOD]:
         yield from misspelt(line)
     yield from paths.bad()
     yield from packing.bad()
     yield from cleaning.bad()
-    yield from counting.bad()
     yield from by_both([f'direct {HALF} {values(1, 0, -1)}', f'direct {HALF}'], flat_line)
-    yield from [f'source_flat {HALF} {TWO}', f'loop_flat {HALF} {TWO}', f'{COUNTED}_flat {HALF} {TWO}', '_flat']  # the second engine has no such fits
+    yield from [f'source_flat {HALF} {TWO}', f'loop_flat {HALF} {TWO}', '_flat']  # the second engine has no such fits
     yield from miscounted()
     yield from [f'sqrt {HALF}\0', '\0', 'sqrt\xa0' + HALF, '\x7f' * 200, f'sqrt {HALF} ', f'sqrt {HALF} ' + ' ' * 70000]
 
@@ -325,11 +322,10 @@ def flat_row(row):
 
 def made_rows():
     """The cases that are made here or by the other programs' modules, in their parts."""
-    borders = outline_borders()
     return {
         'roots': root_lines(), 'curve borders': to_ask(curve_borders()), 'nearest': nearest_lines() + [(line, '5') for line in nearest_borders()],
-        'outline borders': to_ask(borders), 'whole': to_ask(whole()), 'roundings': to_ask(roundings()), 'nans': list(nans()), 'distances': to_ask(distance_lines()), 'blocks': list(block_lines()), 'sizes': list(size_lines()),
-        'paths': paths.rows(), 'packing': packing.rows(), 'cleaning': cleaning.rows(), 'counts': to_ask(counting.counted_lines(borders)), 'entries': to_ask(season_cases.lines())}
+        'outline borders': to_ask(outline_borders()), 'whole': to_ask(whole()), 'roundings': to_ask(roundings()), 'nans': list(nans()), 'distances': to_ask(distance_lines()), 'blocks': list(block_lines()), 'sizes': list(size_lines()),
+        'paths': paths.rows(), 'packing': packing.rows(), 'cleaning': cleaning.rows()}
 
 
 def collected_lists(lines):
@@ -364,19 +360,14 @@ def cases(before):
     curves = kept.at_least(by_kind['curves'], KEPT_CURVES, NAME)
     fits = kept.at_least(by_kind['outlines'], KEPT_OUTLINES, NAME)
     claims = kept.at_least(collected_lists(by_kind['lists']), KEPT_LISTS, NAME)
-    counts = kept.at_least(by_kind['counts'], KEPT_COUNTS, NAME)
     rows = made['roots'] + to_ask(curves) + made['curve borders'] + made['nearest']
     rows += [*by_both(to_ask(fits) + made['outline borders'], flat_row)] + made['whole'] + made['roundings'] + made['nans'] + made['distances'] + made['blocks'] + made['sizes']
-    return rows + list(list_rows(claims)) + made['paths'] + made['packing'] + made['cleaning'] + to_ask(counts) + made['counts'] + made['entries']
+    return rows + list(list_rows(claims)) + made['paths'] + made['packing'] + made['cleaning']
 
 
 def answered(rows, rust):
-    """The rows with their answers: those that are not known yet are the Rust's, but for entries into totals, which have its counts alone."""
-    open_ = [line for line, said in rows if said is None]
-    entries = [line for line in open_ if line.startswith(counting.ENTER + ' ')]
-    asked = [line for line in open_ if not line.startswith(counting.ENTER + ' ')]
-    known = {**dict(zip(entries, counting.answers(entries, rust))), **dict(zip(asked, rust.answer_all(asked)))}
-    return [(line, known[line] if said is None else said) for line, said in rows]
+    asked = iter(rust.answer_all([line for line, said in rows if said is None]))
+    return [(line, next(asked) if said is None else said) for line, said in rows]
 
 
 def hold(lines, rust):
@@ -387,7 +378,7 @@ def hold(lines, rust):
 
 
 def hold_alike(rows, kinds, name, rust):
-    """The Rust side has a checker of its own, and so export, import, pack, unpack, salvage and enter, which say the same of every line."""
+    """The Rust side has a checker of its own, and so export, import, pack, unpack and salvage, which say the same of every line."""
     wanted = [row for row in rows if row[0].split(' ')[0] in kinds]
     for (line, want), (said, _) in zip(wanted, rust.ask([line for line, _ in wanted])):
         if said != want:
@@ -405,14 +396,13 @@ def make(rust):
     before = kept.read_stdin(NAME).decode('latin-1').split('\n')
     wrong = list(bad())
     end = [*by_both(long_lines(), flat_row)] + LAST
-    rows = answered(cases(kept.without(before, wrong + [line for line, _ in end])), rust)
+    rows = cases(kept.without(before, wrong + [line for line, _ in end]))
     hold(wrong, rust)
     hold_alike(rows, CHECKS, 'checkers', rust)
     hold_alike(rows, paths.KINDS, 'readers and writers of path data', rust)
     hold_alike(rows, packing.KINDS, 'packers', rust)
     hold_alike(rows, [cleaning.KIND], 'cleanings', rust)
-    hold_alike(rows, [counting.ENTER], 'entries', rust)
     hold_roundings(rust)
-    found = mixed(rows, [(line, 'BAD') for line in wrong]) + answered(end, rust)
+    found = mixed(answered(rows, rust), [(line, 'BAD') for line in wrong]) + answered(end, rust)
     stdin = '\n'.join(line for line, _ in found).encode('latin-1')
     return kept.Made(NAME, stdin, ''.join(said + '\n' for _, said in found), len(found), len(before), kept.tally(said for _, said in found))

@@ -5,7 +5,6 @@ use crate::fitted::{Fit, RECORD};
 use crate::lent::{Lent, Wanted};
 use crate::point::{numbers, Point};
 use crate::refusal::{answered, Refusal};
-use crate::season::Cost;
 use crate::sys;
 
 /// A flat fit into lent room: `call` has the marks' numbers, the room, and where to put how many curves it made.
@@ -54,21 +53,6 @@ fn by_tangents(start: Point, end: Point, tolerance: f64) -> impl FnOnce(&[f64], 
     }
 }
 
-/// The joined flat fit that counts: what it took goes into `cost`.
-fn by_counted(tolerance: f64, cost: &mut Cost) -> impl FnOnce(&[f64], &mut Lent<'_>, &mut usize) -> u32 + '_ {
-    move |m, lent, made| {
-        let Lent { curves: c, firsts: f, worsts: w, params: p, open: o } = lent;
-        let (ml, cl, fl, wl, pl, ol) = (m.len(), c.len(), f.len(), w.len(), p.len(), o.len());
-        let (mp, cp, fp, wp, pp, op) = (m.as_ptr(), c.as_mut_ptr(), f.as_mut_ptr(), w.as_mut_ptr(), p.as_mut_ptr(), o.as_mut_ptr());
-        let mut counts = [0; 4];
-        // SAFETY: as in `by`.
-        let answer = unsafe { sys::wes_fit_joined_counted(mp, ml, tolerance, cp, cl, fp, fl, wp, wl, pp, pl, op, ol, &mut counts) };
-        *cost = Cost::from(counts);
-        *made = cost.curves;
-        answer
-    }
-}
-
 /// Fits as [`fit_joined`](crate::fit_joined) does, with the same answer to every input, on a small stack.
 pub fn fit_joined_flat(marks: &[Point], tolerance: f64) -> Result<Fit, Refusal> {
     in_own(false, marks, by(sys::wes_fit_joined_flat, tolerance))
@@ -82,31 +66,6 @@ pub fn fit_ring_flat(marks: &[Point], tolerance: f64) -> Result<Fit, Refusal> {
 /// Fits as [`fit_curve_cubic`](crate::fit_curve_cubic) does, with the same answer to every input, on a small stack.
 pub fn fit_curve_cubic_flat(marks: &[Point], start: Point, end: Point, tolerance: f64) -> Result<Fit, Refusal> {
     in_own(false, marks, by_tangents(start, end, tolerance))
-}
-
-/// Fits as [`fit_joined_flat`] does, and says what the method took for it.
-///
-/// ```
-/// use wesalondo::{fit_joined_counted, joined_blocks, Point};
-///
-/// let marks: Vec<Point> = (0..300).map(|i| f64::from(i) * 0.05).map(|a| Point::new(300.0 * a, 200.0 * a.sin())).collect();
-/// let (fit, cost) = fit_joined_counted(&marks, 0.5)?;
-/// assert_eq!((cost.blocks, cost.curves), (joined_blocks(marks.len()), fit.len()));
-/// assert_eq!(cost.parts, 2 * cost.curves - cost.blocks);
-/// assert!(cost.solutions <= 9 * cost.parts);
-/// # Ok::<(), wesalondo::Refusal>(())
-/// ```
-pub fn fit_joined_counted(marks: &[Point], tolerance: f64) -> Result<(Fit, Cost), Refusal> {
-    let mut cost = Cost::default();
-    let fit = in_own(false, marks, by_counted(tolerance, &mut cost))?;
-    Ok((fit, cost))
-}
-
-/// [`fit_joined_counted`] into lent room, with none of its own: [`Wanted::for_marks`] says how much.
-pub fn fit_joined_counted_in<'a>(marks: &[Point], tolerance: f64, lent: Lent<'a>) -> Result<(List<'a>, Cost), Refusal> {
-    let mut cost = Cost::default();
-    let list = in_lent(false, marks, lent, by_counted(tolerance, &mut cost))?;
-    Ok((list, cost))
 }
 
 /// [`fit_joined_flat`] into lent room, with none of its own: [`Wanted::for_marks`] says how much. [`check_worst`](crate::check_worst) judges the list.

@@ -8,7 +8,7 @@ use std::fmt;
 pub enum Refusal {
     /// Fewer than 2 marks; fewer than 3 of a ring.
     TooFew,
-    /// More than 100,000 marks; more than 512 for `fit_curve_cubic`, its flat form, the listing and the count, more than 4,096 for `judge_file` and `save_fit`.
+    /// More than 100,000 marks; more than 512 for `fit_curve_cubic`, its flat form and the listing, more than 4,096 for `judge_file` and `save_fit`.
     TooMany,
     /// A mark with an x and no y, which slices of [`Point`](crate::Point) can't have.
     Odd,
@@ -31,12 +31,10 @@ pub enum Refusal {
     NoPath,
     /// Curves do not meet bit for bit, on the way to path data or to a packed file; or there are none, on the way to path data.
     NotJoined,
-    /// An outline with which a total of a season would pass `u64::MAX`.
-    PastLimit,
 }
 
 impl Refusal {
-    const ALL: [Refusal; 12] = [
+    const ALL: [Refusal; 11] = [
         Refusal::TooFew,
         Refusal::TooMany,
         Refusal::Odd,
@@ -48,7 +46,6 @@ impl Refusal {
         Refusal::TooLarge,
         Refusal::NoPath,
         Refusal::NotJoined,
-        Refusal::PastLimit,
     ];
 
     /// The number by which the library gives it, and `./wesalondo explain` explains it. 7 is given to nothing.
@@ -65,7 +62,6 @@ impl Refusal {
             Refusal::TooLarge => 10,
             Refusal::NoPath => 11,
             Refusal::NotJoined => 12,
-            Refusal::PastLimit => 13,
         }
     }
 
@@ -73,7 +69,7 @@ impl Refusal {
         match self {
             Refusal::TooFew => "there are fewer than 2 marks, or fewer than 3 of a ring",
             Refusal::TooMany => {
-                "there are more than 100,000 marks, or than the 512 of the direct fit, the listing and the count, or the 4,096 of the judge and of save_fit"
+                "there are more than 100,000 marks, or than the 512 of the direct fit and the listing, or the 4,096 of the judge and of save_fit"
             }
             Refusal::Odd => "a mark has an x and no y",
             Refusal::NoRoom => "a slice is too short",
@@ -84,7 +80,6 @@ impl Refusal {
             Refusal::TooLarge => "a number of the path is above 1,000,000,000 in magnitude",
             Refusal::NoPath => "the text is not path data of one subpath of M, L, C and Z, with three places at most and no exponent",
             Refusal::NotJoined => "there are no curves, or they do not meet bit for bit",
-            Refusal::PastLimit => "a total of the season would pass 18,446,744,073,709,551,615",
         }
     }
 }

@@ -1,16 +1,15 @@
 //! The library's own calls, as bindings/c/wesalondo.h declares them, under the same names. That header is the authority on what they mean.
 //!
 //! A call answers 0 or the number of a refusal ([`Refusal::number`](crate::Refusal::number)); the checkers also the letter of a fault, in ASCII.
-//! Where a call refuses, every single value and every array of fixed length that it hands back is zeros, but for the totals of `wes_count_file`; slices stay
-//! as they were, but refusal 6 leaves every number of the slices lent to a fit zero. Where several refusals would do, the first of 9, 3, 1, 2, 4, 5 is given,
-//! and 6 or 8 only where none of these is; `wes_write_file`, `wes_pack_file`, `wes_export_path` and `wes_import_path` have orders of their own, and
-//! `wes_count_file` gives 13 in place of any other answer.
+//! Where a call refuses, every single value and every array of fixed length that it hands back is zeros; slices stay as they were, but refusal 6
+//! leaves every number of the slices lent to a fit zero. Where several refusals would do, the first of 9, 3, 1, 2, 4, 5 is given, and 6 or 8 only where
+//! none of these is; `wes_write_file`, `wes_pack_file`, `wes_export_path` and `wes_import_path` have orders of their own.
 //!
 //! A slice is a pointer and how many elements it has (`marks`, `marks_len`); marks are x and y in turn. For n marks a fit wants 9(n-1) numbers in
 //! `curves`, n-1 in `firsts` and in `worsts`, and n in `params`; for a ring 9n, n, n and n+1. A flat fit, of a ring too, also wants 2n in `open`.
 //!
 //! More marks than a call takes are refusal 2: the fits by blocks, the checkers, `wes_read_file` and `wes_write_file` take 100,000, `wes_fit_curve_cubic`,
-//! `wes_fit_curve_cubic_flat`, `wes_list_outline` and `wes_count_file` 512, `wes_judge_file` and `wes_save_fit` 4,096, `wes_pack_file`, `wes_unpack_file` and
+//! `wes_fit_curve_cubic_flat` and `wes_list_outline` 512, `wes_judge_file` and `wes_save_fit` 4,096, `wes_pack_file`, `wes_unpack_file` and
 //! `wes_salvage` any number.
 //!
 //! # Safety
@@ -98,12 +97,6 @@ extern "C" {
     pub fn wes_fit_ring_flat(
         marks: *const f64, marks_len: usize, tolerance: f64, curves: *mut f64, curves_len: usize, firsts: *mut u32, firsts_len: usize,
         worsts: *mut u32, worsts_len: usize, params: *mut f64, params_len: usize, open: *mut u32, open_len: usize, made: *mut usize,
-    ) -> u32;
-
-    /// As wes_fit_joined, on a small stack, with what the method took: blocks, curves, parts that were tried, and least-squares solutions.
-    pub fn wes_fit_joined_counted(
-        marks: *const f64, marks_len: usize, tolerance: f64, curves: *mut f64, curves_len: usize, firsts: *mut u32, firsts_len: usize,
-        worsts: *mut u32, worsts_len: usize, params: *mut f64, params_len: usize, open: *mut u32, open_len: usize, counts: *mut [usize; 4],
     ) -> u32;
 
     // ---- checkers
@@ -219,11 +212,6 @@ extern "C" {
         file: *const u8, file_len: usize, out: *mut u8, out_len: usize, report: *mut u8, report_len: usize, size: *mut usize,
         report_size: *mut usize,
     ) -> u32;
-
-    /// Enters a file's outline into a season's totals: accepted and refused, and of the accepted ones marks, blocks, curves, parts and solutions. They are read
-    /// and written; `counts` is what the outline comes to, from its marks on. Refusals: 9, 2 above 512 marks, 1, 5, 6, each of which counts among the refused; and 13
-    /// in place of any answer where a total would pass 2^64 - 1, which leaves the totals as they were.
-    pub fn wes_count_file(file: *const u8, file_len: usize, totals: *mut [u64; 7], counts: *mut [u64; 5]) -> u32;
 
     // ---- path data, as SVG 1.1 has it: one subpath of absolute M, L, C and Z
 

@@ -178,12 +178,12 @@ fn lines(whats: &[&str]) -> Vec<Line> {
 
 type FitCall = fn(&[Point], f64) -> Result<Fit, Refusal>;
 
-/// The calls that make a thing, by one engine or by both; the joined fit also as it counts.
+/// The calls that make a thing, by one engine or by both.
 fn fit_calls(what: &str) -> &'static [FitCall] {
     match what {
         "source" => &[fit_curve],
         "loop" => &[fit_curve_loop],
-        "joined" | "nine" | "eight" => &[fit_joined, fit_joined_flat, |marks, tolerance| Ok(fit_joined_counted(marks, tolerance)?.0)],
+        "joined" | "nine" | "eight" => &[fit_joined, fit_joined_flat],
         "ring" | "closed" => &[fit_ring, fit_ring_flat],
         other => panic!("nothing is known of {other}"),
     }
@@ -205,8 +205,8 @@ fn marks_are_drawn_as_the_rust_had_them() {
 fn expect_fits(whats: &[&str]) {
     for line in lines(whats) {
         let marks = line.marks();
-        for (call, fit) in (1..).zip(fit_calls(&line.what)) {
-            expect_fit(&format!("{} by call {call}", line.name()), &line, &marks, fit(&marks, line.tolerance));
+        for (engine, fit) in (1..).zip(fit_calls(&line.what)) {
+            expect_fit(&format!("{} by engine {engine}", line.name()), &line, &marks, fit(&marks, line.tolerance));
         }
     }
 }

@@ -41,13 +41,13 @@ abbrev Stopped : Run → Type 0
 Stopped (refused q) = q ≡ 6
 Stopped (done cs bs ps) = Unit {0}
 
-join-stops : (k : ℕ) (R R' : Run) → Stopped R → Stopped R' → Stopped (join k R R')
-join-stops k (refused q) R' a b = a
-join-stops k (done c f p) (refused q) a b = b
-join-stops k (done c f p) (done c' f' p') a b = tt
+join_stops : (k : ℕ) (R R' : Run) → Stopped R → Stopped R' → Stopped (join k R R')
+join_stops k (refused q) R' a b = a
+join_stops k (done c f p) (refused q) a b = b
+join_stops k (done c f p) (done c' f' p') a b = tt
 
-run-stops : (ms : List Float) (first : ℕ) (s e : Point) (tol : Float) → 2 ≤ count ms → Usable ms tol → Stopped (run_of ms first s e tol)
-run-stops ms first s e tol = run_ind tol (λ ms first R. Stopped R) (λ ms first c w ps h f. tt) (λ ms first. refl) (λ ms first k R R' i j a b. join-stops k R R' a b) ms first s e
+run_stops : (ms : List Float) (first : ℕ) (s e : Point) (tol : Float) → 2 ≤ count ms → Usable ms tol → Stopped (run_of ms first s e tol)
+run_stops ms first s e tol = run_ind tol (λ ms first R. Stopped R) (λ ms first c w ps h f. tt) (λ ms first. refl) (λ ms first k R R' i j a b. join_stops k R R' a b) ms first s e
 
 module _ (k : Cutting) (ms : List Float) (n size : ℕ) (tol : Float) (even : length ms ≡ 2 * n) (u : Usable ms tol) (two : 2 ≤ size) where
   block_stops : (from to : ℕ) → from + 2 ≤ to → to ≤ n → Stopped (block_of k ms n tol from to)
@@ -55,7 +55,7 @@ module _ (k : Cutting) (ms : List Float) (n size : ℕ) (tol : Float) (even : le
   block_stops from to h l = go (ways_of k ms n from to).fine (ways_of k ms n from to).val
     where
       go : (b : Bool) (w : Ways) → Stopped (turned (unless 6 b (ok w)) (λ w. run_of (block_at ms from to) from w.start w.end tol))
-      go true w = let many = block_count ms n even from to h l in run-stops (block_at ms from to) from w.start w.end tol (omega arith) (usable_block from to u)
+      go true w = let many = block_count ms n even from to h l in run_stops (block_at ms from to) from w.start w.end tol (omega arith) (usable_block from to u)
       go false w = refl
 
   last_stops : (b : Bool) (from : ℕ) → ltb (n - from) 2 ≡ b → Stopped (last_of b k ms n tol from)
@@ -71,7 +71,7 @@ module _ (k : Cutting) (ms : List Float) (n size : ℕ) (tol : Float) (even : le
       go true e R = last_stops (ltb (n - from) 2) from refl
       go false e R =
           let j : size + over k < n - from = leb-false _ _ e in
-          join-stops size (block_of k ms n tol from (from + (size + over k))) _ (block_stops from (from + (size + over k)) (omega arith) (omega arith)) (R j)
+          join_stops size (block_of k ms n tol from (from + (size + over k))) _ (block_stops from (from + (size + over k)) (omega arith) (omega arith)) (R j)
 
   pub blocks_stop : 0 < n → Stopped (blocks_from k ms n size tol 0)
   unfolding blocks_from
@@ -151,7 +151,7 @@ fit_refuses k ms tol q C C' F F' W W' P P' h =
 pub direct_refuses : DirectRefuses
 unfolding fitted_answer cubic_of
 direct_refuses ms s e tol q C C' F F' W W' P P' h =
-    refuses q g (run_of ms 0 s e tol) C C' F F' W W' P P' (cubic_most ms s e tol (length C) (length F) (length W) (length P)) (λ z. let p = cubic_passed ms s e tol (length C) (length F) (length W) (length P) g refl z in run-stops ms 0 s e tol (let two = p.two in omega arith) (passed-usable p)) h
+    refuses q g (run_of ms 0 s e tol) C C' F F' W W' P P' (cubic_most ms s e tol (length C) (length F) (length W) (length P)) (λ z. let p = cubic_passed ms s e tol (length C) (length F) (length W) (length P) g refl z in run_stops ms 0 s e tol (let two = p.two in omega arith) (passed-usable p)) h
   where
     g : ℕ
     g = cubic_gate ms s e tol (length C) (length F) (length W) (length P)

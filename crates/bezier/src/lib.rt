@@ -1,5 +1,7 @@
 // Single curves: evaluation, subdivision and Newton refinement. Each call tests its own arguments and refuses by number
 // (5: an argument out of range; 6: an operation gave NaN or infinity); the work is done in `cubic` and `newton`.
+#![tactic(auto)]
+
 ghost use Rattle.std.specs.Prelude.{◌≡◌};
 ghost use Rattle.float.specs.Answer.{ok, unless};
 ghost use Rattle.plane.specs.Range.{point_finite};
@@ -16,28 +18,28 @@ use plane::{Curve, Point};
 pub const MOST_ROUNDS: usize = 64;
 
 // A point, or the refusal's number.
-#[derive(Drop)]
+#[derive(Clone, Copy)]
 pub enum PointAnswer {
     At(Point),
     Refused(u32),
 }
 
 // A parameter, or the refusal's number.
-#[derive(Drop)]
+#[derive(Clone, Copy)]
 pub enum NumberAnswer {
     Is(f64),
     Refused(u32),
 }
 
 // A curve's coefficients in one dimension, or the refusal's number.
-#[derive(Drop)]
+#[derive(Clone, Copy)]
 pub enum CoefficientsAnswer {
     Are(Coefficients),
     Refused(u32),
 }
 
 // The two parts of a curve, or the refusal's number.
-#[derive(Drop)]
+#[derive(Clone, Copy)]
 pub enum HalvesAnswer {
     Are(Halves),
     Refused(u32),

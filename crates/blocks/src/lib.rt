@@ -1,5 +1,7 @@
 // Long outlines are cut into blocks, and each block is a fit of its own: as the Rust cuts them, for an outline and for a loop, or joined, where each
 // block starts on the mark at which the last one ended, with the tangent of that mark; and joined all round, where the last one ends on mark 0.
+#![tactic(auto)]
+
 ghost use Rattle.std.specs.Prelude.{◌≡◌, ◌+◌, ◌*◌, ◌≤◌, length, drop};
 ghost use Rattle.limits.specs.Limits.{most_numbered};
 ghost use Rattle.marks.specs.Marks.{count};

@@ -1,6 +1,6 @@
 -- What C is handed of an answer: its number, 0 where nothing is refused, and its value; where something is refused, zeros in the value's place. And what C's words for an
 -- outline and for a list of curves stand for. Definitions only.
-use Rattle.std.specs.Prelude.{ℕ, ◌≡◌, Bool, true, false, List, [], ◌∷◌, replicate, get_or, Float}
+use Rattle.std.specs.Prelude.{ℕ, ◌≡◌, Bool, true, false, List, [], ◌∷◌, replicate, Float}
 use Rattle.float.specs.Number.{f0}
 use Rattle.float.specs.Answer.{Answer, ok, refused}
 use Rattle.plane.specs.declared.Point.{Point}
@@ -20,13 +20,6 @@ use Rattle.nearest.specs.Choose.{Nearest}
 use Rattle.reader.specs.Reader.{Found}
 use Rattle.salvaging.specs.Salvage.{Sizes, sizes}
 use Rattle.import.specs.Import.{Drawn}
-use Rattle.waiting.specs.declared.Cost.{Cost}
-use Rattle.totals.specs.declared.Counts.{Counts}
-use Rattle.totals.specs.declared.Entry.{Entry}
-use Rattle.totals.specs.declared.Entry.TheVariants.{Accepted, Refused}
-use Rattle.totals.specs.declared.Totals.{Totals}
-use Rattle.totals.specs.declared.Entered.{Entered}
-use Rattle.totals.specs.Totals.{totals}
 
 -- ---- what comes in
 
@@ -39,10 +32,6 @@ outline_for false = Open
 abbrev pub form_for : Bool → Form
 form_for true = Nine
 form_for false = Eight
-
--- a season's seven totals, in a row: accepted, refused; and marks, blocks, curves, parts and solutions of the accepted
-abbrev pub totals_for : List ℕ → Totals
-totals_for l = totals (get_or l 0 0) (get_or l 1 0) (get_or l 2 0) (get_or l 3 0) (get_or l 4 0) (get_or l 5 0) (get_or l 6 0)
 
 -- ---- what goes out: a number, and what stands behind the references
 
@@ -134,38 +123,3 @@ drawn k z = record { count = k; closed = z }
 
 unfoldable pub drawn_crossed : Answer Drawn → Crossed Drawn
 drawn_crossed = crossing (λ d. d) (drawn 0 false)
-
--- ---- what a fit took, and a season
-
--- blocks, curves, parts and solutions
-abbrev pub four : Cost → List ℕ
-four c = c.blocks ∷ c.curves ∷ c.parts ∷ c.solutions ∷ []
-
-unfoldable pub cost_crossed : Answer Cost → Crossed (List ℕ)
-cost_crossed = crossing four (replicate 4 0)
-
--- an outline's marks, blocks, curves, parts and solutions
-abbrev pub five : Counts → List ℕ
-five c = c.marks ∷ c.blocks ∷ c.curves ∷ c.parts ∷ c.solutions ∷ []
-
-unfoldable pub entry_crossed : Entry → Crossed (List ℕ)
-entry_crossed (Accepted c) = crossed 0 (five c)
-entry_crossed (Refused q) = crossed q (replicate 5 0)
-
-abbrev pub seven : Totals → List ℕ
-seven t = t.accepted ∷ t.refused ∷ t.marks ∷ t.blocks ∷ t.curves ∷ t.parts ∷ t.solutions ∷ []
-
--- totals that go out come in again as they were
-abbrev pub TotalsAgain : Type 0
-TotalsAgain = (t : Totals) → totals_for (seven t) ≡ t
-
--- an outline, and the totals after it, which are handed over whatever it comes to
-pub record SeasonCrossed : Type 0 where
-  pub outline : Crossed (List ℕ)
-  pub totals : List ℕ
-
-abbrev pub season : Crossed (List ℕ) → List ℕ → SeasonCrossed
-season o t = record { outline = o; totals = t }
-
-unfoldable pub entered_crossed : Entered → SeasonCrossed
-entered_crossed e = season (entry_crossed e.entry) (seven e.totals)

@@ -1,4 +1,6 @@
 // What crosses to C. An answer goes over as its number, 0 where nothing is refused, and its values through references; where something is refused they are zeros.
+#![tactic(auto)]
+
 ghost use Rattle.std.specs.Prelude.{◌≡◌};
 ghost use Rattle.fit.specs.Fit.{fitted_answer};
 ghost use Rattle.bezier.specs.Calls.{point_answer, number_answer, coefficients_answer, halves_answer};
@@ -8,9 +10,8 @@ ghost use Rattle.reader.specs.Reader.{read_answer};
 ghost use Rattle.writer.specs.Writer.{write_answer};
 ghost use Rattle.lines.specs.Handed.{listed_answer};
 ghost use Rattle.salvaging.specs.Salvage.{sizes, salvaged_answer};
-ghost use Rattle.border.specs.Crossing.{outline_for, form_for, crossed, count_crossed, number_crossed, point_crossed, coefficients_crossed, eight, parts, halves_crossed, nearest, nearest_crossed, fault_crossed, verdict_crossed, found, found_crossed, salvaged_crossed, drawn, drawn_crossed, totals_for, cost_crossed, entry_crossed, season, entered_crossed};
+ghost use Rattle.border.specs.Crossing.{outline_for, form_for, crossed, count_crossed, number_crossed, point_crossed, coefficients_crossed, eight, parts, halves_crossed, nearest, nearest_crossed, fault_crossed, verdict_crossed, found, found_crossed, salvaged_crossed, drawn, drawn_crossed};
 ghost use Rattle.import.specs.Import.{imported_answer};
-ghost use Rattle.flat_fit.specs.Counted.{counted_answer};
 
 use bezier::{CoefficientsAnswer, HalvesAnswer, NumberAnswer, PointAnswer};
 use checker::{Checked, Fault, Place};
@@ -23,8 +24,6 @@ use plane::Curve;
 use reader::Read;
 use ring::Outline;
 use salvaging::Salvaged;
-use totals::{Entered, Entry, Totals};
-use waiting::Counted;
 use writer::Wrote;
 
 // ---- what comes in
@@ -47,21 +46,6 @@ pub fn form_for(nine: bool) -> Form
         return Form::Nine;
     }
     Form::Eight
-}
-
-// The totals that C means.
-pub fn totals_for(row: &[u64; 7]) -> Totals
-    ensures { result ≡ totals_for row.now }
-{
-    Totals {
-        accepted: row[0],
-        refused: row[1],
-        marks: row[2],
-        blocks: row[3],
-        curves: row[4],
-        parts: row[5],
-        solutions: row[6],
-    }
 }
 
 // ---- counts
@@ -326,56 +310,4 @@ pub fn put_imported(answer: Imported, count: &mut usize, closed: &mut bool) -> u
             q
         }
     }
-}
-
-// ---- a season
-
-// What a fit took: blocks, curves, parts and solutions.
-pub fn put_counted(answer: Counted, counts: &mut [usize; 4]) -> u32
-    ensures { crossed result counts.new ≡ cost_crossed (counted_answer answer) }
-{
-    match answer {
-        Counted::Of(c) => {
-            *counts = [c.blocks, c.curves, c.parts, c.solutions];
-            0
-        }
-        Counted::Refused(q) => {
-            *counts = [0; 4];
-            q
-        }
-    }
-}
-
-// What an outline comes to: marks, and what its fit took.
-fn put_entry(entry: Entry, counts: &mut [u64; 5]) -> u32
-    ensures { crossed result counts.new ≡ entry_crossed entry }
-{
-    match entry {
-        Entry::Accepted(c) => {
-            *counts = [c.marks, c.blocks, c.curves, c.parts, c.solutions];
-            0
-        }
-        Entry::Refused(q) => {
-            *counts = [0; 5];
-            q
-        }
-    }
-}
-
-// An outline as it was entered, and the totals after it.
-pub fn put_entered(entered: Entered, row: &mut [u64; 7], counts: &mut [u64; 5]) -> u32
-    ensures { season (crossed result counts.new) row.new ≡ entered_crossed entered }
-{
-    let t = entered.totals;
-    *row = [
-        t.accepted,
-        t.refused,
-        t.marks,
-        t.blocks,
-        t.curves,
-        t.parts,
-        t.solutions,
-    ];
-    let entry = entered.entry;
-    put_entry(entry, counts)
 }

@@ -1,4 +1,6 @@
 // What the programs over kept vectors share: numbers out of little-endian bytes, numbers as lines of hex digits on standard output, and parts of slices.
+#![tactic(auto)]
+
 pub mod parts;
 
 ghost use Rattle.std.specs.Prelude.{◌<◌};

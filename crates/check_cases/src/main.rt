@@ -6,6 +6,8 @@
 // fault A, B, C, D and E and how many are refused, and a digest of all their answers in turn. Each number in turn has its last bit changed, is
 // NaN, is infinite, is minus zero; each first mark and each worst mark is one up, one down, the last mark, the largest u32, its neighbour's, and swapped with
 // its neighbour; then counts and lengths are varied.
+#![tactic(auto)]
+
 use cases::parts::{firsts_at, floats_at, front_firsts, front_floats, lent_firsts};
 use checker::{Checked, Fault, Place};
 use form::Form;
@@ -13,7 +15,7 @@ use libc::{STDIN_FILENO, STDOUT_FILENO};
 use ring::Outline;
 
 // The outline that the list is of and its form, the claimed count, the lengths, where the worst marks, the curves and the parameters begin, how many numbers there are in all, and the tolerance.
-#[derive(Drop)]
+#[derive(Clone, Copy)]
 struct Sizes {
     outline: Outline,
     form: Form,
@@ -31,7 +33,7 @@ struct Sizes {
 }
 
 // An answer as numbers: 0 passed, 1 to 5 the faults A to E, 6 a refusal, which has its number in `curve`.
-#[derive(Drop)]
+#[derive(Clone, Copy)]
 struct Verdict {
     kind: u64,
     curve: u64,
@@ -39,7 +41,7 @@ struct Verdict {
 }
 
 // How many answers of each kind, and a digest of all.
-#[derive(Drop)]
+#[derive(Clone, Copy)]
 struct Tally {
     passed: u64,
     a: u64,

@@ -1,4 +1,6 @@
 // The list checker: whether a list of curves, whoever made it, is sound for its marks and tolerance, over an open outline or a closed one.
+#![tactic(auto)]
+
 ghost use Rattle.std.specs.Prelude.{◌≡◌, ◌+◌, ◌-◌, ◌*◌, ◌≤◌, ◌<◌, length, drop, []};
 ghost use Rattle.float.specs.Answer.{ok};
 ghost use Rattle.ring.specs.Ring.{whole};
@@ -16,7 +18,7 @@ use ring::Outline;
 use stages::Worst;
 
 // Where a fault is: the curve's number and the mark's.
-#[derive(Drop)]
+#[derive(Clone, Copy)]
 pub struct Place {
     pub curve: usize,
     pub mark: usize,
@@ -24,7 +26,7 @@ pub struct Place {
 
 // What can be wrong with a list: the count or the first marks (A), a curve's numbers or ends (B), a parameter (C), a distance (D), what is kept of the
 // distances (E).
-#[derive(Drop)]
+#[derive(Clone, Copy)]
 pub enum Fault {
     A(Place),
     B(Place),
@@ -34,7 +36,7 @@ pub enum Fault {
 }
 
 // Passed, the first fault, or a refusal.
-#[derive(Drop)]
+#[derive(Clone, Copy)]
 pub enum Checked {
     Passed,
     Faulty(Fault),
@@ -42,7 +44,7 @@ pub enum Checked {
 }
 
 // The farthest mark of those walked over, with the square of its distance, or the first fault.
-#[derive(Drop)]
+#[derive(Clone, Copy)]
 enum Walked {
     Far(Worst),
     Stopped(Fault),

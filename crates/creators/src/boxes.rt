@@ -14,7 +14,7 @@ const MARGIN: u64 = 3;
 const MOST_STEPS: u64 = 1000000000;
 
 // What was found.
-#[derive(Drop)]
+#[derive(Clone, Copy)]
 pub struct Tally {
     pub sections: u64,
     pub outside: u64,

@@ -1,6 +1,8 @@
 // Goes through the finite lemma of docs/SECTIONS.md: no creator has more live sections at a depth than twice its changes of depth and
 // its changes of sign. The output says how many sections have a right half of the kind, how many of them lie outside the box, how many
 // are creators, and how many break the bound.
+#![tactic(auto)]
+
 mod boxes;
 mod tree;
 

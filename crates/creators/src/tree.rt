@@ -11,14 +11,14 @@ use sections::middle;
 const MOST_LOOKS: usize = 2048;
 
 // Six heights that wait to be looked at, and how often they were halved.
-#[derive(Drop)]
+#[derive(Clone, Copy)]
 pub struct Waiting {
     pub p: Six,
     pub depth: usize,
 }
 
 // The parts of six heights before and after the middle.
-#[derive(Drop)]
+#[derive(Clone, Copy)]
 pub struct Parts {
     pub left: Six,
     pub right: Six,

@@ -5,7 +5,7 @@ ghost use Rattle.cubic.specs.Basis.{basis as basis_of, point_at, casteljau2, cas
 use plane::{Curve, Point};
 
 // The numbers a, b, c, d of a·t³ + b·t² + c·t + d.
-#[derive(Drop)]
+#[derive(Clone, Copy)]
 pub struct Coefficients {
     pub a: f64,
     pub b: f64,

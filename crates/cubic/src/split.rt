@@ -6,7 +6,7 @@ use crate::eval::de_casteljau2;
 use plane::{Curve, Point};
 
 // The parts of a curve before and after a point.
-#[derive(Drop)]
+#[derive(Clone, Copy)]
 pub struct Halves {
     pub left: Curve,
     pub right: Curve,

@@ -36,22 +36,22 @@ use Rattle.cut.proofs.Run.{run_sized, Sized, run_fits, run-fails, run-cuts, left
 
 -- ---- a leaf's answer
 
-pub from_good : (P : Part) (r : Tried) (p : List Float) (k : Solved) → Did P r p → r ≡ Good k → P ≡ fits k.curve k.far p k.solutions
-from_good (fits c w ps m) r p k h e =
-    let f : Good (record { curve = c; far = w; solutions = m }) ≡ Good k = sym h.0 ∙ e in
-    let g : record { curve = c; far = w; solutions = m } ≡ k = cc in
-    λ i. fits (g i).curve (g i).far (sym h.1 i) (g i).solutions
-from_good (cuts j m) r p k h e = let z : ◌≡◌ {A = ℕ} 0 1 = cc in absurd (omega arith)
+pub from_good : (P : Part) (r : Tried) (p : List Float) (k : Solved) → Did P r p → r ≡ Good k → P ≡ fits k.curve k.far p
+from_good (fits c w ps) r p k h e =
+    let f : Good (record { curve = c; far = w }) ≡ Good k = sym h.0 ∙ e in
+    let g : record { curve = c; far = w } ≡ k = cc in
+    λ i. fits (g i).curve (g i).far (sym h.1 i)
+from_good (cuts j) r p k h e = let z : ◌≡◌ {A = ℕ} 0 1 = cc in absurd (omega arith)
 from_good (fails q) r p k h e = let z : ◌≡◌ {A = ℕ} 0 1 = cc in absurd (omega arith)
 
-pub from_cut : (P : Part) (r : Tried) (p : List Float) (k m : ℕ) → Did P r p → r ≡ Cut k m → P ≡ cuts k m
-from_cut (fits c w ps l) r p k m h e = let f = h.0 in let z : ◌≡◌ {A = ℕ} 0 1 = cc in absurd (omega arith)
-from_cut (cuts j l) r p k m h e = let g : j ≡ k = cc in let i : l ≡ m = cc in rw (g, i)
-from_cut (fails q) r p k m h e = let z : ◌≡◌ {A = ℕ} 0 1 = cc in absurd (omega arith)
+pub from_cut : (P : Part) (r : Tried) (p : List Float) (k : ℕ) → Did P r p → r ≡ Cut k → P ≡ cuts k
+from_cut (fits c w ps) r p k h e = let f = h.0 in let z : ◌≡◌ {A = ℕ} 0 1 = cc in absurd (omega arith)
+from_cut (cuts j) r p k h e = let g : j ≡ k = cc in ap cuts g
+from_cut (fails q) r p k h e = let z : ◌≡◌ {A = ℕ} 0 1 = cc in absurd (omega arith)
 
 pub from_refused : (P : Part) (r : Tried) (p : List Float) (k : ℕ) → Did P r p → r ≡ TRefused k → P ≡ fails k
-from_refused (fits c w ps m) r p k h e = let f = h.0 in let z : ◌≡◌ {A = ℕ} 0 1 = cc in absurd (omega arith)
-from_refused (cuts j m) r p k h e = let z : ◌≡◌ {A = ℕ} 0 1 = cc in absurd (omega arith)
+from_refused (fits c w ps) r p k h e = let f = h.0 in let z : ◌≡◌ {A = ℕ} 0 1 = cc in absurd (omega arith)
+from_refused (cuts j) r p k h e = let z : ◌≡◌ {A = ℕ} 0 1 = cc in absurd (omega arith)
 from_refused (fails q) r p k h e = let g : q ≡ k = cc in ap fails g
 
 -- ---- a run's answer
@@ -103,8 +103,8 @@ module _ (ms : List Float) (first : ℕ) (s e : Point) (tol : Float) (h : 2 ≤ 
   pub worst_within : (k : Solved) → r ≡ Good k → k.far.at < count ms
   worst_within k q = let good : Fits ms tol k.curve k.far p = subst (Sound ms tol) (from_good (part_of ms s e tol) r p k did q) (part_sound ms tol h u s e) in good.among
 
-  pub fit_cut : (k m : ℕ) (r' : Fitted) (C C₁ : List Float) (F F₁ W W₁ : List ℕ) (p₁ : List Float) → r ≡ Cut k m → Left (cut_of ms k first s e tol) r' C C₁ F F₁ W W₁ p₁ → Left (run_of ms first s e tol) r' C C₁ F F₁ W W₁ p₁
-  fit_cut k m r' C C₁ F F₁ W W₁ p₁ q g = rw (run-cuts ms first s e tol h u k (from_cut _ r p k m did q)) g
+  pub fit_cut : (k : ℕ) (r' : Fitted) (C C₁ : List Float) (F F₁ W W₁ : List ℕ) (p₁ : List Float) → r ≡ Cut k → Left (cut_of ms k first s e tol) r' C C₁ F F₁ W W₁ p₁ → Left (run_of ms first s e tol) r' C C₁ F F₁ W W₁ p₁
+  fit_cut k r' C C₁ F F₁ W W₁ p₁ q g = rw (run-cuts ms first s e tol h u k (from_cut _ r p k did q)) g
 
   pub fit_refused : (k : ℕ) (C C₁ : List Float) (F F₁ W W₁ : List ℕ) (p₁ : List Float) → r ≡ TRefused k → Left (run_of ms first s e tol) (Refused k) C C₁ F F₁ W W₁ p₁
   fit_refused k C C₁ F F₁ W W₁ p₁ q = rw (run-fails ms first s e tol h k (from_refused _ r p k did q)) refl
@@ -118,11 +118,11 @@ set_first a (x ∷ F) h = refl
 
 -- ---- fit_part calls cut_part
 
-pub cut_asks : (ms : List Float) (first : ℕ) (s e : Point) (tol : Float) (C : List Float) (F W : List ℕ) (P p : List Float) (r : Tried) (k m : ℕ)
-    → Ready ms first tol C F W P → length p ≡ length P → Did (part_of ms s e tol) r p → r ≡ Cut k m → Ready ms first tol C F W p × ((0 < k) × (k + 1 < length p))
-cut_asks ms first s e tol C F W P p r k m ready l did q =
+pub cut_asks : (ms : List Float) (first : ℕ) (s e : Point) (tol : Float) (C : List Float) (F W : List ℕ) (P p : List Float) (r : Tried) (k : ℕ)
+    → Ready ms first tol C F W P → length p ≡ length P → Did (part_of ms s e tol) r p → r ≡ Cut k → Ready ms first tol C F W p × ((0 < k) × (k + 1 < length p))
+cut_asks ms first s e tol C F W P p r k ready l did q =
     let n : count ms ≡ length P = omega arith in
-    let inside : Inside ms k = cuts-inside ms s e tol k m (omega arith) ready.usable (from_cut (part_of ms s e tol) r p k m did q) in
+    let inside : Inside ms k = cuts-inside ms s e tol k (omega arith) ready.usable (from_cut (part_of ms s e tol) r p k did q) in
     (record { usable = ready.usable; even = omega arith; two = omega arith; near = omega arith; curves = omega arith; firsts = omega arith; worsts = omega arith }, (inside.0, omega (arith, inside.1)))
 
 -- ---- cut_part calls fit_part at the left, and at the right

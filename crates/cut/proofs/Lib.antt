@@ -1,3 +1,2 @@
 pub mod Run
 pub mod Cut
-pub mod Took

@@ -1,5 +1,7 @@
 // A part that is not within the tolerance is cut at its worst mark, and each side is a fit of its own: `fit_part` and `cut_part` call each
 // other on fewer marks each time, over parts of the marks and of the lent slices.
+#![tactic(auto)]
+
 ghost use Rattle.std.specs.Prelude.{◌≡◌, ◌+◌, ◌*◌, ◌≤◌, ◌<◌, length};
 ghost use Rattle.float.specs.Slices.{written};
 ghost use Rattle.form.specs.Form.{record_numbers};
@@ -13,7 +15,7 @@ use plane::{Curve, Point};
 use tangents::Turn;
 
 // How many curves a fit made, or its refusal by number.
-#[derive(Drop)]
+#[derive(Clone, Copy)]
 pub enum Fitted {
     Curves(usize),
     Refused(u32),
@@ -60,7 +62,7 @@ pub fn fit_part(
             worsts[0] = worst as u32;
             Fitted::Curves(1)
         }
-        Tried::Cut { at, solutions: _ } => cut_part(
+        Tried::Cut(at) => cut_part(
             marks, at, first, start, end, tolerance, curves, firsts, worsts, params,
         ),
         Tried::Refused(q) => Fitted::Refused(q),

@@ -1,4 +1,6 @@
 // What the calls over whole house files share: room for all that a file may hold, the file read into it, and numbers from their bit patterns and back.
+#![tactic(auto)]
+
 ghost use Rattle.std.specs.Prelude.{◌≡◌, ◌≤◌, length};
 ghost use Rattle.float.specs.Slices.{written};
 ghost use Rattle.reader.specs.Reader.{read_answer, outcome, settled};

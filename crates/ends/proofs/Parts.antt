@@ -42,8 +42,8 @@ pub record Fits (ms : List Float) (tol : Float) (c : Curve) (w : Worst) (ps : Li
   pub among : w.at < count ms
 
 abbrev pub Sound : List Float → Float → Part → Type 0
-Sound ms tol (fits c w ps m) = Fits ms tol c w ps
-Sound ms tol (cuts k m) = Inside ms k
+Sound ms tol (fits c w ps) = Fits ms tol c w ps
+Sound ms tol (cuts k) = Inside ms k
 Sound ms tol (fails q) = q ≡ 6
 
 module _ (ms : List Float) (tol : Float) (two : 2 ≤ count ms) (u : Usable ms tol) where
@@ -114,7 +114,7 @@ module _ (ms : List Float) (tol : Float) (two : 2 ≤ count ms) (u : Usable ms t
   judged-sound a false k = refl
   judged-sound a true k = go (le a.far.err tol) refl
     where
-      go : (b : Bool) → le a.far.err tol ≡ b → Sound ms tol (pick b (fits a.curve a.far a.params a.solutions) (cuts a.far.at a.solutions))
+      go : (b : Bool) → le a.far.err tol ≡ b → Sound ms tol (pick b (fits a.curve a.far a.params) (cuts a.far.at))
       go true e = kept-fits a (k refl) e
       go false e = (behind_first a (k refl) e, before_last a (k refl))
 
@@ -130,4 +130,4 @@ module _ (ms : List Float) (tol : Float) (two : 2 ≤ count ms) (u : Usable ms t
       go false e = judged-sound (tried (count ms) ms st et tol).val (tried (count ms) ms st et tol).fine kept
 
 pub cuts-inside : CutsInside
-cuts-inside ms st et tol k m two u e = subst (Sound ms tol) e (part_sound ms tol two u st et)
+cuts-inside ms st et tol k two u e = subst (Sound ms tol) e (part_sound ms tol two u st et)

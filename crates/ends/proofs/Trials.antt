@@ -45,9 +45,9 @@ module _ (ms : List Float) (n : ℕ) (st et : Point) (fits_first : FitsP (mark_a
       record { first = sym g.0; last = sym (g.1 ∙ ap (λ (k : ℕ). mark_at ms (k - 1)) l); fits_first = fits_first; fits_last = fits_last }
 
   -- one round
-  attempt-kept : (before : ℕ) (c : Curve) (ts : List Float) → EndsAt ms n c → Params ts → length ts ≡ n → Fine (attempt ms st et before c ts) → Kept ms n (attempt ms st et before c ts).val
+  attempt-kept : (c : Curve) (ts : List Float) → EndsAt ms n c → Params ts → length ts ≡ n → Fine (attempt ms st et c ts) → Kept ms n (attempt ms st et c ts).val
   unfolding attempt
-  attempt-kept before c ts e p l h =
+  attempt-kept c ts e p l h =
       let us = (reparam ms c ts).val in
       let d = (generate_of ms us st et).val in
       let m : length us ≡ n = reparam-length ms c ts ∙ l in
@@ -69,10 +69,10 @@ module _ (ms : List Float) (st et : Point) (two : 2 ≤ count ms) (fits_first : 
       let n = count ms in
       let ts = (chords_of ms n).val in
       let l = chords_length ms n (omega arith) f in
-      attempt-kept ms n st et fits_first fits_last 1 (generate_of ms ts st et).val ts (generated ms n st et fits_first fits_last ts l) (chords_params ms n (omega arith) f) l h
+      attempt-kept ms n st et fits_first fits_last (generate_of ms ts st et).val ts (generated ms n st et fits_first fits_last ts l) (chords_params ms n (omega arith) f) l h
   round-kept (next {a} r h) =
       let k = round-kept r in
-      attempt-kept ms (count ms) st et fits_first fits_last a.solutions a.curve a.params k.ends k.params k.many h
+      attempt-kept ms (count ms) st et fits_first fits_last a.curve a.params k.ends k.params k.many h
 
 -- ---- the end marks
 module _ (ms : List Float) (two : 2 ≤ count ms) (a : Trial) (k : Kept ms (count ms) a) where

@@ -14,10 +14,10 @@ use Rattle.numbers.specs.Words.{zer, one, Zero}
 
 -- the first round, from chord-length parameters and the curve at them, and one from the trial of the round before
 abbrev pub begun : List Float → Point → Point → Calc Trial
-begun ms st et = let ts = (chords_of ms (count ms)).val in attempt ms st et 1 (generate_of ms ts st et).val ts
+begun ms st et = let ts = (chords_of ms (count ms)).val in attempt ms st et (generate_of ms ts st et).val ts
 
 abbrev pub onward : List Float → Point → Point → Trial → Calc Trial
-onward ms st et a = attempt ms st et a.solutions a.curve a.params
+onward ms st et a = attempt ms st et a.curve a.params
 
 -- what a round of a part comes to, where no operation of the rounds so far gave NaN or infinity
 pub data Round (ms : List Float) (st et : Point) : Trial → Type 0 where
@@ -45,4 +45,4 @@ Inside ms k = (0 < k) × (k + 1 < count ms)
 
 -- so it is cut there
 abbrev pub CutsInside : Type 0
-CutsInside = (ms : List Float) (st et : Point) (tol : Float) (k m : ℕ) → 2 ≤ count ms → Usable ms tol → part_of ms st et tol ≡ cuts k m → Inside ms k
+CutsInside = (ms : List Float) (st et : Point) (tol : Float) (k : ℕ) → 2 ≤ count ms → Usable ms tol → part_of ms st et tol ≡ cuts k → Inside ms k

@@ -1,5 +1,7 @@
 // The calls on a single curve over kept vectors. A record on standard input is thirteen words of eight bytes, the operation's number
 // and its arguments; each has a line of output, 0 and the numbers of the answer, or the refusal's number.
+#![tactic(auto)]
+
 use bezier::{CoefficientsAnswer, HalvesAnswer, NumberAnswer, PointAnswer};
 use libc::STDIN_FILENO;
 use plane::{Curve, Point};

@@ -1,4 +1,6 @@
 // Export: a list of curves as path data, in lent bytes. The text is measured before a byte is put, so that where it has no room the bytes stay as they are.
+#![tactic(auto)]
+
 ghost use Rattle.std.specs.Prelude.{◌≡◌, ◌+◌, ◌*◌, ◌≤◌, length};
 ghost use Rattle.form.specs.Form.{width};
 ghost use Rattle.faults.specs.Tests.{curve_at};
@@ -38,7 +40,7 @@ fn curve_within(c: Curve) -> bool
 }
 
 // What is asked of every curve: that its numbers are finite, that they are not too large, that it ends bit for bit where the next begins.
-#[derive(Drop)]
+#[derive(Clone, Copy)]
 enum Test {
     Finite,
     Within,

@@ -1,4 +1,6 @@
 // The tests of the list checker, each of one first mark (A), one curve (B, E) or one mark (C and D), and what they read of a list.
+#![tactic(auto)]
+
 ghost use Rattle.std.specs.Prelude.{◌≡◌, ◌+◌, ◌-◌, ◌*◌, ◌≤◌, ◌<◌, length, take, drop};
 ghost use Rattle.marks.specs.Marks.{mark_at};
 ghost use Rattle.std.specs.Float.{binary64};

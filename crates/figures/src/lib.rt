@@ -1,4 +1,6 @@
 // The text of a number with at most three decimal places, in lent bytes, and how long it is. Each call that puts answers where the text ends.
+#![tactic(auto)]
+
 ghost use Rattle.std.specs.Prelude.{◌≡◌, ◌+◌, ◌<◌, ◌≤◌, length};
 ghost use Rattle.text.specs.Text.{decimal};
 ghost use Rattle.text.specs.Put.{Put};

@@ -1,4 +1,6 @@
 // The joined fit of a house file that is known to be well formed; and the number of a fit's refusal.
+#![tactic(auto)]
+
 ghost use Rattle.std.specs.Prelude.{◌≡◌, ◌+◌, ◌*◌, ◌≤◌, length, drop};
 ghost use Rattle.float.specs.Slices.{written};
 ghost use Rattle.fit.specs.Fit.{fitted_answer};
@@ -33,15 +35,15 @@ pub fn mark_room() -> [f64; 1024]
     [0.0; 1024]
 }
 
-// Zeros for 511 first or worst marks.
-pub fn worst_room() -> [u32; 511]
+// Zeros for 511 worst marks.
+fn worst_room() -> [u32; 511]
     ensures { (511 ≡ length result) × (result ≡ no_marks 511) }
 {
     [0; 511]
 }
 
 // Zeros for 512 parameters.
-pub fn param_room() -> [f64; 512]
+fn param_room() -> [f64; 512]
     ensures { (512 ≡ length result) × (result ≡ zeros 512) }
 {
     [0.0; 512]

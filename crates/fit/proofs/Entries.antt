@@ -65,8 +65,8 @@ usable-whole Closed u = usable_append u (usable-take 2 u)
 pub passed-usable : {top : ℕ} {o : Outline} {ms : List Float} {tol : Float} {c f w p : ℕ} → Passed top o ms tol c f w p → Usable (whole o ms) tol
 passed-usable {o = o} g = usable-whole o (record { near = g.near; tolerance = g.usable })
 
-pub passed-ready : (top : ℕ) (o : Outline) (ms : List Float) (tol : Float) (C : List Float) (F W : List ℕ) (P : List Float) → top < most_numbered → Passed top o ms tol (length C) (length F) (length W) (length P) → Ready (whole o ms) 0 tol C F W (take (again o + count ms) P)
-passed-ready top o ms tol C F W P t g =
+pub passed_ready : (top : ℕ) (o : Outline) (ms : List Float) (tol : Float) (C : List Float) (F W : List ℕ) (P : List Float) → top < most_numbered → Passed top o ms tol (length C) (length F) (length W) (length P) → Ready (whole o ms) 0 tol C F W (take (again o + count ms) P)
+passed_ready top o ms tol C F W P t g =
     let n : length (take (again o + count ms) P) ≡ again o + count ms = simp length-take (let r = g.params in omega arith) in
     let l = whole_length o ms (passed-even g) in
     let s = again-small o in

@@ -1,4 +1,6 @@
 // The fits: the marks of an outline to curves. Each tests its own arguments, and a refused run leaves zeros.
+#![tactic(auto)]
+
 ghost use Rattle.std.specs.Prelude.{◌≡◌, length, replicate};
 ghost use Rattle.float.specs.Number.{f0};
 ghost use Rattle.tangents.specs.declared.Cutting.TheVariants as variants;

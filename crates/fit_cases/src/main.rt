@@ -5,6 +5,8 @@
 // A record's first line is 0 and the number of curves, or the refusal's number; then, for each of the lent slices, how many places are as
 // before, how many are plus zero, and a digest of all of them. Lists follow where the record asks for them: a line for each curve, its
 // first mark, worst mark and nine numbers, and one line with the parameters.
+#![tactic(auto)]
+
 ghost use Rattle.std.specs.Prelude.{◌≤◌};
 
 use cases::parts::{front_floats, lent_firsts, lent_floats};

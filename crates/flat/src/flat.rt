@@ -11,7 +11,7 @@ use quintic::points::Section;
 const FLAT_ENOUGH: f64 = 0.1;
 
 // Whether a test holds, and whether each operation on the way gave a finite number.
-#[derive(Drop)]
+#[derive(Clone, Copy)]
 pub struct Test {
     pub holds: bool,
     pub fine: bool,

@@ -5,7 +5,7 @@ ghost use Rattle.flat.specs.Line.{coefficients_of, factor_of, distance_to};
 use plane::Point;
 
 // The line a·x + b·y + c = 0.
-#[derive(Drop)]
+#[derive(Clone, Copy)]
 pub struct Line {
     pub a: f64,
     pub b: f64,

@@ -20,20 +20,14 @@ use Rattle.cut.specs.declared.Fitted.{Fitted}
 use Rattle.tangents.specs.declared.Ways.{Ways}
 use Rattle.tangents.specs.declared.Cutting.{Cutting}
 use Rattle.tangents.specs.Ways.{outline_of}
-use Rattle.float.specs.Answer.{Answer, ok}
-use Rattle.float.specs.Answer.{refused as no}
-use Rattle.fit.specs.Fit.{Ending, entered, cubic_gate, fitted_answer}
+use Rattle.fit.specs.Fit.{Ending, entered, cubic_gate}
 use Rattle.fit.proofs.Entries.{cubic_passed, size_within}
 use Rattle.parts.specs.declared.Heading.{Heading}
 use Rattle.parts.specs.declared.Heading.TheVariants.{Given, By}
-use Rattle.parts.specs.Headings.{outline_in, marks_in}
-use Rattle.waiting.specs.Waiting.{run_in, fitted_in, Took}
-use Rattle.waiting.specs.declared.Cost.{Cost}
-use Rattle.waiting.specs.declared.Counted.{Counted}
-use Rattle.waiting.specs.declared.Counted.TheVariants.{Of, Refused}
+use Rattle.parts.specs.Headings.{outline_in}
+use Rattle.waiting.specs.Waiting.{run_in}
 use Rattle.waiting.specs.Lent.{Joins, Meeting}
-use Rattle.flat_fit.specs.Flat.{gate_in, open_gate, none_open, flat_entered, flat_ending, flat_of}
-use Rattle.flat_fit.specs.Counted.{CountedEnding, counted_answer, counted_ending, cost_of, cost_in, with_cost, costed, counted_of}
+use Rattle.flat_fit.specs.Flat.{gate_in, open_gate, none_open, flat_entered}
 use Rattle.flat_fit.specs.Sizes.{SizeIn}
 
 -- ---- the tests
@@ -100,41 +94,6 @@ pub sized : (h : Heading) (ms : List Float) (tol : Float) (n s : ℕ) (r : Fitte
     → Left (run_in h ms s tol) r C C₁ F F₁ W W₁ p → Left (run_in h ms (block_size (count ms)) tol) r C C₁ F F₁ W W₁ p
 sized (Given w) ms tol n s r C C₁ F F₁ W W₁ p e i left = left
 sized (By k) ms tol n s r C C₁ F F₁ W W₁ p e i left = subst (λ (j : ℕ). Left (run_in (By k) ms j tol) r C C₁ F F₁ W W₁ p) (e ∙ ap block_size i) left
-
-pub took_sized : (h : Heading) (ms : List Float) (tol : Float) (n s m : ℕ) (r : Counted) → SizeIn h n s → n ≡ count ms → m ≡ n → Took r h ms m s tol → Took r h ms (count ms) (block_size (count ms)) tol
-took_sized h ms tol n s m (Refused q) e i j t = tt
-took_sized (Given w) ms tol n s m (Of c) e i j t = t
-took_sized (By k) ms tol n s m (Of c) e i j t =
-    subst (λ (z : ℕ). Took (Of c) (By k) ms (count ms) z tol) (e ∙ ap block_size i) (subst (λ (z : ℕ). Took (Of c) (By k) ms z s tol) (j ∙ i) t)
-
--- what an answer says it took is what the run took
-pub counted_is : (h : Heading) (ms : List Float) (n size : ℕ) (tol : Float) (r : Counted) → Took r h ms n size tol → counted_answer r ≡ with_cost (cost_of h ms n size tol) (fitted_answer (fitted_in r))
-unfolding counted_answer fitted_answer
-counted_is h ms n size tol (Refused q) t = refl
-counted_is h ms n size tol (Of c) t = λ i. ok (record { blocks = t.0 i; curves = c.curves; parts = t.1.0 i; solutions = t.1.1 i })
-
-pub costed_is : (h : Heading) (ms : List Float) (tol : Float) (r : Counted) (C C₁ : List Float) (F F₁ W W₁ : List ℕ) (P P₁ : List Float) (O O₁ : List ℕ)
-    → flat_ending (fitted_answer (fitted_in r)) C₁ F₁ W₁ P₁ O₁ ≡ flat_of h ms tol C F W P O → Took r h (marks_in h ms) (count (marks_in h ms)) (block_size (count (marks_in h ms))) tol
-    → counted_ending (counted_answer r) C₁ F₁ W₁ P₁ O₁ ≡ counted_of h ms tol C F W P O
-unfolding counted_of
-costed_is h ms tol r C C₁ F F₁ W W₁ P P₁ O O₁ e t =
-    ap (λ (a : Answer Cost). counted_ending a C₁ F₁ W₁ P₁ O₁) (counted_is h (marks_in h ms) (count (marks_in h ms)) (block_size (count (marks_in h ms))) tol r t)
-    ∙ ap (costed (cost_in h ms tol)) e
-
--- and without what it took it is the fit itself
-fitted_is : (cost : ℕ → Cost) (plain : (k : ℕ) → (cost k).curves ≡ k) (r : Counted) (A : Answer ℕ) → counted_answer r ≡ with_cost cost A → fitted_answer (fitted_in r) ≡ A
-unfolding counted_answer fitted_answer
-fitted_is cost plain (Of c) (ok k) e = let g : c ≡ cost k = cc in ap (λ (x : Cost). ok x.curves) g ∙ ap ok (plain k)
-fitted_is cost plain (Of c) (no q) e = let z : ◌≡◌ {A = ℕ} 0 1 = cc in absurd (omega arith)
-fitted_is cost plain (Refused p) (ok k) e = let z : ◌≡◌ {A = ℕ} 0 1 = cc in absurd (omega arith)
-fitted_is cost plain (Refused p) (no q) e = let g : p ≡ q = cc in ap no g
-
-pub plain_is : (h : Heading) (ms : List Float) (tol : Float) (r : Counted) (C C₁ : List Float) (F F₁ W W₁ : List ℕ) (P P₁ : List Float) (O O₁ : List ℕ)
-    → counted_ending (counted_answer r) C₁ F₁ W₁ P₁ O₁ ≡ counted_of h ms tol C F W P O → flat_ending (fitted_answer (fitted_in r)) C₁ F₁ W₁ P₁ O₁ ≡ flat_of h ms tol C F W P O
-unfolding counted_of
-plain_is h ms tol r C C₁ F F₁ W W₁ P P₁ O O₁ e =
-    let a = fitted_is (cost_in h ms tol) (λ k. refl) r (flat_of h ms tol C F W P O).fit.answer (ap (λ (E : CountedEnding). E.answer) e) in
-    λ i. flat_ending (a i) (e i).curves (e i).firsts (e i).worsts (e i).params (e i).parts
 
 -- ---- the ends of a fit
 

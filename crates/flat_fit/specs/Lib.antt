@@ -1,3 +1,2 @@
 pub mod Flat
 pub mod Sizes
-pub mod Counted

@@ -1,15 +1,13 @@
 // The fits of the second engine, for a controller with a small stack: the direct fit, the joined fit and the ring fit, with a slice of mark numbers lent for the
-// parts that are still open, and no call that leads back to itself. They give what the first engine's give; and the joined fit, if it is asked for, what it took.
+// parts that are still open, and no call that leads back to itself. They give what the first engine's give.
+#![tactic(auto)]
+
 ghost use Rattle.std.specs.Prelude.{◌≡◌, ◌≤◌};
 ghost use Rattle.marks.specs.Marks.{count};
 ghost use Rattle.fit.specs.Fit.{fitted_answer};
 ghost use Rattle.tangents.specs.declared.Cutting.TheVariants as variants;
 ghost use Rattle.parts.specs.declared.Heading.TheVariants as heading;
-ghost use Rattle.marks.specs.Block.{block_size};
-ghost use Rattle.parts.specs.Headings.{marks_in};
-ghost use Rattle.waiting.specs.Waiting.{fitted_in, Took};
 ghost use Rattle.flat_fit.specs.Flat.{flat_ending, flat_of, gate_in, open_gate};
-ghost use Rattle.flat_fit.specs.Counted.{counted_answer, counted_ending, counted_of};
 ghost use Rattle.waiting.specs.Lent.{Joins};
 ghost use Rattle.flat_fit.specs.Sizes.{SizeIn};
 
@@ -19,7 +17,6 @@ use limits::MOST_MARKS;
 use parts::Heading;
 use plane::Point;
 use tangents::{Cutting, Ways};
-use waiting::Counted;
 
 // What the first engine's fit tests before it runs.
 fn gate_in(
@@ -77,8 +74,8 @@ fn size_in(heading: Heading, n: usize) -> usize
     }
 }
 
-// A fit of the second engine, and what it took. Whether its run is refused or not, no part is left open.
-fn count_flat(
+// A fit of the second engine. Whether its run is refused or not, no part is left open.
+fn fit_flat(
     heading: Heading,
     marks: &[f64],
     tolerance: f64,
@@ -87,10 +84,9 @@ fn count_flat(
     worsts: &mut [u32],
     params: &mut [f64],
     open: &mut [u32],
-) -> Counted
+) -> Fitted
     requires { Joins heading }
-    ensures open_after { flat_ending (fitted_answer (fitted_in result)) curves.new firsts.new worsts.new params.new «open».new ≡ flat_of heading marks.now tolerance curves.old firsts.old worsts.old params.old «open».old }
-    ensures took { Took result heading (marks_in heading marks.now) (count (marks_in heading marks.now)) (block_size (count (marks_in heading marks.now))) tolerance }
+    ensures { flat_ending (fitted_answer result) curves.new firsts.new worsts.new params.new «open».new ≡ flat_of heading marks.now tolerance curves.old firsts.old worsts.old params.old «open».old }
 {
     let first = gate_in(
         heading,
@@ -103,7 +99,7 @@ fn count_flat(
     );
     let refusal = open_gate(first, marks, open.len());
     if refusal != 0 {
-        return Counted::Refused(refusal);
+        return Fitted::Refused(refusal);
     }
     let n = ring::again(parts::outline_in(heading)) + marks.len() / 2;
     let size = size_in(heading, n);
@@ -119,21 +115,11 @@ fn count_flat(
         open,
     );
     gate::zero_numbers(open);
-    let Counted::Of(cost) = out else {
+    let Fitted::Curves(total) = out else {
         fit::zero_all(curves, firsts, worsts, params);
         return out;
     };
-    Counted::Of(cost)
-}
-
-// How many curves there are, of what a fit took.
-fn fitted(counted: Counted) -> Fitted
-    ensures { result ≡ fitted_in counted }
-{
-    match counted {
-        Counted::Of(cost) => Fitted::Curves(cost.curves),
-        Counted::Refused(q) => Fitted::Refused(q),
-    }
+    Fitted::Curves(total)
 }
 
 // The direct fit of the second engine: what `fit::fit_curve_cubic` gives. `open` wants 2n numbers for n marks, and is left zero.
@@ -150,32 +136,8 @@ pub fn fit_curve_cubic_flat(
 ) -> Fitted
     ensures { flat_ending (fitted_answer result) curves.new firsts.new worsts.new params.new «open».new ≡ flat_of (heading.Given (record { end = end; start = start })) marks.now tolerance curves.old firsts.old worsts.old params.old «open».old }
 {
-    fitted(count_flat(
+    fit_flat(
         Heading::Given(Ways { end, start }),
-        marks,
-        tolerance,
-        curves,
-        firsts,
-        worsts,
-        params,
-        open,
-    ))
-}
-
-// The joined fit of the second engine with what it took: blocks, curves, parts that were tried and least-squares solutions.
-pub fn fit_joined_counted(
-    marks: &[f64],
-    tolerance: f64,
-    curves: &mut [f64],
-    firsts: &mut [u32],
-    worsts: &mut [u32],
-    params: &mut [f64],
-    open: &mut [u32],
-) -> Counted
-    ensures { counted_ending (counted_answer result) curves.new firsts.new worsts.new params.new «open».new ≡ counted_of (heading.By variants.Joined) marks.now tolerance curves.old firsts.old worsts.old params.old «open».old }
-{
-    count_flat(
-        Heading::By(Cutting::Joined),
         marks,
         tolerance,
         curves,
@@ -198,7 +160,16 @@ pub fn fit_joined_flat(
 ) -> Fitted
     ensures { flat_ending (fitted_answer result) curves.new firsts.new worsts.new params.new «open».new ≡ flat_of (heading.By variants.Joined) marks.now tolerance curves.old firsts.old worsts.old params.old «open».old }
 {
-    fitted(fit_joined_counted(marks, tolerance, curves, firsts, worsts, params, open))
+    fit_flat(
+        Heading::By(Cutting::Joined),
+        marks,
+        tolerance,
+        curves,
+        firsts,
+        worsts,
+        params,
+        open,
+    )
 }
 
 // The ring fit of the second engine: what `fit::fit_ring` gives. `open` wants 2n numbers for the n marks given.
@@ -213,7 +184,7 @@ pub fn fit_ring_flat(
 ) -> Fitted
     ensures { flat_ending (fitted_answer result) curves.new firsts.new worsts.new params.new «open».new ≡ flat_of (heading.By variants.Ring) marks.now tolerance curves.old firsts.old worsts.old params.old «open».old }
 {
-    fitted(count_flat(
+    fit_flat(
         Heading::By(Cutting::Ring),
         marks,
         tolerance,
@@ -222,5 +193,5 @@ pub fn fit_ring_flat(
         worsts,
         params,
         open,
-    ))
+    )
 }

@@ -1,4 +1,6 @@
 // Numbers: the small functions that the Rust uses on `f64`, each proved against IEEE 754. The square root has a crate of its own, `root`.
+#![tactic(auto)]
+
 pub mod refusal;
 
 ghost use Rattle.std.specs.Prelude.{◌≡◌, ◌&&◌};

@@ -1,4 +1,6 @@
 // How a curve is stored: by its eight numbers alone, or in a record that also keeps how far off its marks are, and which of them is the worst.
+#![tactic(auto)]
+
 ghost use Rattle.std.specs.Prelude.{◌≡◌};
 ghost use Rattle.form.specs.Form.{width, worsts_for};
 
@@ -9,7 +11,7 @@ pub const CURVE_NUMBERS: usize = 8;
 pub const RECORD_NUMBERS: usize = 9;
 
 // Lists of eight numbers a curve, as older files hold them; or of nine, with a worst mark beside each first mark, as the fits store them.
-#[derive(Drop)]
+#[derive(Clone, Copy)]
 pub enum Form {
     Eight,
     Nine,

@@ -1,4 +1,6 @@
 // What every fit tests before it runs, in the order of the refusals, and the zeros that a refused run leaves.
+#![tactic(auto)]
+
 ghost use Rattle.std.specs.Prelude.{◌≡◌, ◌-◌, length, replicate};
 ghost use Rattle.float.specs.Number.{f0};
 ghost use Rattle.gate.specs.Gate.{in_range, tolerable, room_for, gate_for, gate_of};

@@ -1,5 +1,7 @@
 // How a house file is laid out. Three things settle where everything stands: the length of kind 2 gives the marks, and they the bytes of a mark number; the kind
 // of the record behind them gives how curves are stored, and the length of the whole how many there are. So the heads are tested at fixed places.
+#![tactic(auto)]
+
 ghost use Rattle.std.specs.Prelude.{◌≡◌, ◌+◌, ◌*◌, ◌^◌, ◌<◌, ◌≤◌, length, drop};
 ghost use Rattle.house.specs.Limits.{kind_field, number_field, head_bytes, mark_bytes, marks_at};
 ghost use Rattle.house.specs.Layout.{head_at, starts_with, records_lead, ends_with};
@@ -11,7 +13,7 @@ use house::bytes::{four, two};
 use house::sizes;
 
 // How a file stores its curves, and how many marks and curves it has; or that the bytes are no file.
-#[derive(Drop)]
+#[derive(Clone, Copy)]
 pub enum Layout {
     Counts {
         form: Form,

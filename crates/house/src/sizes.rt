@@ -49,7 +49,7 @@ pub const MARKS_AT: usize = MARKS_HEAD + HEAD_BYTES;
 pub const TOLERANCE_LENGTH: u64 = 10;
 
 // How many bytes the number of a first or a worst mark has.
-#[derive(Drop)]
+#[derive(Clone, Copy)]
 pub enum Field {
     Two,
     Four,

@@ -7,6 +7,8 @@
 // prefix, and 3 every change of one of the bytes that are given: how many were answered with 0, 2, 4 and 9. 4 does as 1, with a first worst mark that two bytes do not hold, and 5 with such a first first mark.
 // 6 packs the file and 7 unpacks it, into bytes that are all 7: 0 and the bytes, or the refusal, and behind either a digest of all bytes that were lent. 8 unpacks every prefix, and 9 every
 // change, as 2 and 3 read them. 10 cleans the file, into bytes that are all 7, with the room for marks as that for the list: 0 and both lengths, or the refusal, and behind either a digest of each slice.
+#![tactic(auto)]
+
 ghost use Rattle.std.specs.Prelude.{◌<◌, length};
 
 use cases::parts::{front_bytes, front_words, lent_bytes, lent_firsts, lent_words};
@@ -42,7 +44,7 @@ const UNPACK_PREFIXES: u64 = 8;
 const SALVAGE: u64 = 10;
 
 // Where the bytes that are given of a file end, begin and end again twice, and how long it is.
-#[derive(Drop)]
+#[derive(Clone, Copy)]
 struct Runs {
     end: usize,
     second: usize,
@@ -53,7 +55,7 @@ struct Runs {
 }
 
 // How often each answer was given.
-#[derive(Drop)]
+#[derive(Clone, Copy)]
 struct Tally {
     taken: u64,
     many: u64,

@@ -1,4 +1,6 @@
 // Import: the curves of path data, in a lent slice. One walk along the text counts the curves, and a second one, once all tests are passed, puts them.
+#![tactic(auto)]
+
 ghost use Rattle.std.specs.Prelude.{◌≡◌, [], ◌∷◌, ◌^◌, ◌≤◌, ◌<◌, length, drop};
 ghost use Rattle.float.specs.Slices.{written};
 ghost use Rattle.marks.specs.Line.{line_of};
@@ -20,7 +22,7 @@ use plane::{Curve, Point, equal};
 use thousandths::nearest;
 
 // How many curves were read, and whether Z closed them; or why none were.
-#[derive(Drop)]
+#[derive(Clone, Copy)]
 pub enum Imported {
     Path { count: usize, closed: bool },
     Refused(u32),
@@ -29,7 +31,7 @@ pub enum Imported {
 // ---- numbers
 
 // The point of a pair of numbers, whether both are small enough, and the place behind them; or that there is none.
-#[derive(Drop)]
+#[derive(Clone, Copy)]
 enum Pair {
     At {
         point: Point,
@@ -66,7 +68,7 @@ fn pair_at(text: &[u8], at: usize) -> Pair
 // ---- segments
 
 // The curve that a letter's numbers draw, whether they are small enough, and the place behind them; or that there is none.
-#[derive(Drop)]
+#[derive(Clone, Copy)]
 enum Drawn {
     Curve {
         curve: Curve,
@@ -178,7 +180,7 @@ fn put_curve(out: &mut [f64], k: usize, c: Curve)
 
 // What comes next in a text: a curve, by which letter, whether its numbers are small enough, and the place behind it; Z and the end; the end; or what the
 // grammar does not have.
-#[derive(Drop)]
+#[derive(Clone, Copy)]
 enum Step {
     Drawn {
         letter: Letter,
@@ -253,7 +255,7 @@ fn step_at(text: &[u8], at: usize, letter: Letter, p: Point) -> Step
 // ---- the walk
 
 // How many curves a text has, whether Z closes them and whether all its numbers are small enough; or that the grammar does not have it.
-#[derive(Drop)]
+#[derive(Clone, Copy)]
 enum Walked {
     Path {
         count: usize,

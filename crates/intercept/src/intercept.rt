@@ -18,14 +18,14 @@ const EPSILON: f64 = 0.0000000001;
 const MAX_ITERATIONS: usize = 30;
 
 // A root, or that an operation gave NaN or infinity.
-#[derive(Drop)]
+#[derive(Clone, Copy)]
 pub enum Root {
     At(f64),
     Lost,
 }
 
 // What one round comes to: the next estimate, the end of the search, or an operation that gave NaN or infinity.
-#[derive(Drop)]
+#[derive(Clone, Copy)]
 enum Round {
     Next(f64),
     Stop,

@@ -1,4 +1,6 @@
 // Where two blocks meet: a mark with its two neighbours, and the tangents with which the left block ends there and the right one starts.
+#![tactic(auto)]
+
 ghost use Rattle.std.specs.Prelude.{◌≡◌, ◌+◌};
 ghost use Rattle.float.specs.Answer.{outcome};
 ghost use Rattle.marks.specs.Answers.{way_answer};
@@ -11,7 +13,7 @@ use marks::{Bearing, Way};
 use plane::{Direction, Point};
 
 // A mark with the one before it and the one after it: where two blocks meet, the first lies in the left block and the second in the right one.
-#[derive(Drop)]
+#[derive(Clone, Copy)]
 pub struct Joint {
     pub before: Point,
     pub at: Point,

@@ -1,4 +1,6 @@
 // Judges a house file: the file on standard input, one line on standard output.
+#![tactic(auto)]
+
 use libc::STDIN_FILENO;
 use piped::print_listed;
 use verdict::judge_file;

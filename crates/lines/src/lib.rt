@@ -1,5 +1,7 @@
 // The lines that the programs over house files print, put into lent bytes that have room for them: each call answers where its text ends. And how a whole text
 // is handed to a caller.
+#![tactic(auto)]
+
 ghost use Rattle.std.specs.Prelude.{◌≡◌, ◌+◌, ◌*◌, ◌≤◌, ◌∷◌, [], length, take};
 ghost use Rattle.form.specs.Form.{curve_numbers, record_numbers};
 ghost use Rattle.text.specs.Put.{Put};
@@ -110,7 +112,7 @@ pub fn put_refusal(out: &mut [u8], q: u32) -> usize
 // ---- a whole text
 
 // How many bytes of text were written; or why none were.
-#[derive(Drop)]
+#[derive(Clone, Copy)]
 pub enum Listed {
     Bytes(usize),
     Refused(u32),

@@ -1,4 +1,6 @@
 // Lists the outline of a house file: the file on standard input, its listing on standard output.
+#![tactic(auto)]
+
 use libc::STDIN_FILENO;
 use outline::list_outline;
 use piped::print_listed;

@@ -1,4 +1,6 @@
 // Marks in a slice, x and y in turn; the size of a block, tangents and the two-mark line, as fit.rs works them out.
+#![tactic(auto)]
+
 mod block;
 mod tangent;
 
@@ -15,7 +17,7 @@ pub use tangent::{
 };
 
 // A curve, or that an operation gave NaN or infinity.
-#[derive(Drop)]
+#[derive(Clone, Copy)]
 pub enum Made {
     Of(Curve),
     Lost,

@@ -10,14 +10,14 @@ use crate::mark_at;
 use plane::{Direction, Point};
 
 // A direction or that there is none, or that an operation gave NaN or infinity.
-#[derive(Drop)]
+#[derive(Clone, Copy)]
 pub enum Bearing {
     Of(Direction),
     Lost,
 }
 
 // A tangent, or that an operation gave NaN or infinity.
-#[derive(Drop)]
+#[derive(Clone, Copy)]
 pub enum Way {
     Toward(Point),
     Lost,

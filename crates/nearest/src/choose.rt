@@ -6,7 +6,7 @@ ghost use Rattle.nearest.specs.Tests.{as_best, try_of};
 use plane::{Curve, Point};
 
 // The best candidate so far, its squared distance, and whether each operation on the way gave a finite number.
-#[derive(Drop)]
+#[derive(Clone, Copy)]
 pub struct Best {
     pub t: f64,
     pub distance_sq: f64,

@@ -1,5 +1,7 @@
 // The point of a curve that is nearest to a given point, after nearest_point_bezier_root_finder.rs. The call tests its own arguments and
 // refuses by number (5: an argument out of range; 6: an operation gave NaN or infinity; 8: the search went too deep).
+#![tactic(auto)]
+
 mod choose;
 
 ghost use Rattle.std.specs.Prelude.{◌≡◌};
@@ -15,7 +17,7 @@ use quintic::points::Section;
 use roots::find::{Roots, find_bezier_roots};
 
 // The parameter of the nearest point and its squared distance, or the refusal's number.
-#[derive(Drop)]
+#[derive(Clone, Copy)]
 pub enum NearestPoint {
     Found(f64, f64),
     Refused(u32),

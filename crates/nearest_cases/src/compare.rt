@@ -1,7 +1,7 @@
 // How near two parameters are.
 
 // How many parameters agree with the Rust's, how many are near it, and how many are not.
-#[derive(Drop)]
+#[derive(Clone, Copy)]
 pub struct Tally {
     pub same: u64,
     pub near: u64,
@@ -9,7 +9,7 @@ pub struct Tally {
 }
 
 // Whether two parameters are the same, near, or neither. Zeros of either sign are the same.
-#[derive(Drop)]
+#[derive(Clone, Copy)]
 pub enum Agreement {
     Same,
     Near,

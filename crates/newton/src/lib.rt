@@ -1,5 +1,7 @@
 // Newton's method for the parameter of the point nearest a mark: one clamped step as fit.rs takes it, and the refinement of
 // nearest_point.rs, round by round.
+#![tactic(auto)]
+
 ghost use Rattle.std.specs.Prelude.{◌≡◌, cond, ℕ, suc};
 ghost use Rattle.float.specs.Answer.{outcome};
 ghost use Rattle.newton.specs.Newton.{vertices_of, ratio_of, newton_by, refine_by, refine as refine_of};
@@ -12,7 +14,7 @@ use plane::{Curve, Point};
 const EPSILON: f64 = 0.00000001;
 
 // The control vertices of a curve's first derivative and of its second: the same for every mark.
-#[derive(Drop)]
+#[derive(Clone, Copy)]
 pub struct Vertices {
     pub qn1: Point,
     pub qn2: Point,
@@ -22,14 +24,14 @@ pub struct Vertices {
 }
 
 // The two sides of a Newton step's fraction.
-#[derive(Drop)]
+#[derive(Clone, Copy)]
 pub struct Ratio {
     pub numerator: f64,
     pub denominator: f64,
 }
 
 // A step's end, and whether each operation on the way gave a finite number.
-#[derive(Drop)]
+#[derive(Clone, Copy)]
 pub struct Step {
     pub t: f64,
     pub fine: bool,
@@ -97,14 +99,14 @@ pub fn newton_raphson_root_find(c: Curve, q: Vertices, p: Point, t: f64) -> Step
 }
 
 // A refined parameter, or that an operation gave NaN or infinity.
-#[derive(Drop)]
+#[derive(Clone, Copy)]
 pub enum Refined {
     At(f64),
     Lost,
 }
 
 // What one round of refinement comes to: the next estimate, the end of the search, or an operation that gave NaN or infinity.
-#[derive(Drop)]
+#[derive(Clone, Copy)]
 enum Round {
     Next(f64),
     Stop,

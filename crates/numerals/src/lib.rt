@@ -1,5 +1,7 @@
 // Numbers and the space between them at a place of a text, as SVG 1.1's path grammar has them. A place past the end reads as a byte that the grammar
 // does not have, so nothing is asked of a place.
+#![tactic(auto)]
+
 ghost use Rattle.std.specs.Prelude.{◌≡◌, suc, ◌+◌, ◌-◌, ◌*◌, ◌^◌, ◌≤◌, get_or, drop};
 ghost use Rattle.path.specs.Decimals.{most};
 ghost use Rattle.path.specs.Numbers.{is_space, is_digit, leading, number, unsigned};
@@ -9,14 +11,14 @@ ghost use Rattle.numerals.specs.Numerals.{cap, digits_of, numeral_of, numeral_an
 use path::{Decimal, MOST};
 
 // A number and the place behind it, or that there is none.
-#[derive(Drop)]
+#[derive(Clone, Copy)]
 pub enum Numeral {
     Number { decimal: Decimal, rest: usize },
     Nothing,
 }
 
 // What a row of digits makes, up to one more than MOST, and the place behind it.
-#[derive(Drop)]
+#[derive(Clone, Copy)]
 pub struct Digits {
     pub value: u64,
     pub end: usize,

@@ -1,4 +1,6 @@
 // The listing of an outline: a house file's bytes in, the whole text out.
+#![tactic(auto)]
+
 ghost use Rattle.std.specs.Prelude.{◌≡◌, ◌+◌, ◌*◌, ◌≤◌, length};
 ghost use Rattle.text.specs.Put.{Put};
 ghost use Rattle.house.specs.Limits.{mark_bytes, marks_at};

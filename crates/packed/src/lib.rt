@@ -1,4 +1,6 @@
 // The house file in which each joint stands once: its format. The calls that convert whole files are in `packer`, and the reader takes both forms.
+#![tactic(auto)]
+
 ghost use Rattle.std.specs.Prelude.{◌≡◌, ◌^◌, ◌<◌};
 ghost use Rattle.packed.specs.Packed.{flag, rest_numbers, entry_bytes};
 ghost use Rattle.packed.specs.Unpacked.{flag_at, entry_at, first_place, start_place};

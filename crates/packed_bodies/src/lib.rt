@@ -1,4 +1,6 @@
 // What a packed file holds, copied. Nothing is copied before all heads are right.
+#![tactic(auto)]
+
 ghost use Rattle.std.specs.Prelude.{◌≡◌, ◌++◌, ◌+◌, ◌*◌, ◌≤◌, length, drop};
 ghost use Rattle.float.specs.Slices.{written};
 ghost use Rattle.form.specs.Form.{width, worsts_for};

@@ -76,16 +76,16 @@ told_twice b form n k e =
     let c = laid-candidate t.laid in
     record { file = rw (t.file, c); formed = rw c at (holds_candidate t.file).formed; laid = twice t.laid; starts = laid_started t.laid; marks = marks_in_is t.laid }
 
-told-once : (b : List ℕ) (form : Form) (n k : ℕ) → layout_of b ≡ layout.Broken → packed_layout_of b ≡ layout.Counts form n k → HeldTold b Once form n k
+told_once : (b : List ℕ) (form : Form) (n k : ℕ) → layout_of b ≡ layout.Broken → packed_layout_of b ≡ layout.Counts form n k → HeldTold b Once form n k
 unfolding held_of packed_of
-told-once b form n k u e =
+told_once b form n k u e =
     let t = packed_told b form n k e in
     let c = packed_candidate_is t.laid in
     record { file = rw (untold b u, t.packed, c); formed = rw c at (packs_candidate t.packed).formed; laid = once t.laid; starts = packed_started t.laid; marks = packed_marks_in t.laid }
 
-pub held-told : (b : List ℕ) (joints : Joints) (form : Form) (n k : ℕ) → held_layout_of b ≡ held.Counts joints form n k → HeldTold b joints form n k
+pub held_told : (b : List ℕ) (joints : Joints) (form : Form) (n k : ℕ) → held_layout_of b ≡ held.Counts joints form n k → HeldTold b joints form n k
 unfolding held_layout_of
-held-told b joints form n k e = go (layout_of b) (packed_layout_of b) refl refl e
+held_told b joints form n k e = go (layout_of b) (packed_layout_of b) refl refl e
   where
     same : (j : Joints) (f : Form) (m i : ℕ) → ◌≡◌ {A = Held} (held.Counts j f m i) (held.Counts joints form n k) → HeldTold b j f m i → HeldTold b joints form n k
     same j f m i q t =
@@ -97,7 +97,7 @@ held-told b joints form n k e = go (layout_of b) (packed_layout_of b) refl refl 
 
     go : (l p : Layout) → layout_of b ≡ l → packed_layout_of b ≡ p → either_of l p ≡ held.Counts joints form n k → HeldTold b joints form n k
     go (layout.Counts f m i) p el ep q = same Twice f m i q (told_twice b f m i el)
-    go layout.Broken (layout.Counts f m i) el ep q = same Once f m i q (told-once b f m i el ep)
+    go layout.Broken (layout.Counts f m i) el ep q = same Once f m i q (told_once b f m i el ep)
     go layout.Broken layout.Broken el ep q = let z : ◌≡◌ {A = ℕ} 0 1 = cc in absurd (omega arith)
 
 pub held_untold : (b : List ℕ) → held_layout_of b ≡ held.Broken → held_of b ≡ refused 9

@@ -1,5 +1,7 @@
 // How a packed file is laid out, and a file in either form. As in a file of old kinds, the marks, how curves are stored and the length of the whole settle where everything stands; here mark numbers are tested too, since they must fit
 // the field that they would have unpacked.
+#![tactic(auto)]
+
 ghost use Rattle.std.specs.Prelude.{◌≡◌, ◌&&◌, cond, eqb, ◌+◌, ◌-◌, ◌*◌, ◌<◌, ◌≤◌, length, drop};
 ghost use Rattle.form.specs.declared.Form.TheVariants.{Eight, Nine};
 ghost use Rattle.house.specs.Limits.{field_for, mark_field, number_field, head_bytes};
@@ -20,14 +22,14 @@ use packed::{
 };
 
 // How the place where two curves meet is stored: in both curves, or once.
-#[derive(Drop)]
+#[derive(Clone, Copy)]
 pub enum Joints {
     Twice,
     Once,
 }
 
 // How a file in either form stores its joints and its curves, and how many marks and curves it has; or that the bytes are no file.
-#[derive(Drop)]
+#[derive(Clone, Copy)]
 pub enum Held {
     Counts {
         joints: Joints,

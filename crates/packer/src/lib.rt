@@ -1,4 +1,6 @@
 // A house file, packed: each joint once. Nothing is written before it is known that the file can be packed and that there is room.
+#![tactic(auto)]
+
 mod records;
 
 ghost use Rattle.std.specs.Prelude.{◌≡◌};

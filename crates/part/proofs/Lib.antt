@@ -1,2 +1,1 @@
 pub mod Trials
-pub mod Few

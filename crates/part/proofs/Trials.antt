@@ -2,14 +2,14 @@
 use mathlib.Core.Path.{◌≡◌, refl, sym, ap, ◌∙◌, subst}
 use mathlib.Core.Bool.{Bool, true, false, ◌||◌, cond}
 use mathlib.Core.List.{List, [], ◌∷◌}
-use Prim.Native.Nat.{ℕ, suc, ◌+◌, ◌-◌, ◌*◌, ◌/◌, ◌≤◌, ◌<◌}
+use Prim.Native.Nat.{ℕ, suc, ◌-◌, ◌*◌, ◌/◌, ◌≤◌, ◌<◌}
 use native.Mathlib.Omega.{arith}
 use borrow.Author.Tests.{le-leb, lt-leb}
 use lib.ListN.{length, set}
 use lib.Ieee.{Float, binary64, lt, le, div}
 use Rattle.float.specs.Number.{f0, f1, finite}
 use Rattle.float.specs.Calc.{Calc, give, ◌>>=◌, ◌/!◌}
-use Rattle.float.specs.Answer.{Answer, ok, refused, unless, outcome}
+use Rattle.float.specs.Answer.{Answer, ok, refused, outcome}
 use Rattle.float.specs.Answer.{◌>>=◌ as chain}
 use Rattle.float.proofs.Answers.{outcome_ok, outcome_no, outcome-then, only_six}
 use Rattle.plane.specs.declared.Point.{Point}
@@ -60,9 +60,9 @@ solves_ok m s p e = rw e (refl, refl)
 
 found_as : (A : Answer Trial) (r : Solution) (p : List Float) (s : Solved) → SolvesAs A r p → r ≡ solution.Found s → A ≡ ok (trial_of s p)
 found_as (ok a) r p s h e =
-    let f : solution.Found (record { curve = a.curve; far = a.far; solutions = a.solutions }) ≡ solution.Found s = sym h.0 ∙ e in
-    let g : record { curve = a.curve; far = a.far; solutions = a.solutions } ≡ s = cc in
-    λ i. ok (record { curve = (g i).curve; params = sym h.1 i; far = (g i).far; solutions = (g i).solutions })
+    let f : solution.Found (record { curve = a.curve; far = a.far }) ≡ solution.Found s = sym h.0 ∙ e in
+    let g : record { curve = a.curve; far = a.far } ≡ s = cc in
+    λ i. ok (record { curve = (g i).curve; params = sym h.1 i; far = (g i).far })
 found_as (refused q) r p s h e = let z : ◌≡◌ {A = ℕ} 0 1 = cc in absurd (omega arith)
 
 pub found : (m : Calc Trial) (r : Solution) (p : List Float) (s : Solved) → Solves m r p → r ≡ solution.Found s → outcome m ≡ ok (trial_of s p)
@@ -76,9 +76,9 @@ pub lost : (m : Calc Trial) (r : Solution) (p : List Float) → Solves m r p →
 lost m r p h e = let w = lost_as (outcome m) r p h e in only_six m w.0 (sym w.1)
 
 -- ---- one round
-module _ (ms : List Float) (st et : Point) (before : ℕ) (c : Curve) (ts : List Float) where
+module _ (ms : List Float) (st et : Point) (c : Curve) (ts : List Float) where
   abbrev last : List Float → Curve → Worst → Calc Trial
-  last us d w = give (record { curve = d; params = us; far = w; solutions = before + 1 })
+  last us d w = give (record { curve = d; params = us; far = w })
 
   abbrev measured : List Float → Curve → Calc Trial
   measured us d = ◌>>=◌ (max_error ms d us) (last us d)
@@ -86,44 +86,35 @@ module _ (ms : List Float) (st et : Point) (before : ℕ) (c : Curve) (ts : List
   abbrev stepped : List Float → Calc Trial
   stepped us = ◌>>=◌ (generate_of ms us st et) (measured us)
 
-  attempt-then : outcome (attempt ms st et before c ts) ≡ chain (outcome (reparam ms c ts)) (λ us. outcome (stepped us))
+  attempt-then : outcome (attempt ms st et c ts) ≡ chain (outcome (reparam ms c ts)) (λ us. outcome (stepped us))
   unfolding attempt
   attempt-then = outcome-then (reparam ms c ts) stepped
 
   module _ (f : Bool) (us : List Float) (ef : f ≡ (reparam ms c ts).fine) (eu : us ≡ (reparam ms c ts).val) where
-    pub attempt_off : f ≡ false → outcome (attempt ms st et before c ts) ≡ refused 6
+    pub attempt_off : f ≡ false → outcome (attempt ms st et c ts) ≡ refused 6
     attempt_off h = attempt-then ∙ ap (λ a. chain a (λ us. outcome (stepped us))) (outcome_no (reparam ms c ts) (sym ef ∙ h))
 
     module _ (h : f ≡ true) where
-      on : outcome (attempt ms st et before c ts) ≡ chain (outcome (generate_of ms us st et)) (λ d. outcome (measured us d))
+      on : outcome (attempt ms st et c ts) ≡ chain (outcome (generate_of ms us st et)) (λ d. outcome (measured us d))
       on =
           attempt-then
           ∙ ap (λ a. chain a (λ us. outcome (stepped us))) (outcome_ok (reparam ms c ts) (sym ef ∙ h))
           ∙ ap (λ us. outcome (stepped us)) (sym eu)
           ∙ outcome-then (generate_of ms us st et) (measured us)
 
-      pub attempt_unmade : outcome (generate_of ms us st et) ≡ refused 6 → outcome (attempt ms st et before c ts) ≡ refused 6
+      pub attempt_unmade : outcome (generate_of ms us st et) ≡ refused 6 → outcome (attempt ms st et c ts) ≡ refused 6
       attempt_unmade g = on ∙ ap (λ a. chain a (λ d. outcome (measured us d))) g
 
       module _ (d : Curve) (g : outcome (generate_of ms us st et) ≡ ok d) where
-        on_made : outcome (attempt ms st et before c ts) ≡ chain (outcome (max_error ms d us)) (λ w. outcome (last us d w))
+        on_made : outcome (attempt ms st et c ts) ≡ chain (outcome (max_error ms d us)) (λ w. outcome (last us d w))
         on_made = on ∙ ap (λ a. chain a (λ d. outcome (measured us d))) g ∙ outcome-then (max_error ms d us) (last us d)
 
-        pub attempt-unmeasured : outcome (max_error ms d us) ≡ refused 6 → outcome (attempt ms st et before c ts) ≡ refused 6
+        pub attempt-unmeasured : outcome (max_error ms d us) ≡ refused 6 → outcome (attempt ms st et c ts) ≡ refused 6
         attempt-unmeasured k = on_made ∙ ap (λ a. chain a (λ w. outcome (last us d w))) k
 
-        pub attempt-done : (w : Worst) → outcome (max_error ms d us) ≡ ok w → outcome (attempt ms st et before c ts) ≡ ok (record { curve = d; params = us; far = w; solutions = before + 1 })
+        pub attempt-done : (w : Worst) → outcome (max_error ms d us) ≡ ok w → outcome (attempt ms st et c ts) ≡ ok (record { curve = d; params = us; far = w })
         unfolding outcome
         attempt-done w k = on_made ∙ ap (λ a. chain a (λ w. outcome (last us d w))) k
-
--- a round is one solution more
-pub one_more : (ms : List Float) (st et : Point) (before : ℕ) (c : Curve) (ts : List Float) (a : Trial) → outcome (attempt ms st et before c ts) ≡ ok a → a.solutions ≡ before + 1
-unfolding attempt outcome
-one_more ms st et before c ts a h = go (attempt ms st et before c ts).fine h
-  where
-    go : (b : Bool) → unless 6 b (ok (attempt ms st et before c ts).val) ≡ ok a → a.solutions ≡ before + 1
-    go true e = let g : (attempt ms st et before c ts).val ≡ a = cc in sym (ap (λ (x : Trial). x.solutions) g)
-    go false e = let z : ◌≡◌ {A = ℕ} 0 1 = cc in absurd (omega arith)
 
 -- ---- the rounds after it: a stands, b is the next
 module _ (ms : List Float) (st et : Point) (tol : Float) (n : ℕ) (a : Trial) where
@@ -133,14 +124,14 @@ module _ (ms : List Float) (st et : Point) (tol : Float) (n : ℕ) (a : Trial) w
   abbrev weighed : Trial → Calc Trial
   weighed b = ◌>>=◌ (b.far.err /! a.far.err) (judged_by b)
 
-  improve-then : outcome (improve (suc n) ms st et tol a) ≡ chain (outcome (attempt ms st et a.solutions a.curve a.params)) (λ b. outcome (weighed b))
+  improve-then : outcome (improve (suc n) ms st et tol a) ≡ chain (outcome (attempt ms st et a.curve a.params)) (λ b. outcome (weighed b))
   unfolding improve
-  improve-then = outcome-then (attempt ms st et a.solutions a.curve a.params) weighed
+  improve-then = outcome-then (attempt ms st et a.curve a.params) weighed
 
-  pub improve_lost : outcome (attempt ms st et a.solutions a.curve a.params) ≡ refused 6 → outcome (improve (suc n) ms st et tol a) ≡ refused 6
+  pub improve_lost : outcome (attempt ms st et a.curve a.params) ≡ refused 6 → outcome (improve (suc n) ms st et tol a) ≡ refused 6
   improve_lost h = improve-then ∙ ap (λ a. chain a (λ b. outcome (weighed b))) h
 
-  module _ (b : Trial) (h : outcome (attempt ms st et a.solutions a.curve a.params) ≡ ok b) where
+  module _ (b : Trial) (h : outcome (attempt ms st et a.curve a.params) ≡ ok b) where
     abbrev ratio : Float
     ratio = div binary64 b.far.err a.far.err
 
@@ -178,10 +169,10 @@ at_count Q n h f = subst (λ (m : ℕ). Q m (n - 1)) (back n h) (f (n - 1))
 -- the loop: what is left to answer, with n rounds to go, where s and p stand
 module _ (ms : List Float) (st et : Point) (tol : Float) (n : ℕ) (s : Solved) (p : List Float) (whole : Answer Trial)
     (left : whole ≡ outcome (improve n ms st et tol (trial_of s p))) (more : 0 < n) where
-  pub go_lost : outcome (attempt ms st et s.solutions s.curve p) ≡ refused 6 → whole ≡ refused 6
+  pub go_lost : outcome (attempt ms st et s.curve p) ≡ refused 6 → whole ≡ refused 6
   go_lost h = left ∙ at_count (λ m k. outcome (improve m ms st et tol (trial_of s p)) ≡ refused 6) n more (λ k. improve_lost ms st et tol k (trial_of s p) h)
 
-  module _ (b : Trial) (h : outcome (attempt ms st et s.solutions s.curve p) ≡ ok b) where
+  module _ (b : Trial) (h : outcome (attempt ms st et s.curve p) ≡ ok b) where
     pub go_off : finite (div binary64 b.far.err s.far.err) ≡ false → whole ≡ refused 6
     go_off f = left ∙ at_count (λ m k. outcome (improve m ms st et tol (trial_of s p)) ≡ refused 6) n more (λ k. improve_off ms st et tol k (trial_of s p) b h f)
 
@@ -198,7 +189,7 @@ module _ (n : ℕ) (ms : List Float) (st et : Point) (tol : Float) where
   closing a = cond (lt tol a.far.err) (improve 7 ms st et tol a) (give a)
 
   abbrev rounds : List Float → Curve → Calc Trial
-  rounds ts c = ◌>>=◌ (attempt ms st et 1 c ts) closing
+  rounds ts c = ◌>>=◌ (attempt ms st et c ts) closing
 
   abbrev from : List Float → Calc Trial
   from ts = ◌>>=◌ (generate_of ms ts st et) (rounds ts)
@@ -223,13 +214,13 @@ module _ (n : ℕ) (ms : List Float) (st et : Point) (tol : Float) where
       tried_unmade g = on_chords ∙ ap (λ a. chain a (λ c. outcome (rounds ts c))) g
 
       module _ (c : Curve) (g : outcome (generate_of ms ts st et) ≡ ok c) where
-        on_curve : outcome (tried n ms st et tol) ≡ chain (outcome (attempt ms st et 1 c ts)) (λ a. outcome (closing a))
-        on_curve = on_chords ∙ ap (λ a. chain a (λ c. outcome (rounds ts c))) g ∙ outcome-then (attempt ms st et 1 c ts) closing
+        on_curve : outcome (tried n ms st et tol) ≡ chain (outcome (attempt ms st et c ts)) (λ a. outcome (closing a))
+        on_curve = on_chords ∙ ap (λ a. chain a (λ c. outcome (rounds ts c))) g ∙ outcome-then (attempt ms st et c ts) closing
 
-        pub tried_lost : outcome (attempt ms st et 1 c ts) ≡ refused 6 → outcome (tried n ms st et tol) ≡ refused 6
+        pub tried_lost : outcome (attempt ms st et c ts) ≡ refused 6 → outcome (tried n ms st et tol) ≡ refused 6
         tried_lost k = on_curve ∙ ap (λ a. chain a (λ a. outcome (closing a))) k
 
-        module _ (a : Trial) (k : outcome (attempt ms st et 1 c ts) ≡ ok a) where
+        module _ (a : Trial) (k : outcome (attempt ms st et c ts) ≡ ok a) where
           on_trial : outcome (tried n ms st et tol) ≡ outcome (closing a)
           on_trial = on_curve ∙ ap (λ a. chain a (λ a. outcome (closing a))) k
 
@@ -245,7 +236,7 @@ pub did_judged : (tol : Float) (s : Solved) (p : List Float) → Did (judged tol
 unfolding verdict
 did_judged tol s p = go (le s.far.err tol)
   where
-    go : (b : Bool) → Did (pick b (fits s.curve s.far p s.solutions) (cuts s.far.at s.solutions)) (pick_tried b (answer.Good s) (answer.Cut s.far.at s.solutions)) p
+    go : (b : Bool) → Did (pick b (fits s.curve s.far p) (cuts s.far.at)) (pick_tried b (answer.Good s) (answer.Cut s.far.at)) p
     go true = (refl, refl)
     go false = refl
 
@@ -254,7 +245,7 @@ module _ (s : Solved) (tol : Float) where
   unfolding verdict
   picked_good h = sym (rw h)
 
-  pub picked_cut : le s.far.err tol ≡ false → answer.Cut s.far.at s.solutions ≡ verdict s tol
+  pub picked_cut : le s.far.err tol ≡ false → answer.Cut s.far.at ≡ verdict s tol
   unfolding verdict
   picked_cut h = sym (rw h)
 
@@ -262,7 +253,7 @@ module _ (s : Solved) (tol : Float) where
 pub line_lost : (m : Answer Curve) (q : ℕ) (p : List Float) → m ≡ refused q → Did (lined m) (answer.Refused q) p
 line_lost m q p e = rw e refl
 
-pub line-done : (m : Answer Curve) (c : Curve) (p : List Float) → m ≡ ok c → p ≡ f0 ∷ f1 ∷ [] → Did (lined m) (answer.Good (record { curve = c; far = no_worst; solutions = 0 })) p
+pub line-done : (m : Answer Curve) (c : Curve) (p : List Float) → m ≡ ok c → p ≡ f0 ∷ f1 ∷ [] → Did (lined m) (answer.Good (record { curve = c; far = no_worst })) p
 line-done m c p e h = rw e (refl, h)
 
 pub two_set : (p : List Float) → length p ≡ 2 → set (set p 0 f0) 1 f1 ≡ f0 ∷ f1 ∷ []

@@ -13,11 +13,11 @@ use Rattle.part.specs.declared.Tried.TheVariants as tried
 
 -- a solution, with the parameters that stand beside it
 abbrev pub trial_of : Solved → List Float → Trial
-trial_of s ts = record { curve = s.curve; params = ts; far = s.far; solutions = s.solutions }
+trial_of s ts = record { curve = s.curve; params = ts; far = s.far }
 
 -- a run's answer r, and the parameters p that it leaves
 abbrev pub SolvesAs : Answer Trial → Solution → List Float → Type 0
-SolvesAs (ok a) r p = (r ≡ solution.Found (record { curve = a.curve; far = a.far; solutions = a.solutions })) × (p ≡ a.params)
+SolvesAs (ok a) r p = (r ≡ solution.Found (record { curve = a.curve; far = a.far })) × (p ≡ a.params)
 SolvesAs (refused q) r p = r ≡ solution.Lost
 
 abbrev pub Solves : Calc Trial → Solution → List Float → Type 0
@@ -29,10 +29,10 @@ pick_tried true a b = a
 pick_tried false a b = b
 
 unfoldable pub verdict : Solved → Float → Tried
-verdict s tol = pick_tried (le s.far.err tol) (tried.Good s) (tried.Cut s.far.at s.solutions)
+verdict s tol = pick_tried (le s.far.err tol) (tried.Good s) (tried.Cut s.far.at)
 
 -- a part's answer r, and the parameters p that it leaves
 abbrev pub Did : Part → Tried → List Float → Type 0
-Did (fits c w ps m) r p = (r ≡ tried.Good (record { curve = c; far = w; solutions = m })) × (p ≡ ps)
-Did (cuts k m) r p = r ≡ tried.Cut k m
+Did (fits c w ps) r p = (r ≡ tried.Good (record { curve = c; far = w })) × (p ≡ ps)
+Did (cuts k) r p = r ≡ tried.Cut k
 Did (fails q) r p = r ≡ tried.Refused q

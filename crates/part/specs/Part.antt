@@ -11,25 +11,25 @@ use Rattle.stages.specs.Worst.{no_worst}
 use Rattle.stages.specs.declared.worst.Worst.{Worst}
 use Rattle.part.specs.Trial.{Trial, tried}
 
--- one curve with its largest distance and the mark that has it, and a parameter for each mark; or a cut at a mark; each with how many least-squares solutions it came to; or a refusal
+-- one curve with its largest distance and the mark that has it, and a parameter for each mark; or a cut at a mark; or a refusal
 pub data Part : Type 0 where
-  fits : Curve → Worst → List Float → ℕ → Part
-  cuts : ℕ → ℕ → Part
+  fits : Curve → Worst → List Float → Part
+  cuts : ℕ → Part
   fails : ℕ → Part
 
 abbrev pub pick : Bool → Part → Part → Part
 pick true p q = p
 pick false p q = q
 
--- two marks: a line, off neither of them, with the parameters 0 and 1 and no solution
+-- two marks: a line, off neither of them, with the parameters 0 and 1
 abbrev pub lined : Answer Curve → Part
-lined (ok c) = fits c no_worst (f0 ∷ f1 ∷ []) 0
+lined (ok c) = fits c no_worst (f0 ∷ f1 ∷ [])
 lined (refused q) = fails q
 
 -- after the rounds: within the tolerance one curve, else a cut at the worst mark, which a fit's marks and tolerance put inside the part (`CutsInside` of `ends`)
 abbrev pub judged : Float → Answer Trial → Part
 judged tol (refused q) = fails q
-judged tol (ok a) = pick (le a.far.err tol) (fits a.curve a.far a.params a.solutions) (cuts a.far.at a.solutions)
+judged tol (ok a) = pick (le a.far.err tol) (fits a.curve a.far a.params) (cuts a.far.at)
 
 unfoldable pub part_of : List Float → Point → Point → Float → Part
 part_of ms st et tol =

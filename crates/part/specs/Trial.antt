@@ -1,5 +1,5 @@
 -- The rounds of one part of three marks or more, as in fit_curve_cubic. Definitions only.
-use Rattle.std.specs.Prelude.{◌||◌, cond, List, ℕ, zero, suc, ◌+◌, Float}
+use Rattle.std.specs.Prelude.{◌||◌, cond, List, ℕ, zero, suc, Float}
 use Rattle.std.specs.Float.{binary64}
 use Rattle.std.specs.Float.Ieee.{of_bits, lt, le}
 use Rattle.float.specs.Calc.{Calc, give, ◌>>=◌, ◌/!◌}
@@ -11,20 +11,19 @@ use Rattle.stages.specs.Worst.{max_error}
 use Rattle.stages.specs.declared.worst.Worst.{Worst}
 use Rattle.squares.specs.Squares.{generate_of}
 
--- where a round stands: the curve, each mark's parameter, the largest distance and its mark, and how many least-squares solutions it came to so far
+-- where a round stands: the curve, each mark's parameter, the largest distance and its mark
 pub record Trial : Type 0 where
   pub curve : Curve
   pub params : List Float
   pub far : Worst
-  pub solutions : ℕ
 
--- a round, from a curve that so many solutions came to: a Newton step for every mark, least squares, the worst distance
-unfoldable pub attempt : List Float → Point → Point → ℕ → Curve → List Float → Calc Trial
-attempt ms st et before c ts = do
+-- a round: a Newton step for every mark, least squares, the worst distance
+unfoldable pub attempt : List Float → Point → Point → Curve → List Float → Calc Trial
+attempt ms st et c ts = do
   us ← reparam ms c ts
   d ← generate_of ms us st et
   w ← max_error ms d us
-  give (record { curve = d; params = us; far = w; solutions = before + 1 })
+  give (record { curve = d; params = us; far = w })
 
 -- 0.95
 abbrev pub enough : Float
@@ -34,7 +33,7 @@ enough = of_bits binary64 0x3fee_6666_6666_6666
 unfoldable pub improve : ℕ → List Float → Point → Point → Float → Trial → Calc Trial
 improve zero ms st et tol a = give a
 improve (suc n) ms st et tol a = do
-  b ← attempt ms st et a.solutions a.curve a.params
+  b ← attempt ms st et a.curve a.params
   improvement ← b.far.err /! a.far.err
   cond (lt enough improvement || le b.far.err tol) (give b) (improve n ms st et tol b)
 
@@ -43,5 +42,5 @@ unfoldable pub tried : ℕ → List Float → Point → Point → Float → Calc
 tried n ms st et tol = do
   ts ← chords_of ms n
   c ← generate_of ms ts st et
-  a ← attempt ms st et 1 c ts
+  a ← attempt ms st et c ts
   cond (lt tol a.far.err) (improve 7 ms st et tol a) (give a)

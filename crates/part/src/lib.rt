@@ -1,5 +1,7 @@
 // One part of an outline: a curve within the tolerance, or the mark to cut it at.
-ghost use Rattle.std.specs.Prelude.{◌≡◌, ◌+◌, ◌*◌, ◌≤◌, ◌<◌, length};
+#![tactic(auto)]
+
+ghost use Rattle.std.specs.Prelude.{◌≡◌, ◌*◌, ◌≤◌, ◌<◌, length};
 ghost use Rattle.float.specs.Answer.{outcome};
 ghost use Rattle.part.specs.Trial.{attempt as attempt_of, improve as improve_of, tried as tried_of};
 ghost use Rattle.part.specs.Part.{part_of, lined};
@@ -18,40 +20,32 @@ const MORE_ROUNDS: usize = 7;
 // A round has to bring the error down to this part of what it was, or it is the last.
 const IMPROVEMENT: f64 = 0.95;
 
-// A curve for the marks, with its largest distance, and how many least-squares solutions it took; the parameters stand in the lent slice.
-#[derive(Drop)]
+// A curve for the marks, with its largest distance; the parameters stand in the lent slice.
+#[derive(Clone, Copy)]
 pub struct Solved {
     pub curve: Curve,
     pub far: Worst,
-    pub solutions: usize,
 }
 
 // A solution, or that an operation gave NaN or infinity.
-#[derive(Drop)]
+#[derive(Clone, Copy)]
 enum Solution {
     Found(Solved),
     Lost,
 }
 
-// What a part comes to: a curve with its largest distance, a cut at a mark after so many solutions, or a refusal by its number.
-#[derive(Drop)]
+// What a part comes to: a curve with its largest distance, a cut at a mark, or a refusal by its number.
+#[derive(Clone, Copy)]
 pub enum Tried {
     Good(Solved),
-    Cut { at: usize, solutions: usize },
+    Cut(usize),
     Refused(u32),
 }
 
-// One round: a Newton step for every mark, least squares, the worst distance. So many solutions came before this one, at most eight.
-fn attempt(
-    marks: &[f64],
-    c: Curve,
-    st: Point,
-    et: Point,
-    params: &mut [f64],
-    before: usize,
-) -> Solution
-    requires { (0 < length params.old) × ((length marks.now ≡ 2 * length params.old) × (before ≤ 8)) }
-    ensures { Solves (attempt_of marks.now st et before c params.old) result params.new }
+// One round: a Newton step for every mark, least squares, the worst distance.
+fn attempt(marks: &[f64], c: Curve, st: Point, et: Point, params: &mut [f64]) -> Solution
+    requires { (0 < length params.old) × (length marks.now ≡ 2 * length params.old) }
+    ensures { Solves (attempt_of marks.now st et c params.old) result params.new }
 {
     if stages::reparameterize(marks, c, params) {
         let Made::Of(curve) = squares::generate_bezier(marks, params, st, et) else {
@@ -60,12 +54,7 @@ fn attempt(
         let Far::Mark(far) = stages::max_error_for_curve(marks, curve, params) else {
             return Solution::Lost;
         };
-        let solutions = before + 1;
-        return Solution::Found(Solved {
-            curve,
-            far,
-            solutions,
-        });
+        return Solution::Found(Solved { curve, far });
     }
     Solution::Lost
 }
@@ -79,13 +68,13 @@ fn improve(
     first: Solved,
     params: &mut [f64],
 ) -> Solution
-    requires { (0 < length params.old) × ((length marks.now ≡ 2 * length params.old) × (first.solutions ≤ 2)) }
+    requires { (0 < length params.old) × (length marks.now ≡ 2 * length params.old) }
     ensures { Solves (improve_of 7 marks.now st et tolerance (trial_of first params.old)) result params.new }
 {
     let mut s = first;
     let mut left = MORE_ROUNDS;
     while left > 0 {
-        let Solution::Found(next) = attempt(marks, s.curve, st, et, params, s.solutions) else {
+        let Solution::Found(next) = attempt(marks, s.curve, st, et, params) else {
             return Solution::Lost;
         };
         let ratio = next.far.err / s.far.err;
@@ -110,7 +99,7 @@ fn solve(marks: &[f64], st: Point, et: Point, tolerance: f64, params: &mut [f64]
         let Made::Of(curve) = squares::generate_bezier(marks, params, st, et) else {
             return Solution::Lost;
         };
-        let Solution::Found(s) = attempt(marks, curve, st, et, params, 1) else {
+        let Solution::Found(s) = attempt(marks, curve, st, et, params) else {
             return Solution::Lost;
         };
         if s.far.err > tolerance {
@@ -128,13 +117,10 @@ fn judge(s: Solved, tolerance: f64) -> Tried
     if s.far.err <= tolerance {
         return Tried::Good(s);
     }
-    Tried::Cut {
-        at: s.far.at,
-        solutions: s.solutions,
-    }
+    Tried::Cut(s.far.at)
 }
 
-// The line of a part of two marks, which are its ends, so neither is off it. It takes no solution.
+// The line of a part of two marks, which are its ends, so neither is off it.
 fn try_line(marks: &[f64], params: &mut [f64]) -> Tried
     requires { (length params.old ≡ 2) × (length marks.now ≡ 4) }
     ensures { Did (lined (outcome (line_of (mark_at marks.now 0) (mark_at marks.now 1)))) result params.new }
@@ -145,11 +131,7 @@ fn try_line(marks: &[f64], params: &mut [f64]) -> Tried
         return Tried::Refused(NOT_FINITE);
     };
     let far = Worst { err: 0.0, at: 0 };
-    Tried::Good(Solved {
-        curve,
-        far,
-        solutions: 0,
-    })
+    Tried::Good(Solved { curve, far })
 }
 
 // One part, with the tangents at its ends: what it comes to, and its parameters in the lent slice.

@@ -1,4 +1,6 @@
 // With which tangents a part of an outline starts and ends, by the number of the mark alone: so whoever keeps parts need keep no tangent.
+#![tactic(auto)]
+
 ghost use Rattle.std.specs.Prelude.{◌≡◌, ◌+◌, ◌*◌, ◌≤◌, ◌<◌, length};
 ghost use Rattle.limits.specs.Limits.{most_numbered};
 ghost use Rattle.marks.specs.Answers.{way_answer};
@@ -9,7 +11,7 @@ use ring::Outline;
 use tangents::{Cutting, Turn, Ways};
 
 // The tangents at the ends of a run: given ones, of all marks as one part, or those of the blocks that an outline is cut into.
-#[derive(Drop)]
+#[derive(Clone, Copy)]
 pub enum Heading {
     Given(Ways),
     By(Cutting),

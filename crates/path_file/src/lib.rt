@@ -1,4 +1,6 @@
 // A house file's fit as path data: the file's bytes in, one line out.
+#![tactic(auto)]
+
 ghost use Rattle.std.specs.Prelude.{◌≡◌, ◌+◌, ◌*◌, ◌≤◌, length};
 ghost use Rattle.text.specs.Put.{Put};
 ghost use Rattle.fit.specs.Fit.{ending, fitted_answer, fit_of};

@@ -1,4 +1,6 @@
 // Lists the curves of path data: the text on standard input, its listing on standard output.
+#![tactic(auto)]
+
 use libc::STDIN_FILENO;
 use path_list::list_path;
 use piped::print_listed;

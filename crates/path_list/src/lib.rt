@@ -1,4 +1,6 @@
 // The listing of path data: its bytes in, the lines of its curves out.
+#![tactic(auto)]
+
 ghost use Rattle.std.specs.Prelude.{◌≡◌, ◌+◌, ◌*◌, ◌≤◌, length};
 ghost use Rattle.form.specs.Form.{curve_numbers};
 ghost use Rattle.text.specs.Put.{Put};

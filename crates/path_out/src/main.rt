@@ -1,4 +1,6 @@
 // The path data of a house file's fit: the file on standard input, one line on standard output. With `--ring` as its first argument it is the ring fit, else the joined one.
+#![tactic(auto)]
+
 use check::same;
 use libc::STDIN_FILENO;
 use path_file::path_file;

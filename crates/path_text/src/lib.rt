@@ -1,4 +1,6 @@
 // Curves as path data: how long the text is, and the text itself in lent bytes. Each call that puts answers where its text ends.
+#![tactic(auto)]
+
 ghost use Rattle.std.specs.Prelude.{◌≡◌, true, ◌+◌, ◌*◌, ◌≤◌, ◌<◌, length};
 ghost use Rattle.float.specs.Number.{finite};
 ghost use Rattle.plane.specs.Range.{point_finite};

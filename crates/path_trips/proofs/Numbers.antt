@@ -20,14 +20,14 @@ pub data Clear : List ℕ → Type 0 where
   end : Clear []
   blank : {s : List ℕ} → Clear (32 ∷ s)
 
-clear-digit : {s : List ℕ} → Clear s → is_digit (front s) ≡ false
+clear_digit : {s : List ℕ} → Clear s → is_digit (front s) ≡ false
 unfolding is_digit
-clear-digit end = refl
-clear-digit blank = refl
+clear_digit end = refl
+clear_digit blank = refl
 
-clear-point : {s : List ℕ} → Clear s → eqb (front s) 46 ≡ false
-clear-point end = refl
-clear-point blank = refl
+clear_point : {s : List ℕ} → Clear s → eqb (front s) 46 ≡ false
+clear_point end = refl
+clear_point blank = refl
 
 -- ---- behind the point
 
@@ -66,7 +66,7 @@ module _ (s : Bool) (q : ℕ) (r : List ℕ) (c : Clear r) where
   unfolding unsigned value_from
   whole_back =
       let d = digits q in
-      rw (those_all d.all r (clear-digit c), past_all d.all r (clear-digit c), clear-point c)
+      rw (those_all d.all r (clear_digit c), past_all d.all r (clear_digit c), clear_point c)
       (spelled_back s (decimal q) [] r (q * 1000) d.some (omega arith) (rw (d.value []) refl))
 
   -- with a point, and the digits f behind it
@@ -75,7 +75,7 @@ module _ (s : Bool) (q : ℕ) (r : List ℕ) (c : Clear r) where
   point-back f t a few e =
       let d = digits q in
       let no : is_digit (front (46 ∷ (f ++ r))) ≡ false = refl in
-      rw (those_all d.all (46 ∷ (f ++ r)) no, past_all d.all (46 ∷ (f ++ r)) no, those_all a r (clear-digit c), past_all a r (clear-digit c))
+      rw (those_all d.all (46 ∷ (f ++ r)) no, past_all d.all (46 ∷ (f ++ r)) no, those_all a r (clear_digit c), past_all a r (clear_digit c))
       (spelled_back s (decimal q) f r t d.some few (rw (d.value f) e))
 
   -- as export writes it

@@ -30,18 +30,18 @@ first_text (suc n) f = ap (λ (s : List ℕ). s ++ curve_text (f (suc n))) (firs
 from_first : (n : ℕ) (f : ℕ → Curve) (r : List ℕ) → curves_text (suc n) f ++ r ≡ curve_text (f 0) ++ (curves_text n (next f) ++ r)
 from_first n f r = ap (λ (s : List ℕ). s ++ r) (first_text n f) ∙ append_assoc (curve_text (f 0)) (curves_text n (next f)) r
 
-clear-curve : (c : Curve) (r : List ℕ) → Clear (curve_text c ++ r)
+clear_curve : (c : Curve) (r : List ℕ) → Clear (curve_text c ++ r)
 unfolding curve_text
-clear-curve c r = blank
+clear_curve c r = blank
 
 clear_end : (ring : Bool) → Clear (closing_text ring)
 clear_end true = blank
 clear_end false = end
 
-clear-curves : (n : ℕ) (f : ℕ → Curve) (ring : Bool) → Clear (curves_text n f ++ closing_text ring)
+clear_curves : (n : ℕ) (f : ℕ → Curve) (ring : Bool) → Clear (curves_text n f ++ closing_text ring)
 unfolding curves_text
-clear-curves zero f ring = clear_end ring
-clear-curves (suc n) f ring = rw (from_first n f (closing_text ring)) (clear-curve (f 0) (curves_text n (next f) ++ closing_text ring))
+clear_curves zero f ring = clear_end ring
+clear_curves (suc n) f ring = rw (from_first n f (closing_text ring)) (clear_curve (f 0) (curves_text n (next f) ++ closing_text ring))
 
 long_curve : (c : Curve) → 0 < length (curve_text c)
 unfolding curve_text
@@ -66,7 +66,7 @@ draws-back zero (suc fuel) f l ring h = draws_end fuel l ring
 draws-back (suc n) (suc fuel) f l ring h =
     let r : List ℕ = curves_text n (next f) ++ closing_text ring in
     let e = draws-back n fuel (next f) letter.Curve ring (omega arith) in
-    rw (from_first n f (closing_text ring), step-curve l (f 0) r (clear-curves n (next f) ring), e)
+    rw (from_first n f (closing_text ring), step-curve l (f 0) r (clear_curves n (next f) ring), e)
 
 -- ---- the path
 
@@ -75,4 +75,4 @@ unfolding path_of path_text is_space leading
 path-back ring k f =
     let r : List ℕ = curves_text k f ++ closing_text ring in
     let n : k < suc (length (77 ∷ (point_text (f 0).start ++ r))) = simp length-append (omega (arith, long_curves k f)) in
-    rw (point-text (f 0).start r, blank-past (pair_text (f 0).start ++ r) (start_pair (f 0).start r), pair-back (f 0).start r (clear-curves k f ring), draws-back k _ f letter.Line ring (rw (point-text (f 0).start r) at n))
+    rw (point-text (f 0).start r, blank-past (pair_text (f 0).start ++ r) (start_pair (f 0).start r), pair-back (f 0).start r (clear_curves k f ring), draws-back k _ f letter.Line ring (rw (point-text (f 0).start r) at n))

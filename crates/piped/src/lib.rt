@@ -1,4 +1,6 @@
 // What the programs over house files print.
+#![tactic(auto)]
+
 use libc::STDOUT_FILENO;
 use lines::Listed;
 

@@ -1,17 +1,19 @@
 // Points and curves of the plane by value, with the arithmetic of coordinate.rs and coord2.rs in its order of operations.
+#![tactic(auto)]
+
 ghost use Rattle.std.specs.Prelude.{◌≡◌};
 ghost use Rattle.plane.specs.Plane.{equal, plus, minus, times, dot_of, magnitude_of, distance_of, direction_by, direction_of, or_zero};
 ghost use Rattle.plane.specs.Range.{coordinate, point_in_range, curve_in_range, point_finite};
 
 // A point of the plane, or a vector.
-#[derive(Drop)]
+#[derive(Clone, Copy)]
 pub struct Point {
     pub x: f64,
     pub y: f64,
 }
 
 // A cubic curve: its two ends and the two control points between them.
-#[derive(Drop)]
+#[derive(Clone, Copy)]
 pub struct Curve {
     pub start: Point,
     pub cp1: Point,
@@ -20,7 +22,7 @@ pub struct Curve {
 }
 
 // The unit vector in a vector's direction, or that a vector has none.
-#[derive(Drop)]
+#[derive(Clone, Copy)]
 pub enum Direction {
     Toward(Point),
     Nowhere,

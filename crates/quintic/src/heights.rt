@@ -8,7 +8,7 @@ use crate::points::Section;
 use plane::{Curve, Point};
 
 // A row of the table Z, or of products weighted by it.
-#[derive(Drop)]
+#[derive(Clone, Copy)]
 pub struct Row {
     pub i0: f64,
     pub i1: f64,
@@ -17,7 +17,7 @@ pub struct Row {
 }
 
 // The vectors from a point to the four points of a curve.
-#[derive(Drop)]
+#[derive(Clone, Copy)]
 pub struct Offsets {
     pub d0: Point,
     pub d1: Point,

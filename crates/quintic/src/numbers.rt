@@ -3,7 +3,7 @@ ghost use Rattle.std.specs.Prelude.{◌≡◌};
 ghost use Rattle.quintic.specs.Numbers.{number2, number3, number4, number5, number6, derivative6_of};
 
 // Six heights.
-#[derive(Drop)]
+#[derive(Clone, Copy)]
 pub struct Six {
     pub y1: f64,
     pub y2: f64,
@@ -14,7 +14,7 @@ pub struct Six {
 }
 
 // Five heights.
-#[derive(Drop)]
+#[derive(Clone, Copy)]
 pub struct Five {
     pub y1: f64,
     pub y2: f64,

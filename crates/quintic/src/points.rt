@@ -6,7 +6,7 @@ use cubic::eval::{de_casteljau2, de_casteljau4};
 use plane::Point;
 
 // A curve of six points, or a part of one.
-#[derive(Drop)]
+#[derive(Clone, Copy)]
 pub struct Section {
     pub w1: Point,
     pub w2: Point,
@@ -17,7 +17,7 @@ pub struct Section {
 }
 
 // The parts of a curve before and after a point.
-#[derive(Drop)]
+#[derive(Clone, Copy)]
 pub struct Halves {
     pub left: Section,
     pub right: Section,

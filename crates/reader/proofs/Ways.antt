@@ -35,7 +35,7 @@ use Rattle.packed_heads.specs.declared.Joints.{Joints}
 use Rattle.packed_heads.specs.declared.Joints.TheVariants.{Twice, Once}
 use Rattle.packed_heads.specs.declared.Held.TheVariants as held
 use Rattle.packed_heads.specs.Layout.{packed_layout_of, either_of, held_layout_of, held_at}
-use Rattle.packed_heads.proofs.Told.{HeldTold, HeldLaid, held-told, held_untold}
+use Rattle.packed_heads.proofs.Told.{HeldTold, HeldLaid, held_told, held_untold}
 use Rattle.packed_heads.proofs.Told as told
 
 pub read_broken : (b : List ℕ) {M P W C Q : List ℕ} → held_layout_of b ≡ held.Broken → outcome (refused 9) M P W C Q ≡ read_of b M P W C Q
@@ -111,7 +111,7 @@ module _ (b : List ℕ) (form : Form) (n k : ℕ) (e : held_layout_of b ≡ held
       go : (i : ℕ) → k ≡ i → 0 < k
       go zero z =
           let a : is_file b ≡ false = untold b untwice in
-          let y : is_file b ≡ true = plain-file (held_stored (held-told b Once form n k e).file) ((sized_packed b form n k).firsts ∙ z) in
+          let y : is_file b ≡ true = plain-file (held_stored (held_told b Once form n k e).file) ((sized_packed b form n k).firsts ∙ z) in
           let x : ◌≡◌ {A = ℕ} 0 1 = cc in
           absurd (omega arith)
       go (suc i) z = omega arith
@@ -122,7 +122,7 @@ module _ (b : List ℕ) (form : Form) (n k : ℕ) (M P W C Q : List ℕ) where
   file-fits (full s d) = omega (arith, size_some form n d.some, d.size)
 
   pub held-room : (joints : Joints) → held_layout_of b ≡ held.Counts joints form n k → 2 * n ≤ length M → room form n k (length P) (length W) (length C) (length Q) ≡ true → HeldRoom joints form n k b M P W C Q
-  held-room joints e m r = go (held-told b joints form n k e).laid e
+  held-room joints e m r = go (held_told b joints form n k e).laid e
     where
       s : Places form n k (length P) (length W) (length C) (length Q)
       s = places form n k (length P) (length W) (length C) (length Q) r

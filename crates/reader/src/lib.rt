@@ -1,4 +1,6 @@
 // The house file, in either form, read. Numbers stand as the bit patterns of `f64`, so that every pattern, a NaN's too, comes as it is.
+#![tactic(auto)]
+
 mod bodies;
 
 ghost use Rattle.std.specs.Prelude.{◌≡◌};
@@ -14,7 +16,7 @@ use limits::MOST_MARKS;
 use packed_heads::{Held, find_held};
 
 // What a file holds beside the slices: how its curves are stored, its tolerance, and how many marks and curves; or why it is not read.
-#[derive(Drop)]
+#[derive(Clone, Copy)]
 pub enum Read {
     File {
         form: Form,

@@ -14,25 +14,25 @@ pub const MOST: u64 = 0xffff_ffff_ffff_ffff;
 pub const NOWHERE: usize = 0xffff_ffff_ffff_ffff;
 
 // What is taken, with the place behind it.
-#[derive(Drop)]
+#[derive(Clone, Copy)]
 pub struct Whole {
     pub x: u64,
     pub then: usize,
 }
 
-#[derive(Drop)]
+#[derive(Clone, Copy)]
 pub struct Float {
     pub x: f64,
     pub then: usize,
 }
 
-#[derive(Drop)]
+#[derive(Clone, Copy)]
 pub struct Pair {
     pub p: Point,
     pub then: usize,
 }
 
-#[derive(Drop)]
+#[derive(Clone, Copy)]
 pub struct Eight {
     pub c: Curve,
     pub then: usize,

@@ -1,7 +1,7 @@
 // A line, answered by the kind that its first word names.
-use crate::kind::{ENTER, EXPORT, PACK, SINGLE_KINDS, kind_of};
+use crate::kind::{EXPORT, PACK, SALVAGE, SINGLE_KINDS, kind_of};
 use crate::outline::Fit;
-use crate::{entering, listing, outline, packing, paths, room, single};
+use crate::{listing, outline, packing, paths, room, single};
 use bytes::scan;
 use form::Form;
 use libc::STDOUT_FILENO;
@@ -36,12 +36,11 @@ fn large_case(kind: usize, line: &[u8], end: usize, curves: &mut [f64]) -> bool 
         17 => outline::direct_case(true, line, end, curves),
         18 => outline::blocks_case(Fit::JoinedFlat, line, end, curves),
         19 => outline::blocks_case(Fit::RingFlat, line, end, curves),
-        20 => outline::blocks_case(Fit::Counted, line, end, curves),
-        21 => listing::check_case(Outline::Open, Form::Eight, line, end, curves),
-        22 => listing::check_case(Outline::Closed, Form::Eight, line, end, curves),
-        23 => listing::check_case(Outline::Open, Form::Nine, line, end, curves),
-        24 => listing::check_case(Outline::Closed, Form::Nine, line, end, curves),
-        25 => paths::import_case(line, end, curves),
+        20 => listing::check_case(Outline::Open, Form::Eight, line, end, curves),
+        21 => listing::check_case(Outline::Closed, Form::Eight, line, end, curves),
+        22 => listing::check_case(Outline::Open, Form::Nine, line, end, curves),
+        23 => listing::check_case(Outline::Closed, Form::Nine, line, end, curves),
+        24 => paths::import_case(line, end, curves),
         _ => false,
     }
 }
@@ -70,14 +69,6 @@ fn file_case(kind: usize, line: &mut [u8], end: usize) -> bool {
     packing::file_case(kind, line, end, &mut out)
 }
 
-// And with `enter`, which needs no room.
-fn bytes_case(kind: usize, line: &mut [u8], end: usize) -> bool {
-    if kind == ENTER {
-        return entering::enter_case(line, end);
-    }
-    file_case(kind, line, end)
-}
-
 // Whether a line is a case.
 fn answered(line: &mut [u8]) -> bool {
     let from: usize = 0;
@@ -86,8 +77,8 @@ fn answered(line: &mut [u8]) -> bool {
     if kind < SINGLE_KINDS {
         return single_case(kind, line, end);
     }
-    if (kind >= PACK) & (kind <= ENTER) {
-        return bytes_case(kind, line, end);
+    if (kind >= PACK) & (kind <= SALVAGE) {
+        return file_case(kind, line, end);
     }
     if room::is_short(line) {
         short_case(kind, line, end)

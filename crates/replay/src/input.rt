@@ -6,7 +6,7 @@ use crate::room;
 use libc::STDIN_FILENO;
 
 // How much there is of a line after a chunk, or that the input has ended.
-#[derive(Drop)]
+#[derive(Clone, Copy)]
 pub enum Turn {
     More(usize),
     End,

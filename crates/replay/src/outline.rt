@@ -1,4 +1,4 @@
-// Cases of an outline: the five fits, the three that the second engine makes too, and what one of these took. A line of more than 21,000 marks is bad. That is fewer than the fits by blocks take, so only the direct fit's own limit shows.
+// Cases of an outline: the five fits, and the three that the second engine makes too. A line of more than 21,000 marks is bad. That is fewer than the fits by blocks take, so only the direct fit's own limit shows.
 use crate::cursor::{front, front_marks, take_float, take_point, take_some};
 use crate::print::{print_accepted, print_floats, print_refused};
 use crate::room;
@@ -6,10 +6,9 @@ use cases::parts::lent_firsts;
 use cut::Fitted;
 use form::RECORD_NUMBERS;
 use plane::Point;
-use waiting::{Cost, Counted};
 
-// Which fit, and by which engine: the flat ones keep their open parts in a lent slice. `Counted` is the joined one of these, asked for what it took.
-#[derive(Drop)]
+// Which fit, and by which engine: the flat ones keep their open parts in a lent slice.
+#[derive(Clone, Copy)]
 pub enum Fit {
     Direct(Point, Point),
     Source,
@@ -19,29 +18,6 @@ pub enum Fit {
     DirectFlat(Point, Point),
     JoinedFlat,
     RingFlat,
-    Counted,
-}
-
-// How many curves a fit made, or what it took where that is asked for, or its refusal by number.
-#[derive(Drop)]
-enum Answer {
-    Curves(usize),
-    Took(Cost),
-    Refused(u32),
-}
-
-fn curves_of(fitted: Fitted) -> Answer {
-    match fitted {
-        Fitted::Curves(k) => Answer::Curves(k),
-        Fitted::Refused(q) => Answer::Refused(q),
-    }
-}
-
-fn cost_of(counted: Counted) -> Answer {
-    match counted {
-        Counted::Of(cost) => Answer::Took(cost),
-        Counted::Refused(q) => Answer::Refused(q),
-    }
 }
 
 fn fit_by(
@@ -53,29 +29,24 @@ fn fit_by(
     worsts: &mut [u32],
     params: &mut [f64],
     open: &mut [u32],
-) -> Answer {
+) -> Fitted {
     match fit {
-        Fit::Direct(start, end) => curves_of(fit::fit_curve_cubic(
-            marks, start, end, tolerance, curves, firsts, worsts, params,
-        )),
-        Fit::Source => curves_of(fit::fit_curve(marks, tolerance, curves, firsts, worsts, params)),
-        Fit::Loop => curves_of(fit::fit_curve_loop(
-            marks, tolerance, curves, firsts, worsts, params,
-        )),
-        Fit::Joined => curves_of(fit::fit_joined(marks, tolerance, curves, firsts, worsts, params)),
-        Fit::Ring => curves_of(fit::fit_ring(marks, tolerance, curves, firsts, worsts, params)),
-        Fit::DirectFlat(start, end) => curves_of(flat_fit::fit_curve_cubic_flat(
+        Fit::Direct(start, end) => {
+            fit::fit_curve_cubic(marks, start, end, tolerance, curves, firsts, worsts, params)
+        }
+        Fit::Source => fit::fit_curve(marks, tolerance, curves, firsts, worsts, params),
+        Fit::Loop => fit::fit_curve_loop(marks, tolerance, curves, firsts, worsts, params),
+        Fit::Joined => fit::fit_joined(marks, tolerance, curves, firsts, worsts, params),
+        Fit::Ring => fit::fit_ring(marks, tolerance, curves, firsts, worsts, params),
+        Fit::DirectFlat(start, end) => flat_fit::fit_curve_cubic_flat(
             marks, start, end, tolerance, curves, firsts, worsts, params, open,
-        )),
-        Fit::JoinedFlat => curves_of(flat_fit::fit_joined_flat(
-            marks, tolerance, curves, firsts, worsts, params, open,
-        )),
-        Fit::RingFlat => curves_of(flat_fit::fit_ring_flat(
-            marks, tolerance, curves, firsts, worsts, params, open,
-        )),
-        Fit::Counted => cost_of(flat_fit::fit_joined_counted(
-            marks, tolerance, curves, firsts, worsts, params, open,
-        )),
+        ),
+        Fit::JoinedFlat => {
+            flat_fit::fit_joined_flat(marks, tolerance, curves, firsts, worsts, params, open)
+        }
+        Fit::RingFlat => {
+            flat_fit::fit_ring_flat(marks, tolerance, curves, firsts, worsts, params, open)
+        }
     }
 }
 
@@ -137,22 +108,13 @@ fn print_fit(k: usize, curves: &[f64], firsts: &[u32], worsts: &[u32], params: &
     print_floats(params);
 }
 
-// Blocks, curves, parts and solutions.
-fn print_cost(cost: Cost) {
-    print_accepted();
-    cases::print_next_count(cost.blocks as u64);
-    cases::print_next_count(cost.curves as u64);
-    cases::print_next_count(cost.parts as u64);
-    cases::print_next_count(cost.solutions as u64);
-}
-
 // A fit's answer, its curves in this room.
 fn say_fit(fit: Fit, marks: &[f64], tolerance: f64, curves: &mut [f64]) {
     let mut firsts = room::indices();
     let mut worsts = room::indices();
     let mut params = room::params();
     let mut open = room::open();
-    let answer = fit_by(
+    let fitted = fit_by(
         fit,
         marks,
         tolerance,
@@ -162,16 +124,15 @@ fn say_fit(fit: Fit, marks: &[f64], tolerance: f64, curves: &mut [f64]) {
         &mut params,
         lent_firsts(&mut open, marks.len()),
     );
-    match answer {
-        Answer::Curves(k) => print_fit(
+    match fitted {
+        Fitted::Curves(k) => print_fit(
             k,
             curves,
             &firsts,
             &worsts,
             front(&params, params_of(fit, marks)),
         ),
-        Answer::Took(cost) => print_cost(cost),
-        Answer::Refused(q) => print_refused(q),
+        Fitted::Refused(q) => print_refused(q),
     }
 }
 
@@ -210,7 +171,7 @@ pub fn direct_case(flat: bool, line: &[u8], at: usize, curves: &mut [f64]) -> bo
     )
 }
 
-// source, loop, joined, ring, joined_flat, ring_flat, counted TOL X0 Y0 ..
+// source, loop, joined, ring, joined_flat, ring_flat TOL X0 Y0 ..
 pub fn blocks_case(fit: Fit, line: &[u8], at: usize, curves: &mut [f64]) -> bool {
     let tolerance = take_float(line, at);
     fit_case(fit, tolerance.x, line, tolerance.then, curves)

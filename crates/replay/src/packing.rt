@@ -70,14 +70,6 @@ fn decode(line: &mut [u8], from: usize) -> usize {
     n
 }
 
-// The same of the digits behind the blank at `at`.
-pub fn decode_behind(line: &mut [u8], at: usize) -> usize {
-    if at >= line.len() {
-        return NOWHERE;
-    }
-    decode(line, at + 1)
-}
-
 // The other file.
 fn say_file(file: &[u8]) {
     print_accepted();
@@ -130,7 +122,10 @@ fn say(kind: usize, file: &[u8], out: &mut [u8]) {
 
 // pack HEX, unpack HEX, salvage HEX: all behind the first blank. The room comes as an array by its type, so that no proof counts its bytes.
 pub fn file_case(kind: usize, line: &mut [u8], at: usize, out: &mut [u8; room::FILE]) -> bool {
-    let n = decode_behind(line, at);
+    if at >= line.len() {
+        return false;
+    }
+    let n = decode(line, at + 1);
     if n == NOWHERE {
         return false;
     }

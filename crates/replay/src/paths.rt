@@ -11,7 +11,7 @@ use libc::STDOUT_FILENO;
 use lines::Listed;
 
 // Whether a ring is meant, with the place behind the word.
-#[derive(Drop)]
+#[derive(Clone, Copy)]
 struct Course {
     ring: bool,
     then: usize,

@@ -1,4 +1,6 @@
 // An outline is open, from its first mark to its last, or closed: then it comes back to its first mark, and mark 0 counts again behind the last.
+#![tactic(auto)]
+
 ghost use Rattle.std.specs.Prelude.{◌≡◌, ◌+◌, ◌-◌, ◌*◌, ◌≤◌, length, drop};
 ghost use Rattle.float.specs.Slices.{written};
 ghost use Rattle.marks.specs.Marks.{count, mark_at};
@@ -8,7 +10,7 @@ ghost use Rattle.ring.specs.declared.Outline.TheVariants as outline;
 use plane::Point;
 
 // Open, or closed.
-#[derive(Drop)]
+#[derive(Clone, Copy)]
 pub enum Outline {
     Open,
     Closed,

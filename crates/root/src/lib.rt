@@ -1,5 +1,7 @@
 // The square root of an `f64`, correctly rounded. A float guess is checked in whole numbers, and where it fails the digits are
 // found one by one: so nothing has to be known of the guess, and it can be as fast as it likes.
+#![tactic(auto)]
+
 ghost use Rattle.std.specs.Prelude.{◌≡◌, true, false, ℕ, ◌+◌, ◌*◌, ◌^◌, ◌≤◌, ◌<◌, Float};
 ghost use Rattle.std.specs.Float.{binary64};
 ghost use Rattle.std.specs.Float.Ieee.{of_bits};

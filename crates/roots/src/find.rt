@@ -15,14 +15,14 @@ pub const DEEPEST: usize = 64;
 pub const MOST_SECTIONS: usize = 2048;
 
 // A section that waits to be looked at, and how often it was halved.
-#[derive(Drop)]
+#[derive(Clone, Copy)]
 pub struct Waiting {
     pub section: Section,
     pub depth: usize,
 }
 
 // What a look at a section comes to: no root, a root, its halves, or the refusal's number.
-#[derive(Drop)]
+#[derive(Clone, Copy)]
 enum Look {
     Nothing,
     Root(f64),
@@ -31,7 +31,7 @@ enum Look {
 }
 
 // How many roots were found, or the refusal's number.
-#[derive(Drop)]
+#[derive(Clone, Copy)]
 pub enum Roots {
     Found(usize),
     Refused(u32),

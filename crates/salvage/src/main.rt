@@ -1,4 +1,6 @@
 // Cleans a house file: the file on standard input; on standard output the file with its tolerance and the marks kept, and on standard error the list of the marks dropped, or one line that names a refusal.
+#![tactic(auto)]
+
 use libc::{STDERR_FILENO, STDIN_FILENO, STDOUT_FILENO};
 use piped::print_front;
 use salvaging::{Salvaged, salvage_file};

@@ -1,4 +1,6 @@
 // A house file, cleaned: a file's bytes in; out, the bytes of one with its tolerance and the marks kept, and the list of the marks dropped. That a fit takes what is kept is not promised.
+#![tactic(auto)]
+
 mod report;
 mod walks;
 
@@ -28,7 +30,7 @@ use walks::{Part, measure, put_part};
 const MOST_CLEANED: usize = 512;
 
 // How many bytes of the cleaned file and of the list were written; or why none were.
-#[derive(Drop)]
+#[derive(Clone, Copy)]
 pub enum Salvaged {
     Bytes { file: usize, report: usize },
     Refused(u32),

@@ -11,7 +11,7 @@ use sieve::{Fate, Last, after, fate_of, mark_at};
 use text::put_bytes;
 
 // What is put of the marks: those that are kept, or the lines of those that are dropped.
-#[derive(Drop)]
+#[derive(Clone, Copy)]
 pub enum Part {
     Marks,
     Lines,

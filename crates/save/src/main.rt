@@ -1,4 +1,6 @@
 // Fits a house file: the file on standard input, the same marks with their curves as a house file on standard output; or one line that names a refusal.
+#![tactic(auto)]
+
 use libc::STDIN_FILENO;
 use piped::print_listed;
 use saving::save_fit;

@@ -114,8 +114,8 @@ fit-listing M tol k C C' P P' W W' Q Q' h =
           number_fits (length M / 2) _ (omega arith) (omega arith));
     }
 
-pub fit-ready : (M : List ℕ) (tol : Float) (k : ℕ) (C C' : List Float) (P P' W W' : List ℕ) (Q Q' : List Float) → length M % 2 ≡ 0 → length M ≤ 8192 → length P' ≡ 4095 → length W' ≡ 4095 → length C' ≡ 36855 → length Q' ≡ 4096
+pub fit_ready : (M : List ℕ) (tol : Float) (k : ℕ) (C C' : List Float) (P P' W W' : List ℕ) (Q Q' : List Float) → length M % 2 ≡ 0 → length M ≤ 8192 → length P' ≡ 4095 → length W' ≡ 4095 → length C' ≡ 36855 → length Q' ≡ 4096
     → ending (ok k) C' P' W' Q' ≡ fit_of Joined (floats M) tol C P W Q → Ready M k P' W' C' Q'
-fit-ready M tol k C C' P P' W W' Q Q' even few lp lw lc lq h =
+fit_ready M tol k C C' P P' W W' Q Q' even few lp lw lc lq h =
     let l = fit-listing M tol k C C' P P' W W' Q Q' h in
     record { even = even; few = few; some = l.some; fewer = l.fewer; firsts = lp; worsts = lw; curves = lc; params = lq; fit = l.fit; worst-fit = l.worst-fit }

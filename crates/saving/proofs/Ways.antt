@@ -26,7 +26,7 @@ use Rattle.desk.proofs.Numbers.{floats-front}
 use Rattle.desk.proofs.Opened.{Opened, unopened}
 use Rattle.saving.specs.Saving.{roomy_fit, file_with, saved_file, bytes_in, saved_of}
 use Rattle.saving.specs.Ready.{Ready}
-use Rattle.saving.proofs.Takes.{fit-ready}
+use Rattle.saving.proofs.Takes.{fit_ready}
 
 -- ---- the fit
 
@@ -46,9 +46,9 @@ module _ (t : ℕ) (M : List ℕ) where
     unfolding file_with bytes_in fitted_answer
     done-text k e = rw (← h, e)
 
-    pub done-ready : (k : ℕ) → r ≡ Curves k → length M % 2 ≡ 0 → length M ≤ 8192 → length P ≡ 4095 → length W ≡ 4095 → length C ≡ 36855 → length Q ≡ 4096 → Ready M k P W C Q
+    pub done_ready : (k : ℕ) → r ≡ Curves k → length M % 2 ≡ 0 → length M ≤ 8192 → length P ≡ 4095 → length W ≡ 4095 → length C ≡ 36855 → length Q ≡ 4096 → Ready M k P W C Q
     unfolding roomy_fit fitted_answer
-    done-ready k e even few lp lw lc lq = fit-ready M (of_bits binary64 t) k _ C _ P _ W _ Q even few lp lw lc lq (rw e at h)
+    done_ready k e even few lp lw lc lq = fit_ready M (of_bits binary64 t) k _ C _ P _ W _ Q even few lp lw lc lq (rw e at h)
 
 -- ---- the file
 

@@ -1,4 +1,6 @@
 // The joined fit of a house file, as a house file: a file's bytes in, the same marks with their curves out.
+#![tactic(auto)]
+
 ghost use Rattle.std.specs.Prelude.{◌≡◌, ◌%◌, ◌≤◌, length};
 ghost use Rattle.lines.specs.Handed.{shown, handed, listed_answer, hand_over};
 ghost use Rattle.house.specs.File.{bytes_of};

@@ -1,4 +1,6 @@
 // Why the search never takes a 2,049th section: the chain of laws stands in proofs/, and here is the midpoint that it speaks of.
+#![tactic(auto)]
+
 ghost use Rattle.std.specs.Prelude.{◌≡◌};
 ghost use Rattle.sections.specs.Mid.{mid64};
 

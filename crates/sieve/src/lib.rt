@@ -1,4 +1,6 @@
 // Which marks of a shaky trace are kept, and why the others are dropped: what becomes of a mark, by the last one kept before it.
+#![tactic(auto)]
+
 ghost use Rattle.std.specs.Prelude.{◌≡◌, ◌+◌, ◌*◌, ◌≤◌, length};
 ghost use Rattle.house.specs.Limits.{number_field, mark_bytes, marks_at};
 ghost use Rattle.house.specs.Bytes.{num};
@@ -10,21 +12,21 @@ use house::sizes;
 use plane::{Point, equal, point_in_range};
 
 // Why a mark is dropped: a coordinate is out of range, or the mark is equal to the last one kept.
-#[derive(Drop)]
+#[derive(Clone, Copy)]
 pub enum Cause {
     Range,
     Equal,
 }
 
 // What becomes of a mark.
-#[derive(Drop)]
+#[derive(Clone, Copy)]
 pub enum Fate {
     Kept,
     Dropped(Cause),
 }
 
 // The last mark kept, if there is one.
-#[derive(Drop)]
+#[derive(Clone, Copy)]
 pub enum Last {
     Nothing,
     Mark(Point),

@@ -1,5 +1,7 @@
 // The size of a block for ranges of numbers of marks: a line for each range, its first and its last number, the size at the last, and a digest of all its sizes.
 // The digest of one size is that size.
+#![tactic(auto)]
+
 use libc::STDOUT_FILENO;
 
 fn size_of(n: u64) -> u64 {

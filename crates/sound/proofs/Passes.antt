@@ -92,9 +92,9 @@ module _ (form : Form) (ms : List Float) (tol : Float) (k : ℕ) (cs : List Floa
           let e : first_at fs j + (i - first_at fs j) ≡ i = omega arith in
           mark-passed i (rw e at (turn-each marks (stop_at (count ms) k fs j - first_at fs j) h (i - first_at fs j) (omega arith)))
 
-  pub clear-passes : Clear → first_at fs j < stop_at (count ms) k fs j → curve_checked form ms tol k cs fs ws ps j ≡ passed
+  pub clear_passes : Clear → first_at fs j < stop_at (count ms) k fs j → curve_checked form ms tol k cs fs ws ps j ≡ passed
   unfolding curve_checked runs mark_checked near
-  clear-passes c o =
+  clear_passes c o =
       let r : run ≡ true = both _ _ c.numbers (both _ _ (is_same _ _ c.begins) (is_same _ _ c.ends)) in
       let t : all ≡ passed = turn_all marks (stop_at (count ms) k fs j - first_at fs j) one in
       let x : keep ≡ true = kept_by form cs ws j _ (λ n. keeps_kept ms (curve_at form cs j) ps (first_at fs j) (stop_at (count ms) k fs j) o (λ i l u. (c.nears i l u).0) cs ws j (c.keeps n)) in

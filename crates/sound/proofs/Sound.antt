@@ -23,7 +23,7 @@ use Rattle.checker.proofs.Turns.{both_pass, turn-each, turn_all}
 use Rattle.checker.proofs.Firsts.{risen, listed_of}
 use Rattle.sound.proofs.Unit.{timed-unit, timed_first, timed_last, timed_of}
 use Rattle.sound.proofs.Under.{home, risen_of}
-use Rattle.sound.proofs.Passes.{Clear, clear, clear-passes}
+use Rattle.sound.proofs.Passes.{Clear, clear, clear_passes}
 
 module _ (form : Form) (ms : List Float) (tol : Float) (k : ℕ) (cs : List Float) (fs ws : List ℕ) (ps : List Float) where
   pub checked-sound : list_checked form ms tol k cs fs ws ps ≡ passed → Sound form ms tol k cs fs ws ps
@@ -62,7 +62,7 @@ module _ (form : Form) (ms : List Float) (tol : Float) (k : ℕ) (cs : List Floa
   unfolding list_checked
   sound-checked s =
       let r = risen_of (count ms) k fs s.some s.from_first s.two_or_more in
-      rw (listed_of (count ms) k fs r) (turn_all (curve_checked form ms tol k cs fs ws ps) k (λ j l. clear-passes form ms tol k cs fs ws ps j (one r j l) (span (count ms) k fs j r l).starts))
+      rw (listed_of (count ms) k fs r) (turn_all (curve_checked form ms tol k cs fs ws ps) k (λ j l. clear_passes form ms tol k cs fs ws ps j (one r j l) (span (count ms) k fs j r l).starts))
     where
       one : Risen (count ms) k fs → (j : ℕ) → j < k → Clear form ms tol k cs fs ws ps j
       one r j l = record {

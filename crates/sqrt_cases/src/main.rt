@@ -1,5 +1,7 @@
 // Square roots of published vectors and of edge patterns: standard input has bit patterns of eight bytes each, and each has a line
 // of output, the pattern and its root's.
+#![tactic(auto)]
+
 use libc::STDIN_FILENO;
 
 // The line of one pattern.

@@ -1,4 +1,6 @@
 // Least squares: fit.rs's generate_bezier, which makes one curve of marks at given parameters.
+#![tactic(auto)]
+
 mod solve;
 mod sums;
 

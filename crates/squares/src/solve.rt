@@ -10,7 +10,7 @@ use marks::Made;
 use plane::{Curve, Point};
 
 // The determinants of the matrices by Cramer's rule.
-#[derive(Drop)]
+#[derive(Clone, Copy)]
 pub struct Determinants {
     pub det_c0_c1: f64,
     pub det_c0_x: f64,
@@ -18,14 +18,14 @@ pub struct Determinants {
 }
 
 // How far the controls stand out along the tangents.
-#[derive(Drop)]
+#[derive(Clone, Copy)]
 pub struct Alphas {
     pub alpha_l: f64,
     pub alpha_r: f64,
 }
 
 // The alphas, or that an operation gave NaN or infinity.
-#[derive(Drop)]
+#[derive(Clone, Copy)]
 pub enum Solved {
     Of(Alphas),
     Lost,

@@ -7,7 +7,7 @@ use marks::mark_at;
 use plane::Point;
 
 // The weights of a curve's four points at a parameter.
-#[derive(Drop)]
+#[derive(Clone, Copy)]
 pub struct Weights {
     pub b0: f64,
     pub b1: f64,
@@ -16,7 +16,7 @@ pub struct Weights {
 }
 
 // The numbers c[0][0], c[0][1], c[1][1], x[0] and x[1]; c[1][0] is c[0][1].
-#[derive(Drop)]
+#[derive(Clone, Copy)]
 pub struct Sums {
     pub c00: f64,
     pub c01: f64,

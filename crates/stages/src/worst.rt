@@ -7,14 +7,14 @@ ghost use Rattle.stages.specs.Worst.{error_of, larger as larger_of, worst, max_e
 use plane::Curve;
 
 // A distance, and the mark that has it.
-#[derive(Drop)]
+#[derive(Clone, Copy)]
 pub struct Worst {
     pub err: f64,
     pub at: usize,
 }
 
 // The worst mark, or that an operation gave NaN or infinity.
-#[derive(Drop)]
+#[derive(Clone, Copy)]
 pub enum Far {
     Mark(Worst),
     Lost,

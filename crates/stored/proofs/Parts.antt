@@ -150,9 +150,9 @@ abbrev HeldTrial : Trial → Type 0
 HeldTrial a = HeldCurve a.curve × (T (fits binary64 a.far.err) × Held a.params)
 
 module _ {ms : List Float} (h : Held ms) (st et : Point) where
-  attempt-held : (before : ℕ) (c : Curve) {ts : List Float} → Held ts → HeldTrial (attempt ms st et before c ts).val
+  attempt-held : (c : Curve) {ts : List Float} → Held ts → HeldTrial (attempt ms st et c ts).val
   unfolding attempt
-  attempt-held before c {ts} k =
+  attempt-held c {ts} k =
       let us = (reparam ms c ts).val in
       (generate_held h us st et, (far-held ms (generate_of ms us st et).val us, reparam-held ms c k))
 
@@ -161,8 +161,8 @@ module _ {ms : List Float} (h : Held ms) (st et : Point) where
     unfolding improve
     improve-held zero a t = t
     improve-held (suc k) a t =
-        let b = (attempt ms st et a.solutions a.curve a.params).val in
-        let n = attempt-held a.solutions a.curve t.1.1 in
+        let b = (attempt ms st et a.curve a.params).val in
+        let n = attempt-held a.curve t.1.1 in
         either HeldTrial (lt enough (div binary64 b.far.err a.far.err) || le b.far.err tol) (give b) (improve k ms st et tol b) n (improve-held k b n)
 
     tried-held : (n : ℕ) → HeldTrial (tried n ms st et tol).val
@@ -170,15 +170,15 @@ module _ {ms : List Float} (h : Held ms) (st et : Point) where
     tried-held n =
         let ts = (chords_of ms n).val in
         let c = (generate_of ms ts st et).val in
-        let a = (attempt ms st et 1 c ts).val in
-        let t = attempt-held 1 c (chords_held ms n) in
+        let a = (attempt ms st et c ts).val in
+        let t = attempt-held c (chords_held ms n) in
         either HeldTrial (lt tol a.far.err) (improve 7 ms st et tol a) (give a) (improve-held 7 a t) t
 
 -- ---- one part
 
 abbrev HeldPart : Part → Type 0
-HeldPart (one c w ps m) = HeldCurve c × (T (fits binary64 w.err) × Held ps)
-HeldPart (cuts k m) = Unit {0}
+HeldPart (one c w ps) = HeldCurve c × (T (fits binary64 w.err) × Held ps)
+HeldPart (cuts k) = Unit {0}
 HeldPart (fails q) = Unit {0}
 
 pick_part : (b : Bool) (X Y : Part) → HeldPart X → HeldPart Y → HeldPart (pick b X Y)
@@ -191,7 +191,7 @@ lined-held false c h = tt
 
 judged-held : (tol : Float) (b : Bool) (a : Trial) → HeldTrial a → HeldPart (judged tol (unless 6 b (ok a)))
 judged-held tol false a h = tt
-judged-held tol true a h = pick_part (le a.far.err tol) (one a.curve a.far a.params a.solutions) (cuts a.far.at a.solutions) h tt
+judged-held tol true a h = pick_part (le a.far.err tol) (one a.curve a.far a.params) (cuts a.far.at) h tt
 
 part_held : (ms : List Float) → Held ms → (st et : Point) (tol : Float) → HeldPart (part_of ms st et tol)
 unfolding part_of outcome
@@ -222,7 +222,7 @@ join-held k (done c f p) (done c' f' p') l r = (held_append l.0 r.0, held_append
 run-held : (tol : Float) (ms : List Float) (first : ℕ) (s e : Point) → 2 ≤ count ms → Usable ms tol → Held ms → HeldRun (run_of ms first s e tol)
 run-held tol ms first s e h u =
     run_by tol (λ ms X. Held ms → HeldPart X) (λ ms s e h k. part_held ms k s e tol) (λ ms first R. Held ms → HeldRun R)
-    (λ ms first c w ps m h f p k. (flat-held c w.err (p k).0 (p k).1.0, (p k).1.1))
+    (λ ms first c w ps h f p k. (flat-held c w.err (p k).0 (p k).1.0, (p k).1.1))
     (λ ms first k. tt)
     (λ ms first k R R' i j l r m. join-held k R R' (l (held-take (2 * k + 2) m)) (r (held-drop (2 * k) m)))
     ms first s e h u

@@ -1,4 +1,6 @@
 // Into how many blocks an outline is cut.
+#![tactic(auto)]
+
 ghost use Rattle.std.specs.Prelude.{◌≡◌};
 ghost use Rattle.tally.specs.Tally.{joined_blocks};
 

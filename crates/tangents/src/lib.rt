@@ -1,4 +1,6 @@
 // How an outline is cut into blocks, and the tangents with which a part starts and ends: at a cut inside a part, and at the two ends of a block.
+#![tactic(auto)]
+
 ghost use Rattle.std.specs.Prelude.{◌≡◌, ◌+◌, ◌*◌, ◌≤◌, length};
 ghost use Rattle.float.specs.Answer.{outcome};
 ghost use Rattle.limits.specs.Limits.{most_numbered};
@@ -13,14 +15,14 @@ use plane::Point;
 use ring::Outline;
 
 // Two tangents: at a cut that at the left side's end, and that turned about at the right side's start; of a block those at its own end and start.
-#[derive(Drop)]
+#[derive(Clone, Copy)]
 pub struct Ways {
     pub end: Point,
     pub start: Point,
 }
 
 // Two tangents, or that an operation gave NaN or infinity.
-#[derive(Drop)]
+#[derive(Clone, Copy)]
 pub enum Turn {
     At(Ways),
     Lost,
@@ -58,7 +60,7 @@ pub fn ways_at(marks: &[f64], at: usize) -> Turn
 }
 
 // How an outline is cut into blocks.
-#[derive(Drop)]
+#[derive(Clone, Copy)]
 pub enum Cutting {
     Source,
     Loop,

@@ -1,4 +1,6 @@
 // Text put into lent bytes: whole numbers in decimal and in hex, and bytes as they are. Each call answers where the text ends.
+#![tactic(auto)]
+
 ghost use Rattle.std.specs.Prelude.{◌≡◌, ◌+◌, ◌<◌, ◌≤◌, length};
 ghost use Rattle.std.proofs.lemmas.List.Edits.{sets};
 ghost use Rattle.text.specs.Text.{digit_char, decimal, hex16};

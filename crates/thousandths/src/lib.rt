@@ -1,5 +1,7 @@
 // A number as whole thousandths, and whole thousandths as the nearest number. The thousandths are found by the bit pattern, in whole
 // numbers: so they are those of the exact value, which is rounded once.
+#![tactic(auto)]
+
 ghost use Rattle.std.specs.Prelude.{◌≡◌, true, ◌%◌, ◌^◌, ◌≤◌, ◌<◌};
 ghost use Rattle.std.specs.Float.{binary64};
 ghost use Rattle.std.specs.Float.Ieee.{of_bits};

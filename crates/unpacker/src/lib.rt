@@ -1,4 +1,6 @@
 // A packed house file, unpacked: each joint is put twice again, as the records of curves have it.
+#![tactic(auto)]
+
 mod records;
 
 ghost use Rattle.std.specs.Prelude.{◌≡◌};

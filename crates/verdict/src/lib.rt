@@ -1,4 +1,6 @@
 // The judge of house files: a file's bytes in, one line out, which says whether its curves are a sound list for its marks.
+#![tactic(auto)]
+
 ghost use Rattle.std.specs.Prelude.{◌≡◌, ◌≤◌, length};
 ghost use Rattle.std.specs.Float.{binary64};
 ghost use Rattle.std.specs.Float.Ieee.{of_bits};

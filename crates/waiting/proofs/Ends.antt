@@ -17,16 +17,14 @@ use Rattle.marks.specs.Marks.{count}
 use Rattle.tangents.specs.declared.Ways.{Ways}
 use Rattle.tangents.specs.declared.Cutting.{Cutting}
 use Rattle.tangents.specs.Ways.{over, start_of, end_of, ways_of}
-use Rattle.cut.specs.Run.{Run, refused, join, through, run_of, took_of}
+use Rattle.cut.specs.Run.{Run, refused, join, turned, run_of}
 use Rattle.blocks.specs.Blocks.{block_of, blocks_from, blocks_of}
-use Rattle.blocks.specs.Cost.{block_took, sum_from, blocks_took, blocks_many}
 use Rattle.blocks.proofs.Blocks.{blocks_last, blocks_more}
-use Rattle.blocks.proofs.Cost.{sum_last, sum_more}
 use Rattle.parts.specs.declared.Heading.{Heading}
 use Rattle.parts.specs.declared.Heading.TheVariants.{Given, By}
 use Rattle.parts.specs.Headings.{outer, own_start, own_end, start_in, end_in}
 use Rattle.parts.proofs.Headings.{at_outer, at_cut}
-use Rattle.waiting.specs.Waiting.{part_at, headed, run_at, open_of, run_in, took_at, open_sum, took_in, many_in}
+use Rattle.waiting.specs.Waiting.{part_at, headed, run_at, open_of, run_in}
 use Rattle.waiting.specs.Lent.{Meeting, Blocks, final, more}
 use Rattle.waiting.proofs.Open.{Free}
 
@@ -127,45 +125,23 @@ module _ (h : Heading) (ms : List Float) (n size last : ℕ) (some : 0 < size) (
 -- ---- the run that is asked for
 
 -- on with two tangents, or with each in turn
-ways_headed : {X : Type 0} (stop : ℕ → X) (m p : Calc Point) (F : Point → Point → X)
-    → through stop (outcome (◌>>=◌ m (λ s. ◌>>=◌ p (λ e. give (record { end = e; start = s }))))) (λ w. F w.start w.end) ≡ headed stop (outcome m) (outcome p) F
+ways_headed : (m p : Calc Point) (F : Point → Point → Run)
+    → turned (outcome (◌>>=◌ m (λ s. ◌>>=◌ p (λ e. give (record { end = e; start = s }))))) (λ w. F w.start w.end) ≡ headed refused (outcome m) (outcome p) F
 unfolding outcome
-ways_headed stop m p F = go m.fine p.fine
+ways_headed m p F = go m.fine p.fine
   where
-    go : (x y : Bool) → through stop (unless 6 (x && (y && true)) (ok (record { end = p.val; start = m.val }))) (λ w. F w.start w.end) ≡ headed stop (unless 6 x (ok m.val)) (unless 6 y (ok p.val)) F
+    go : (x y : Bool) → turned (unless 6 (x && (y && true)) (ok (record { end = p.val; start = m.val }))) (λ w. F w.start w.end) ≡ headed refused (unless 6 x (ok m.val)) (unless 6 y (ok p.val)) F
     go true true = refl
     go true false = refl
     go false y = refl
 
 module _ (k : Cutting) (ms : List Float) (tol : Float) (n size last : ℕ) (meets : over k ≡ 1) (some : 0 < size) (top : last + 1 ≡ n) where
-  -- what is made of a block's two tangents, or of the first refusal of theirs
-  block_headed : {X : Type 0} (stop : ℕ → X) (F : Point → Point → X) (a b : ℕ) → outer n size a ≡ true → outer n size b ≡ true
-      → through stop (outcome (ways_of k ms n a (b + 1))) (λ w. F w.start w.end) ≡ headed stop (start_in (By k) ms n size a) (end_in (By k) ms n size b) F
-  unfolding ways_of
-  block_headed stop F a b x y =
-      ways_headed stop (start_of k ms n a) (end_of k ms n (b + 1)) F
-      ∙ ap (λ (S : Answer Point). headed stop S (outcome (end_of k ms n (b + 1))) F) (at_outer (λ w. w.start) (own_start (By k) ms n a) ms n size a x _ refl)
-      ∙ ap (λ (E : Answer Point). headed stop (start_in (By k) ms n size a) E F) (at_outer (λ w. w.end) (own_end (By k) ms n b) ms n size b y _ refl)
-
   block_run : (a b : ℕ) → outer n size a ≡ true → outer n size b ≡ true → block_of k ms n tol a (b + 1) ≡ run_at (start_in (By k) ms n size) (end_in (By k) ms n size) ms tol a b
-  block_run a b x y = block_headed refused (λ s e. run_of (part_at ms a b) a s e tol) a b x y
-
-  -- what blocks count, one behind the other
-  sums-open : (block part : ℕ → ℕ → ℕ) → ((a b : ℕ) → outer n size a ≡ true → outer n size b ≡ true → block a (b + 1) ≡ part a b) → {q c : ℕ} {cs : List ℕ} → Blocks size last q c cs
-      → sum_from block k n size (q * size) ≡ open_sum part (q * size) c cs
-  unfolding open_sum
-  sums-open block part each (final q a b) =
-      sum_last block k n size (q * size) (omega arith) (rw meets (omega arith))
-      ∙ rw (le-ltb (n - q * size) 2 (omega arith))
-      (ap (block (q * size)) (sym top) ∙ each (q * size) last (outer_multiple n size q (q * size) some refl) (outer_last n size last top))
-  sums-open block part each (more q c cs r) =
-      let i = ahead some r in
-      let j = reaches some r in
-      let e : q * size + size ≡ (q + 1) * size = omega arith in
-      let d : q * size + (size + 1) ≡ (q + 1) * size + 1 = omega arith in
-      let here = each (q * size) ((q + 1) * size) (outer_multiple n size q (q * size) some refl) (outer_multiple n size (q + 1) ((q + 1) * size) some refl) in
-      let behind = sums-open block part each r in
-      sum_more block k n size (q * size) some (rw meets (omega arith)) ∙ rw (meets, d, e) (omega (arith, here, behind))
+  unfolding ways_of
+  block_run a b x y =
+      ways_headed (start_of k ms n a) (end_of k ms n (b + 1)) (λ s e. run_of (part_at ms a b) a s e tol)
+      ∙ ap (λ (S : Answer Point). headed refused S (outcome (end_of k ms n (b + 1))) (λ s e. run_of (part_at ms a b) a s e tol)) (at_outer (λ w. w.start) (own_start (By k) ms n a) ms n size a x _ refl)
+      ∙ ap (λ (E : Answer Point). headed refused (start_in (By k) ms n size a) E (λ s e. run_of (part_at ms a b) a s e tol)) (at_outer (λ w. w.end) (own_end (By k) ms n b) ms n size b y _ refl)
 
   blocks-open : {q c : ℕ} {cs : List ℕ} → Blocks size last q c cs → blocks_from k ms n size tol (q * size) ≡ open_of (start_in (By k) ms n size) (end_in (By k) ms n size) ms tol (q * size) c cs
   unfolding open_of
@@ -209,49 +185,3 @@ run-open (By k) ms tol n size last meets some top even {c} {cs} r = from_count k
 
     many : count ms ≡ n
     many = omega arith
-
--- ---- what it takes, and its blocks
-
--- one for each part
-open_ones : (a b : ℕ) (cs : List ℕ) → open_sum (λ a b. 1) a b cs ≡ length cs + 1
-unfolding open_sum
-open_ones a b [] = refl
-open_ones a b (c ∷ cs) = let i = open_ones b c cs in omega arith
-
-module _ (k : Cutting) (ms : List Float) (tol : Float) (n size last : ℕ) (meets : over k ≡ 1) (some : 0 < size) (top : last + 1 ≡ n) {c : ℕ} {cs : List ℕ} (r : Blocks size last 0 c cs) where
-  sums_from : (block part : ℕ → ℕ → ℕ) → ((a b : ℕ) → outer n size a ≡ true → outer n size b ≡ true → block a (b + 1) ≡ part a b) → sum_from block k n size 0 ≡ open_sum part 0 c cs
-  sums_from block part each =
-      let none : 0 ≡ 0 * size = omega arith in
-      ap (sum_from block k n size) none ∙ sums-open k ms tol n size last meets some top block part each r ∙ ap (λ (i : ℕ). open_sum part i c cs) (sym none)
-
-  blocks_took_is : (each : ℕ → ℕ) → count ms ≡ n → blocks_took each k ms size tol ≡ open_sum (took_at each (start_in (By k) ms n size) (end_in (By k) ms n size) ms tol) 0 c cs
-  unfolding blocks_took
-  blocks_took_is each e =
-      ap (λ (m : ℕ). sum_from (block_took each k ms m tol) k m size 0) e
-      ∙ sums_from (block_took each k ms n tol) (took_at each (start_in (By k) ms n size) (end_in (By k) ms n size) ms tol) (λ a b x y. block_headed k ms tol n size last meets some top (λ q. 0) (λ s e. took_of each (part_at ms a b) s e tol) a b x y)
-
-  blocks_many_is : blocks_many k n size ≡ length cs + 1
-  unfolding blocks_many
-  blocks_many_is = sums_from (λ from to. 1) (λ a b. 1) (λ a b x y. refl) ∙ open_ones 0 c cs
-
-module _ (w : Ways) (ms : List Float) (tol : Float) (n size last : ℕ) (meets : size + 1 ≡ n) (some : 0 < size) (top : last + 1 ≡ n) (even : length ms ≡ 2 * n) where
-  given_took : (each : ℕ → ℕ) {q c : ℕ} {cs : List ℕ} → q ≡ 0 → Blocks size last q c cs
-      → (took_of each ms w.start w.end tol ≡ open_sum (took_at each (start_in (Given w) ms n size) (end_in (Given w) ms n size) ms tol) 0 c cs) × (1 ≡ length cs + 1)
-  unfolding open_sum
-  given_took each z (final q a b) =
-      let all : part_at ms 0 last ≡ ms = take_all (2 * (last + 1) - 2 * 0) ms (omega arith) in (
-        ap (λ (l : List Float). headed (λ q. 0) (ok w.start) (ok w.end) (λ s e. took_of each l s e tol)) (sym all)
-            ∙ ap (λ (S : Answer Point). headed (λ q. 0) S (ok w.end) (λ s e. took_of each (part_at ms 0 last) s e tol)) (at_outer (λ w. w.start) (own_start (Given w) ms n 0) ms n size 0 (outer_multiple n size 0 0 some (omega arith)) _ refl)
-            ∙ ap (λ (E : Answer Point). headed (λ q. 0) (start_in (Given w) ms n size 0) E (λ s e. took_of each (part_at ms 0 last) s e tol)) (at_outer (λ w. w.end) (own_end (Given w) ms n last) ms n size last (outer_last n size last top) _ refl),
-        refl,
-      )
-  given_took each z (more q c cs r) = let i = ahead some r in let j = reaches some r in let u : q * size ≡ 0 = rw z (omega arith) in absurd (omega arith)
-
-pub took_open : (each : ℕ → ℕ) (h : Heading) (ms : List Float) (tol : Float) (n size last : ℕ) → Meeting h n size → 0 < size → last + 1 ≡ n → length ms ≡ 2 * n → {c : ℕ} {cs : List ℕ} → Blocks size last 0 c cs
-    → took_in each h ms size tol ≡ open_sum (took_at each (start_in h ms n size) (end_in h ms n size) ms tol) 0 c cs
-took_open each (Given w) ms tol n size last meets some top even r = (given_took w ms tol n size last meets some top even each refl r).0
-took_open each (By k) ms tol n size last meets some top even r = blocks_took_is k ms tol n size last meets some top r each (let m : count ms ≡ n = omega arith in m)
-
-pub many_open : (h : Heading) (ms : List Float) (tol : Float) (n size last : ℕ) → Meeting h n size → 0 < size → last + 1 ≡ n → length ms ≡ 2 * n → {c : ℕ} {cs : List ℕ} → Blocks size last 0 c cs → many_in h n size ≡ length cs + 1
-many_open (Given w) ms tol n size last meets some top even r = (given_took w ms tol n size last meets some top even (λ m. m) refl r).1
-many_open (By k) ms tol n size last meets some top even r = blocks_many_is k ms tol n size last meets some top r

@@ -15,12 +15,11 @@ use Rattle.limits.specs.Limits.{most_numbered}
 use Rattle.form.specs.Form.{record_numbers}
 use Rattle.part.specs.Part.{Part, fits, cuts}
 use Rattle.part.specs.Answers.{Did}
-use Rattle.part.proofs.Few.{Few}
 use Rattle.part.specs.declared.Solved.{Solved}
 use Rattle.part.specs.declared.Tried.{Tried}
 use Rattle.part.specs.declared.Tried.TheVariants.{Good, Cut}
 use Rattle.part.specs.declared.Tried.TheVariants.{Refused as TRefused}
-use Rattle.cut.specs.Run.{Run, done, Beside, beside, flat, firsts_of, worsts_of, each_part, each_solution}
+use Rattle.cut.specs.Run.{Run, done, Beside, beside, flat, firsts_of, worsts_of}
 use Rattle.cut.specs.Lent.{Left}
 use Rattle.cut.specs.declared.Fitted.TheVariants.{Curves, Refused}
 use Rattle.cut.proofs.Cut.{from_good, from_cut, from_refused}
@@ -28,12 +27,10 @@ use Rattle.blocks.proofs.Blocks.{prepend, join_prepend, prepend_twice, prepend_n
 use Rattle.blocks.proofs.Sofar.{part_len, take_behind}
 use Rattle.parts.specs.declared.Heading.{Heading}
 use Rattle.parts.specs.Headings.{marks_in, start_in, end_in}
-use Rattle.waiting.specs.Waiting.{part_in, open_of, waits, run_in, took_at, open_sum, took_in, many_in, Took}
-use Rattle.waiting.specs.declared.Counted.TheVariants.{Of}
+use Rattle.waiting.specs.Waiting.{part_in, open_of, waits, run_in}
 use Rattle.waiting.specs.Lent.{Outlined, Within, Room, Blocks}
 use Rattle.waiting.proofs.Open.{open_cut, open-fails, open_last, open_next, at_among, at_inside}
-use Rattle.waiting.proofs.Ends.{Tiled, reaches, tile_of, tiled, tiled_behind, tiled_end, tiled_long, tiled_cut, run-open, took_open, many_open}
-use Rattle.waiting.proofs.Taken.{took_cut, took_last, took_next, part_nine}
+use Rattle.waiting.proofs.Ends.{Tiled, tile_of, tiled, tiled_behind, tiled_end, tiled_long, tiled_cut, run-open}
 use Rattle.waiting.proofs.Steps.{waits-length, waits_push}
 
 -- ---- one value more, behind those that stand
@@ -95,20 +92,6 @@ rest K a b cs = open_of (starts K) (ends K) (marks K) K.tol a b cs
 abbrev pub part : Call → ℕ → ℕ → Part
 part K a b = part_in (starts K) (ends K) (marks K) K.tol a b
 
--- what the run takes, and what the open parts take
-abbrev pub all : Call → (ℕ → ℕ) → ℕ
-all K each = took_in each K.h (marks K) K.size K.tol
-
-abbrev pub open-take : Call → (ℕ → ℕ) → ℕ → ℕ → List ℕ → ℕ
-open-take K each a b cs = open_sum (took_at each (starts K) (ends K) (marks K) K.tol) a b cs
-
--- what is counted so far and what the open parts take is what the run takes; and the counts fit: each part is cut, or ends behind where it starts
-pub record Counts (K : Call) (from to depth parts solutions : ℕ) (O₁ : List ℕ) : Type 0 where
-  pub parts_all : parts + open-take K each_part from to (waits depth O₁) ≡ all K each_part
-  pub solutions_all : solutions + open-take K each_solution from to (waits depth O₁) ≡ all K each_solution
-  pub parts-few : parts + (2 * (length K.P - from) - depth) ≤ 2 * length K.P
-  pub solutions-few : solutions ≤ 9 * parts
-
 pub record Sofar (K : Call) (from to depth made : ℕ) (C₁ : List Float) (F₁ W₁ : List ℕ) (P₁ : List Float) (O₁ : List ℕ) : Type 0 where
   pub cs : List Float
   pub bs : List Beside
@@ -155,32 +138,6 @@ so_first K A to depth O₁ r l =
       lp = refl;
       lo = l;
     }
-
--- nothing is counted yet, and there are as many blocks as ends that wait and one
-pub counts_first : (K : Call) → Asked K → (to depth : ℕ) (O₁ : List ℕ) → Blocks K.size (length K.P - 1) 0 to (waits depth O₁) → Counts K 0 to depth 0 0 O₁
-counts_first K A to depth O₁ r =
-    let o = A.outlined in
-    let top : length K.P - 1 + 1 ≡ length K.P = let t = o.two in omega arith in
-    record {
-      parts_all = omega (arith, took_open each_part K.h (marks K) K.tol (length K.P) K.size (length K.P - 1) o.meeting o.some top o.even r);
-      solutions_all = omega (arith, took_open each_solution K.h (marks K) K.tol (length K.P) K.size (length K.P - 1) o.meeting o.some top o.even r);
-      parts-few = omega arith;
-      solutions-few = omega arith;
-    }
-
-pub blocks-few : (K : Call) → Asked K → (to depth : ℕ) (O₁ : List ℕ) → Blocks K.size (length K.P - 1) 0 to (waits depth O₁) → depth < length K.P
-blocks-few K A to depth O₁ r =
-    let l = waits-length depth O₁ in
-    let t = A.outlined.two in
-    omega (arith, reaches A.outlined.some r)
-
-pub blocks-counted : (K : Call) → Asked K → (to depth : ℕ) (O₁ : List ℕ) → Blocks K.size (length K.P - 1) 0 to (waits depth O₁) → depth + 1 ≡ many_in K.h (length K.P) K.size
-blocks-counted K A to depth O₁ r =
-    let o = A.outlined in
-    let top : length K.P - 1 + 1 ≡ length K.P = let t = o.two in omega arith in
-    let l = waits-length depth O₁ in
-    let m = many_open K.h (marks K) K.tol (length K.P) K.size (length K.P - 1) o.meeting o.some top o.even r in
-    omega (arith, l, m)
 
 -- ---- the loop's head
 
@@ -270,9 +227,9 @@ module _ (H : Head) where
         rw (so.whole, open-fails (starts K) (ends K) (marks K) K.tol (length K.P) o.even o.usable from to q (waits H.depth H.O₁) z.some bounded (from_refused (part K from to) R.r R.p q R.did e)) refl
 
     -- ---- cut
-    module _ (k m : ℕ) (e : R.r ≡ Cut k m) where
-      is_cut : part K from to ≡ cuts k m
-      is_cut = from_cut (part K from to) R.r R.p k m R.did e
+    module _ (k : ℕ) (e : R.r ≡ Cut k) where
+      is_cut : part K from to ≡ cuts k
+      is_cut = from_cut (part K from to) R.r R.p k R.did e
 
       pub cut_inside : (0 < k) × (from + k < to)
       cut_inside = at_inside (starts K) (ends K) (marks K) K.tol (length K.P) o.even o.usable from to numbers.some bounded k is_cut
@@ -286,7 +243,7 @@ module _ (H : Head) where
             cs = so.cs;
             bs = so.bs;
             ps = so.ps;
-            whole = so.whole ∙ ap (prepend so.cs so.bs so.ps) (open_cut (starts K) (ends K) (marks K) K.tol (length K.P) o.even o.usable from to k m (waits H.depth H.O₁) z.some bounded (tile_of so.tiled).free is_cut ∙ ap (rest K from (from + k)) (sym push));
+            whole = so.whole ∙ ap (prepend so.cs so.bs so.ps) (open_cut (starts K) (ends K) (marks K) K.tol (length K.P) o.even o.usable from to k (waits H.depth H.O₁) z.some bounded (tile_of so.tiled).free is_cut ∙ ap (rest K from (from + k)) (sym push));
             tiled = rw push (tiled_cut k cut_inside.0 cut_inside.1 so.tiled);
             nine = so.nine;
             long = so.long;
@@ -303,59 +260,13 @@ module _ (H : Head) where
             lo = simp length-set so.lo;
           }
 
-      -- it came to at most nine solutions, and is counted with them
-      pub cut_nine : m ≤ 9
-      cut_nine = subst Few is_cut (part_nine (starts K) (ends K) (marks K) K.tol from to)
-
-      pub counts_cut : {parts solutions : ℕ} → Counts K from to H.depth parts solutions H.O₁ → Counts K from (from + k) (H.depth + 1) (parts + 1) (solutions + m) (set H.O₁ H.depth to)
-      counts_cut n =
-          let z = numbers in
-          let push : waits (H.depth + 1) (set H.O₁ H.depth to) ≡ to ∷ waits H.depth H.O₁ = waits_push H.depth H.O₁ to (omega (arith, z)) in
-          let p = took_cut each_part (starts K) (ends K) (marks K) K.tol (length K.P) o.even o.usable from to z.some bounded (tile_of so.tiled).free k m is_cut (waits H.depth H.O₁) in
-          let q = took_cut each_solution (starts K) (ends K) (marks K) K.tol (length K.P) o.even o.usable from to z.some bounded (tile_of so.tiled).free k m is_cut (waits H.depth H.O₁) in
-          record {
-            parts_all = rw push (omega (arith, p, n.parts_all));
-            solutions_all = rw push (omega (arith, q, n.solutions_all));
-            parts-few = omega (arith, n.parts-few, z);
-            solutions-few = omega (arith, n.solutions-few, cut_nine);
-          }
-
     -- ---- a curve
     module _ (s : Solved) (e : R.r ≡ Good s) where
-      is_good : part K from to ≡ fits s.curve s.far R.p s.solutions
+      is_good : part K from to ≡ fits s.curve s.far R.p
       is_good = from_good (part K from to) R.r R.p s R.did e
 
       pub good_among : (from + s.far.at ≤ to) × (length R.p ≡ to + 1 - from)
       good_among = at_among (starts K) (ends K) (marks K) K.tol (length K.P) o.even o.usable from to numbers.some bounded s.curve s.far R.p is_good
-
-      -- it came to at most nine solutions, and is counted with them
-      pub good_nine : s.solutions ≤ 9
-      good_nine = subst Few is_good (part_nine (starts K) (ends K) (marks K) K.tol from to)
-
-      -- the last part: all is counted
-      pub counts-done : {parts solutions : ℕ} → Counts K from to H.depth parts solutions H.O₁ → H.depth ≡ 0 → (parts + 1 ≡ all K each_part) × (solutions + s.solutions ≡ all K each_solution)
-      unfolding waits
-      counts-done n d =
-          let z = numbers in
-          let none : waits H.depth H.O₁ ≡ [] = ap (λ (i : ℕ). waits i H.O₁) d in
-          let p = ap (open-take K each_part from to) none ∙ took_last each_part (starts K) (ends K) (marks K) K.tol (length K.P) o.even o.usable from to z.some bounded s.curve s.far R.p is_good in
-          let q = ap (open-take K each_solution from to) none ∙ took_last each_solution (starts K) (ends K) (marks K) K.tol (length K.P) o.even o.usable from to z.some bounded s.curve s.far R.p is_good in
-          (omega (arith, p, n.parts_all), omega (arith, q, n.solutions_all))
-
-      -- one that others wait behind
-      pub counts_next : {parts solutions : ℕ} → Counts K from to H.depth parts solutions H.O₁ → (d : ℕ) → H.depth ≡ d + 1 → Counts K to (get_or H.O₁ d 0) d (parts + 1) (solutions + s.solutions) H.O₁
-      unfolding waits
-      counts_next n d i =
-          let z = numbers in
-          let top : waits H.depth H.O₁ ≡ get_or H.O₁ d 0 ∷ waits d H.O₁ = ap (λ (j : ℕ). waits j H.O₁) (i ∙ add-one d) in
-          let p = ap (open-take K each_part from to) top ∙ took_next each_part (starts K) (ends K) (marks K) K.tol (length K.P) o.even o.usable from to z.some bounded s.curve s.far R.p is_good (get_or H.O₁ d 0) (waits d H.O₁) in
-          let q = ap (open-take K each_solution from to) top ∙ took_next each_solution (starts K) (ends K) (marks K) K.tol (length K.P) o.even o.usable from to z.some bounded s.curve s.far R.p is_good (get_or H.O₁ d 0) (waits d H.O₁) in
-          record {
-            parts_all = omega (arith, p, n.parts_all);
-            solutions_all = omega (arith, q, n.solutions_all);
-            parts-few = omega (arith, n.parts-few, z);
-            solutions-few = omega (arith, n.solutions-few, good_nine);
-          }
 
       module _ (C₂ : List Float) (F₂ W₂ : List ℕ)
           (put : (C₂ ≡ take (record_numbers * H.made) H.C₁ ++ written (flat s.curve s.far.err) (drop (record_numbers * H.made) H.C₁)) × ((F₂ ≡ set H.F₁ H.made from) × (W₂ ≡ set H.W₁ H.made (from + s.far.at)))) where

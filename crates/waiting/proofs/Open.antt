@@ -81,27 +81,27 @@ Free start end ms a b = (j : ℕ) → a < j → j < b → (start j ≡ one (λ w
 
 module _ (start end : ℕ → Answer Point) (ms : List Float) (tol : Float) (n : ℕ) (even : length ms ≡ 2 * n) (usable : Usable ms tol) where
   module _ (a b : ℕ) (some : a < b) (bound : b < n) where
-    pub part_many : count (part_at ms a b) ≡ b + 1 - a
+    part_many : count (part_at ms a b) ≡ b + 1 - a
     part_many = simp (length-take, length-drop) (omega arith)
 
-    pub part_usable : Usable (part_at ms a b) tol
+    part_usable : Usable (part_at ms a b) tol
     part_usable = usable-take (2 * (b + 1) - 2 * a) (usable-drop (2 * a) usable)
 
     -- ---- one that fits, one that fails
 
-    pub at_fits : (c : Curve) (w : Worst) (ps : List Float) {m : ℕ} → part_in start end ms tol a b ≡ fits c w ps m → run_at start end ms tol a b ≡ done (flat c w.err) (beside a (a + w.at) ∷ []) ps
-    at_fits c w ps {m} = go (start a) (end b)
+    pub at_fits : (c : Curve) (w : Worst) (ps : List Float) → part_in start end ms tol a b ≡ fits c w ps → run_at start end ms tol a b ≡ done (flat c w.err) (beside a (a + w.at) ∷ []) ps
+    at_fits c w ps = go (start a) (end b)
       where
-        go : (S E : Answer Point) → headed fails S E (λ s e. part_of (part_at ms a b) s e tol) ≡ fits c w ps m → headed refused S E (λ s e. run_of (part_at ms a b) a s e tol) ≡ done (flat c w.err) (beside a (a + w.at) ∷ []) ps
+        go : (S E : Answer Point) → headed fails S E (λ s e. part_of (part_at ms a b) s e tol) ≡ fits c w ps → headed refused S E (λ s e. run_of (part_at ms a b) a s e tol) ≡ done (flat c w.err) (beside a (a + w.at) ∷ []) ps
         go (no q) E h = let z : ◌≡◌ {A = ℕ} 0 1 = cc in absurd (omega arith)
         go (ok s) (no q) h = let z : ◌≡◌ {A = ℕ} 0 1 = cc in absurd (omega arith)
         go (ok s) (ok e) h = let m = part_many in run_fits (part_at ms a b) a s e tol (omega arith) c w ps h
 
     -- its worst mark is a mark of the part, and each mark has a parameter
-    pub at_among : (c : Curve) (w : Worst) (ps : List Float) {m : ℕ} → part_in start end ms tol a b ≡ fits c w ps m → (a + w.at ≤ b) × (length ps ≡ b + 1 - a)
-    at_among c w ps {m} = go (start a) (end b)
+    pub at_among : (c : Curve) (w : Worst) (ps : List Float) → part_in start end ms tol a b ≡ fits c w ps → (a + w.at ≤ b) × (length ps ≡ b + 1 - a)
+    at_among c w ps = go (start a) (end b)
       where
-        go : (S E : Answer Point) → headed fails S E (λ s e. part_of (part_at ms a b) s e tol) ≡ fits c w ps m → (a + w.at ≤ b) × (length ps ≡ b + 1 - a)
+        go : (S E : Answer Point) → headed fails S E (λ s e. part_of (part_at ms a b) s e tol) ≡ fits c w ps → (a + w.at ≤ b) × (length ps ≡ b + 1 - a)
         go (no q) E h = let z : ◌≡◌ {A = ℕ} 0 1 = cc in absurd (omega arith)
         go (ok s) (no q) h = let z : ◌≡◌ {A = ℕ} 0 1 = cc in absurd (omega arith)
         go (ok s) (ok e) h =
@@ -119,23 +119,23 @@ module _ (start end : ℕ → Answer Point) (ms : List Float) (tol : Float) (n :
 
     -- ---- one that is cut
 
-    pub at_inside : (k : ℕ) {m : ℕ} → part_in start end ms tol a b ≡ cuts k m → (0 < k) × (a + k < b)
-    at_inside k {m} = go (start a) (end b)
+    pub at_inside : (k : ℕ) → part_in start end ms tol a b ≡ cuts k → (0 < k) × (a + k < b)
+    at_inside k = go (start a) (end b)
       where
-        go : (S E : Answer Point) → headed fails S E (λ s e. part_of (part_at ms a b) s e tol) ≡ cuts k m → (0 < k) × (a + k < b)
+        go : (S E : Answer Point) → headed fails S E (λ s e. part_of (part_at ms a b) s e tol) ≡ cuts k → (0 < k) × (a + k < b)
         go (no q) E h = let z : ◌≡◌ {A = ℕ} 0 1 = cc in absurd (omega arith)
         go (ok s) (no q) h = let z : ◌≡◌ {A = ℕ} 0 1 = cc in absurd (omega arith)
         go (ok s) (ok e) h =
-            let l = part_many in
-            let i : Inside (part_at ms a b) k = cuts-inside (part_at ms a b) s e tol k m (omega arith) part_usable h in
+            let m = part_many in
+            let i : Inside (part_at ms a b) k = cuts-inside (part_at ms a b) s e tol k (omega arith) part_usable h in
             (i.0, omega (arith, i))
 
-    module _ (free : Free start end ms a b) (k m : ℕ) (is : part_in start end ms tol a b ≡ cuts k m) where
+    module _ (free : Free start end ms a b) (k : ℕ) (is : part_in start end ms tol a b ≡ cuts k) where
       inside : (0 < k) × (a + k < b)
       inside = at_inside k is
 
       -- the run of the part is that of its sides, each with the tangents by the mark
-      sides : (S E : Answer Point) → headed fails S E (λ s e. part_of (part_at ms a b) s e tol) ≡ cuts k m → start a ≡ S → end b ≡ E
+      sides : (S E : Answer Point) → headed fails S E (λ s e. part_of (part_at ms a b) s e tol) ≡ cuts k → start a ≡ S → end b ≡ E
           → headed refused S E (λ s e. run_of (part_at ms a b) a s e tol) ≡ join k (run_at start end ms tol a (a + k)) (run_at start end ms tol (a + k) b)
       sides (no q) E h x y = let z : ◌≡◌ {A = ℕ} 0 1 = cc in absurd (omega arith)
       sides (ok s) (no q) h x y = let z : ◌≡◌ {A = ℕ} 0 1 = cc in absurd (omega arith)
@@ -168,14 +168,14 @@ module _ (start end : ℕ → Answer Point) (ms : List Float) (tol : Float) (n :
       go (ok s) (ok e) = let m = part_many a b some bound in sized (run_of (part_at ms a b) a s e tol) (run_sized (part_at ms a b) a s e tol (omega arith) (part_usable a b some bound))
 
   -- ---- the law of the engine: a part that is cut at k is its left side, with its own end waiting
-  pub open_cut : (a b k m : ℕ) (cs : List ℕ) → a < b → b < n → Free start end ms a b → part_in start end ms tol a b ≡ cuts k m
+  pub open_cut : (a b k : ℕ) (cs : List ℕ) → a < b → b < n → Free start end ms a b → part_in start end ms tol a b ≡ cuts k
       → open_of start end ms tol a b cs ≡ open_of start end ms tol a (a + k) (b ∷ cs)
   unfolding open_of
-  open_cut a b k m [] some bound free is = let e : k ≡ a + k - a = omega arith in at_cut a b some bound free k m is ∙ ap (λ (i : ℕ). join i (run_at start end ms tol a (a + k)) (run_at start end ms tol (a + k) b)) e
-  open_cut a b k m (c ∷ cs) some bound free is =
+  open_cut a b k [] some bound free is = let e : k ≡ a + k - a = omega arith in at_cut a b some bound free k is ∙ ap (λ (i : ℕ). join i (run_at start end ms tol a (a + k)) (run_at start end ms tol (a + k) b)) e
+  open_cut a b k (c ∷ cs) some bound free is =
       let i = at_inside a b some bound k is in
       let e : k ≡ a + k - a = omega arith in
-      ap (λ (R : Run). join (b - a) R (open_of start end ms tol b c cs)) (at_cut a b some bound free k m is)
+      ap (λ (R : Run). join (b - a) R (open_of start end ms tol b c cs)) (at_cut a b some bound free k is)
       ∙ join_assoc k (b - (a + k)) (b - a) (run_at start end ms tol a (a + k)) (run_at start end ms tol (a + k) b) (open_of start end ms tol b c cs) (omega (arith, i)) (at_long a (a + k) k (omega (arith, i)) (omega (arith, i)) refl)
       ∙ ap (λ (i : ℕ). join i (run_at start end ms tol a (a + k)) (join (b - (a + k)) (run_at start end ms tol (a + k) b) (open_of start end ms tol b c cs))) e
 
@@ -185,7 +185,7 @@ module _ (start end : ℕ → Answer Point) (ms : List Float) (tol : Float) (n :
   open-fails a b q [] some bound is = at_fails a b some bound q is
   open-fails a b q (c ∷ cs) some bound is = ap (λ (R : Run). join (b - a) R (open_of start end ms tol b c cs)) (at_fails a b some bound q is)
 
-  module _ (a b : ℕ) (some : a < b) (bound : b < n) (c : Curve) (w : Worst) (ps : List Float) {m : ℕ} (is : part_in start end ms tol a b ≡ fits c w ps m) where
+  module _ (a b : ℕ) (some : a < b) (bound : b < n) (c : Curve) (w : Worst) (ps : List Float) (is : part_in start end ms tol a b ≡ fits c w ps) where
     pub open_last : open_of start end ms tol a b [] ≡ done (flat c w.err) (beside a (a + w.at) ∷ []) ps
     unfolding open_of
     open_last = at_fits a b some bound c w ps is

@@ -173,8 +173,8 @@ pub ready_outlined : (h : Heading) (ms round : List Float) (tail size : ℕ) (to
 ready_outlined h ms round tail size tol C F W P ready some meets laid reach =
     record { usable = ready.usable; even = ready.even; two = ready.two; near = let n = ready.near in omega arith; some = some; meeting = meets; laid = laid; reach = reach }
 
-pub ready-room : {ms : List Float} {tol : Float} {C : List Float} {F W : List ℕ} {P : List Float} {o : ℕ} → Ready ms 0 tol C F W P → length P ≤ o → Room (length P) (length C) (length F) (length W) o
-ready-room ready h = (ready.curves, (ready.firsts, (ready.worsts, h)))
+pub ready_room : {ms : List Float} {tol : Float} {C : List Float} {F W : List ℕ} {P : List Float} {o : ℕ} → Ready ms 0 tol C F W P → length P ≤ o → Room (length P) (length C) (length F) (length W) o
+ready_room ready h = (ready.curves, (ready.firsts, (ready.worsts, h)))
 
 pub laid-open : (h : Heading) (ms round : List Float) (tail : ℕ) → outline_in h ≡ Open → Laid (outline_in h) ms round tail
 laid-open h ms round tail e = rw e tt

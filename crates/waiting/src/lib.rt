@@ -1,5 +1,7 @@
 // The second engine: it never calls itself. Of the parts that are still open it keeps the numbers of their last marks in a lent slice, the next one last, and
 // works them off from left to right: each starts where the one before it has ended, and tangents are worked out again from the marks about its ends.
+#![tactic(auto)]
+
 ghost use Rattle.std.specs.Prelude.{◌≡◌, ◌++◌, ◌+◌, ◌-◌, ◌*◌, ◌≤◌, ◌<◌, length, take, drop, set};
 ghost use Rattle.float.specs.Slices.{written};
 ghost use Rattle.limits.specs.Limits.{most_numbered};
@@ -12,9 +14,10 @@ ghost use Rattle.part.specs.Answers.{Did};
 ghost use Rattle.cut.specs.Run.{flat};
 ghost use Rattle.cut.specs.Lent.{Left, Ready};
 ghost use Rattle.parts.specs.Headings.{outline_in, marks_in, start_in, end_in};
-ghost use Rattle.waiting.specs.Waiting.{part_at, part_in, waits, run_in, fitted_in, Took};
+ghost use Rattle.waiting.specs.Waiting.{part_at, part_in, waits, run_in};
 ghost use Rattle.waiting.specs.Lent.{Meeting, Outlined, Within, Room, Blocks};
 
+use cut::Fitted;
 use float::refusal::NOT_FINITE;
 use form::RECORD_NUMBERS;
 use marks::Way;
@@ -22,22 +25,6 @@ use part::{Solved, Tried};
 use parts::Heading;
 use plane::Point;
 use ring::Outline;
-
-// What a run took: how many blocks it had, how many curves it came to, how many parts were tried, and to how many least-squares solutions these came.
-#[derive(Drop)]
-pub struct Cost {
-    pub blocks: usize,
-    pub curves: usize,
-    pub parts: usize,
-    pub solutions: usize,
-}
-
-// What a run took, or its refusal by number.
-#[derive(Drop)]
-pub enum Counted {
-    Of(Cost),
-    Refused(u32),
-}
 
 // What the marks from `from` to `to` come to as one part. Those of a closed outline's last part stand in `round`, which begins with mark `tail` and has mark 0 behind the last.
 fn try_marks(
@@ -112,7 +99,7 @@ fn put_curve(
 }
 
 // Where the engine starts: the end of the first part, and how many ends wait.
-#[derive(Drop)]
+#[derive(Clone, Copy)]
 struct Waiting {
     to: usize,
     depth: usize,
@@ -135,7 +122,7 @@ fn wait_blocks(last: usize, size: usize, open: &mut [u32]) -> Waiting
     Waiting { to: stop, depth }
 }
 
-// The curves of all open parts, from left to right, and what they took. A part that is over the tolerance is cut: its own end waits, and its left side is next.
+// The curves of all open parts, from left to right. A part that is over the tolerance is cut: its own end waits, and its left side is next.
 fn work_off(
     heading: Heading,
     marks: &[f64],
@@ -148,21 +135,17 @@ fn work_off(
     worsts: &mut [u32],
     params: &mut [f64],
     open: &mut [u32],
-) -> Counted
+) -> Fitted
     requires outlined { Outlined heading marks.now round.now tail (length params.old) size tolerance }
     requires room { Room (length params.old) (length curves.old) (length firsts.old) (length worsts.old) (length «open».old) }
-    ensures left { Left (run_in heading (marks_in heading marks.now) size tolerance) (fitted_in result) curves.old curves.new firsts.old firsts.new worsts.old worsts.new params.new }
-    ensures took { Took result heading (marks_in heading marks.now) (length params.old) size tolerance }
+    ensures { Left (run_in heading (marks_in heading marks.now) size tolerance) result curves.old curves.new firsts.old firsts.new worsts.old worsts.new params.new }
 {
     let n = params.len();
     let first = wait_blocks(n - 1, size, open);
     let mut from = 0;
     let mut to = first.to;
     let mut depth = first.depth;
-    let blocks = depth + 1;
     let mut made = 0;
-    let mut parts = 0;
-    let mut solutions = 0;
     loop {
         let past = to + 1;
         let tried = try_between(
@@ -177,35 +160,24 @@ fn work_off(
             tolerance,
             &mut params[from..past],
         );
-        parts += 1;
         match tried {
             Tried::Good(s) => {
                 put_curve(curves, firsts, worsts, made, from, s);
                 made += 1;
-                solutions += s.solutions;
                 if depth == 0 {
-                    return Counted::Of(Cost {
-                        blocks,
-                        curves: made,
-                        parts,
-                        solutions,
-                    });
+                    return Fitted::Curves(made);
                 }
                 depth -= 1;
                 from = to;
                 to = open[depth] as usize;
             }
-            Tried::Cut {
-                at,
-                solutions: more,
-            } => {
+            Tried::Cut(at) => {
                 let cut = from + at;
                 open[depth] = to as u32;
                 depth += 1;
-                solutions += more;
                 to = cut;
             }
-            Tried::Refused(q) => return Counted::Refused(q),
+            Tried::Refused(q) => return Fitted::Refused(q),
         }
     }
 }
@@ -232,11 +204,10 @@ fn fit_round(
     worsts: &mut [u32],
     params: &mut [f64],
     open: &mut [u32],
-) -> Counted
+) -> Fitted
     requires heading_value { (outline_in heading ≡ outline.Closed) × ((0 < size) × ((size ≤ 200) × Meeting heading (length params.old) size)) }
     requires ready { Ready (marks_in heading marks.now) 0 tolerance curves.old firsts.old worsts.old params.old × (length params.old ≤ length «open».old) }
-    ensures left { Left (run_in heading (marks_in heading marks.now) size tolerance) (fitted_in result) curves.old curves.new firsts.old firsts.new worsts.old worsts.new params.new }
-    ensures took { Took result heading (marks_in heading marks.now) (length params.old) size tolerance }
+    ensures { Left (run_in heading (marks_in heading marks.now) size tolerance) result curves.old curves.new firsts.old firsts.new worsts.old worsts.new params.new }
 {
     let n = params.len();
     let tail = tail_of(n, size);
@@ -269,11 +240,10 @@ pub fn fit_waiting(
     worsts: &mut [u32],
     params: &mut [f64],
     open: &mut [u32],
-) -> Counted
+) -> Fitted
     requires size_nonzero { (0 < size) × (Meeting heading (length params.old) size × (outline_in heading ≡ outline.Closed → size ≤ 200)) }
     requires ready { Ready (marks_in heading marks.now) 0 tolerance curves.old firsts.old worsts.old params.old × (length params.old ≤ length «open».old) }
-    ensures left { Left (run_in heading (marks_in heading marks.now) size tolerance) (fitted_in result) curves.old curves.new firsts.old firsts.new worsts.old worsts.new params.new }
-    ensures took { Took result heading (marks_in heading marks.now) (length params.old) size tolerance }
+    ensures { Left (run_in heading (marks_in heading marks.now) size tolerance) result curves.old curves.new firsts.old firsts.new worsts.old worsts.new params.new }
 {
     match parts::outline_in(heading) {
         Outline::Closed => fit_round(

@@ -4,13 +4,12 @@ use Rattle.plane.specs.declared.Point.{Point}
 use Rattle.plane.specs.declared.Curve.{Curve}
 use Rattle.fit.specs.Fit.{Ending}
 use Rattle.flat_fit.specs.Flat.{FlatEnding}
-use Rattle.flat_fit.specs.Counted.{CountedEnding}
 use Rattle.reader.specs.Reader.{Found, Outcome}
 use Rattle.writer.specs.Writer.{Writing}
 use Rattle.lines.specs.Handed.{Handed}
 use Rattle.salvaging.specs.Salvage.{Sizes, Salvage}
 use Rattle.import.specs.Import.{Drawn, Left}
-use Rattle.border.specs.Crossing.{Crossed, count_crossed, cost_crossed, found_crossed, salvaged_crossed, drawn_crossed}
+use Rattle.border.specs.Crossing.{Crossed, count_crossed, found_crossed, salvaged_crossed, drawn_crossed}
 
 -- ---- a fit
 
@@ -38,22 +37,6 @@ flat_left a C F W P O = record { fit = fit_left a C F W P; parts = O }
 
 abbrev pub left_by_flat : FlatEnding → FlatLeft
 left_by_flat E = record { fit = left_by E.fit; parts = E.parts }
-
--- ---- the same, and what it took
-
-pub record CountedLeft : Type 0 where
-  pub answer : Crossed (List ℕ)
-  pub curves : List Float
-  pub firsts : List ℕ
-  pub worsts : List ℕ
-  pub params : List Float
-  pub parts : List ℕ
-
-abbrev pub counted_left : Crossed (List ℕ) → List Float → List ℕ → List ℕ → List Float → List ℕ → CountedLeft
-counted_left a C F W P O = record { answer = a; curves = C; firsts = F; worsts = W; params = P; parts = O }
-
-abbrev pub left_by_counted : CountedEnding → CountedLeft
-left_by_counted E = counted_left (cost_crossed E.answer) E.curves E.firsts E.worsts E.params E.parts
 
 -- ---- a curve in its points
 

@@ -1,5 +1,7 @@
 // What C and Rust call: each public call of the libraries, by its name behind `wes_`. A slice is a pointer and a length there. The answer is a number, as `border` has it, and the
 // values go through references. bindings/c/wesalondo.h declares these functions, and says in plain words what each does.
+#![tactic(auto)]
+
 ghost use Rattle.std.specs.Prelude.{◌≡◌, []};
 ghost use Rattle.std.specs.Float.{binary64};
 ghost use Rattle.root.specs.Root.{sqrt};
@@ -13,7 +15,6 @@ ghost use Rattle.parts.specs.declared.Heading.TheVariants as headings;
 ghost use Rattle.faults.specs.Tests.{curve_of};
 ghost use Rattle.fit.specs.Fit.{fit_of, cubic_of};
 ghost use Rattle.flat_fit.specs.Flat.{flat_of};
-ghost use Rattle.flat_fit.specs.Counted.{counted_of};
 ghost use Rattle.tally.specs.Tally.{joined_blocks};
 ghost use Rattle.checker.specs.Check.{place, check_of};
 ghost use Rattle.bezier.specs.Calls.{basis_call, casteljau4_call, casteljau3_call, casteljau2_call, coefficients_call, subdivide4_call, refine_call};
@@ -27,12 +28,10 @@ ghost use Rattle.saving.specs.Saving.{saved_of};
 ghost use Rattle.packer.specs.Packer.{pack_of};
 ghost use Rattle.unpacker.specs.Unpacker.{unpack_of};
 ghost use Rattle.salvaging.specs.Salvage.{sizes, salvage_of};
-ghost use Rattle.totals.specs.Totals.{entered};
-ghost use Rattle.counting.specs.Counting.{entry_of};
 ghost use Rattle.export.specs.Export.{export_of};
 ghost use Rattle.import.specs.Import.{import_of};
-ghost use Rattle.border.specs.Crossing.{outline_for, form_for, crossed, number_crossed, point_crossed, coefficients_crossed, parts, halves_crossed, nearest, nearest_crossed, verdict_crossed, found, drawn, totals_for, season, entered_crossed};
-ghost use Rattle.wesalondo.specs.Left.{fit_left, left_by, flat_left, left_by_flat, counted_left, left_by_counted, on_points, read_left, left_by_reader, bytes_left, left_by_writer, left_with_text, salvage_left, left_by_salvage, drawn_left, left_by_import};
+ghost use Rattle.border.specs.Crossing.{outline_for, form_for, crossed, number_crossed, point_crossed, coefficients_crossed, parts, halves_crossed, nearest, nearest_crossed, verdict_crossed, found, drawn};
+ghost use Rattle.wesalondo.specs.Left.{fit_left, left_by, flat_left, left_by_flat, on_points, read_left, left_by_reader, bytes_left, left_by_writer, left_with_text, salvage_left, left_by_salvage, drawn_left, left_by_import};
 
 use plane::Point;
 
@@ -197,26 +196,6 @@ pub extern "C" fn wes_fit_ring_flat(
 {
     let answer = flat_fit::fit_ring_flat(marks, tolerance, curves, firsts, worsts, params, open);
     border::put_fitted(answer, made)
-}
-
-// The joined fit of an open outline, and what it took.
-#[unsafe(no_mangle)]
-pub extern "C" fn wes_fit_joined_counted(
-    marks: &[f64],
-    tolerance: f64,
-    curves: &mut [f64],
-    firsts: &mut [u32],
-    worsts: &mut [u32],
-    params: &mut [f64],
-    open: &mut [u32],
-    counts: &mut [usize; 4],
-) -> u32
-    ensures { counted_left (crossed result counts.new) curves.new firsts.new worsts.new params.new «open».new ≡ left_by_counted (counted_of (headings.By cuttings.Joined) marks.now tolerance curves.old firsts.old worsts.old params.old «open».old) }
-{
-    let answer = flat_fit::fit_joined_counted(
-        marks, tolerance, curves, firsts, worsts, params, open,
-    );
-    border::put_counted(answer, counts)
 }
 
 // ---- checkers
@@ -536,17 +515,6 @@ pub extern "C" fn wes_salvage(
 {
     let answer = salvaging::salvage(file, out, report);
     border::put_salvaged(answer, size, report_size)
-}
-
-// What a file's outline comes to, entered into a season's totals.
-#[unsafe(no_mangle)]
-pub extern "C" fn wes_count_file(file: &[u8], totals: &mut [u64; 7], counts: &mut [u64; 5]) -> u32
-    ensures { season (crossed result counts.new) totals.new ≡ entered_crossed (entered (entry_of file.now) (totals_for totals.old)) }
-{
-    let entry = counting::count_file(file);
-    let before = border::totals_for(totals);
-    let after = totals::enter(entry, before);
-    border::put_entered(after, totals, counts)
 }
 
 // ---- path data

@@ -1,10 +1,12 @@
 // Words of a line as numbers: 16 upper-case hex digits, or a decimal number with no needless zero in front, so that what `text` writes is read
 // back and nothing looser is taken. A word that is anything else is bad.
+#![tactic(auto)]
+
 ghost use Rattle.std.specs.Prelude.{◌≡◌, ◌<◌};
 ghost use Rattle.words.specs.Words.{digit_of, number_from, hex_of, plain_of, decimal_of};
 
 // The number that a word stands for, or that it stands for none.
-#[derive(Drop)]
+#[derive(Clone, Copy)]
 pub enum Read {
     Number(u64),
     Bad,

@@ -1,4 +1,6 @@
 // The house file, written. Numbers stand as the bit patterns of `f64`, so that every pattern, a NaN's too, is kept as it is.
+#![tactic(auto)]
+
 mod records;
 
 ghost use Rattle.std.specs.Prelude.{◌≡◌};
@@ -12,7 +14,7 @@ use limits::MOST_MARKS;
 use records::{can_hold, put_file};
 
 // How many bytes were written; or why none were.
-#[derive(Drop)]
+#[derive(Clone, Copy)]
 pub enum Wrote {
     Bytes(usize),
     Refused(u32),

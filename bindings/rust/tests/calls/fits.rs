@@ -3,17 +3,8 @@ use crate::common::{flat, Kind, Room};
 use crate::{wave, ALONG, BACK, OUT};
 use wesalondo::*;
 
-const KINDS: [Kind; 9] = [
-    Kind::Joined,
-    Kind::Ring,
-    Kind::Curve,
-    Kind::Loop,
-    Kind::Cubic(ALONG, BACK),
-    Kind::JoinedFlat,
-    Kind::RingFlat,
-    Kind::CubicFlat(ALONG, BACK),
-    Kind::Counted,
-];
+const KINDS: [Kind; 8] =
+    [Kind::Joined, Kind::Ring, Kind::Curve, Kind::Loop, Kind::Cubic(ALONG, BACK), Kind::JoinedFlat, Kind::RingFlat, Kind::CubicFlat(ALONG, BACK)];
 
 /// The refusal of a raw fit, in room for `n` marks that `cut` may have made shorter; what it leaves behind is looked at.
 fn refused(kind: Kind, numbers: &[f64], tolerance: f64, cut: impl Fn(&mut Room)) -> u32 {

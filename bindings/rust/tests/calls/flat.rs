@@ -3,7 +3,7 @@ use crate::common::{list_bits, Kind, Room};
 use crate::{wave, ALONG, BACK};
 use wesalondo::*;
 
-const KINDS: [Kind; 4] = [Kind::JoinedFlat, Kind::RingFlat, Kind::CubicFlat(ALONG, BACK), Kind::Counted];
+const KINDS: [Kind; 3] = [Kind::JoinedFlat, Kind::RingFlat, Kind::CubicFlat(ALONG, BACK)];
 
 /// The stack of a thread that a flat fit runs in, in bytes.
 const SMALL: usize = 32 << 10;
@@ -16,10 +16,6 @@ fn fit_lent<'a>(kind: Kind, marks: &[Point], tolerance: f64, room: &'a mut Room)
         Kind::JoinedFlat => fit_joined_flat_in(marks, tolerance, lent),
         Kind::RingFlat => fit_ring_flat_in(marks, tolerance, lent),
         Kind::CubicFlat(start, end) => fit_curve_cubic_flat_in(marks, start, end, tolerance, lent),
-        Kind::Counted => fit_joined_counted_in(marks, tolerance, lent).map(|(list, cost)| {
-            assert_eq!(Ok(cost), fit_joined_counted(marks, tolerance).map(|(_, cost)| cost));
-            list
-        }),
         other => panic!("{other:?} is no flat fit"),
     }
 }

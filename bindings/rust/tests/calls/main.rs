@@ -9,7 +9,6 @@ mod kinds;
 mod packing;
 mod paths;
 mod salvaging;
-mod season;
 mod single;
 mod texts;
 mod types;

@@ -13,8 +13,6 @@ pub enum Kind {
     JoinedFlat,
     RingFlat,
     CubicFlat(Point, Point),
-    /// The joined one of the second engine, with what it took.
-    Counted,
 }
 
 impl Kind {
@@ -29,11 +27,6 @@ impl Kind {
             Kind::JoinedFlat => fit_joined_flat(marks, tolerance),
             Kind::RingFlat => fit_ring_flat(marks, tolerance),
             Kind::CubicFlat(start, end) => fit_curve_cubic_flat(marks, start, end, tolerance),
-            Kind::Counted => fit_joined_counted(marks, tolerance).map(|(fit, cost)| {
-                assert_eq!(cost.curves, fit.len());
-                expect_cost(marks.len(), cost);
-                fit
-            }),
         }
     }
 
@@ -59,17 +52,6 @@ impl Kind {
             Kind::CubicFlat(s, e) => unsafe {
                 sys::wes_fit_curve_cubic_flat(mp, ml, s.x, s.y, e.x, e.y, tolerance, cp, cl, fp, fl, wp, wl, pp, pl, op, ol, made)
             },
-            Kind::Counted => {
-                let mut counts = [7; 4];
-                // SAFETY: as above.
-                let answer = unsafe { sys::wes_fit_joined_counted(mp, ml, tolerance, cp, cl, fp, fl, wp, wl, pp, pl, op, ol, &mut counts) };
-                match answer {
-                    0 => expect_cost(ml / 2, counts.into()),
-                    refused => assert_eq!(counts, [0; 4], "{refused} leaves zeros"),
-                }
-                *made = counts[1];
-                answer
-            }
         }
     }
 
@@ -83,10 +65,9 @@ impl Kind {
         }
     }
 
-    /// This fit, and all that must answer alike: by the second engine if that has it, and if it is the joined one also with what it took.
+    /// This fit, and by the second engine if that has it.
     pub fn engines(self) -> impl Iterator<Item = Kind> {
-        let counted = matches!(self, Kind::Joined).then_some(Kind::Counted);
-        std::iter::once(self).chain(self.flat()).chain(counted)
+        std::iter::once(self).chain(self.flat())
     }
 
     /// Whether mark 0 counts again behind the last.
@@ -96,7 +77,7 @@ impl Kind {
 
     /// Whether it is the second engine's.
     pub fn is_flat(self) -> bool {
-        matches!(self, Kind::JoinedFlat | Kind::RingFlat | Kind::CubicFlat(..) | Kind::Counted)
+        matches!(self, Kind::JoinedFlat | Kind::RingFlat | Kind::CubicFlat(..))
     }
 
     /// How many marks it takes.
@@ -107,13 +88,6 @@ impl Kind {
             100_000
         }
     }
-}
-
-/// What is known of the cost of an accepted fit of n marks.
-pub fn expect_cost(n: usize, cost: Cost) {
-    let Cost { blocks, curves, parts, solutions } = cost;
-    assert_eq!((blocks, parts + blocks), (joined_blocks(n), 2 * curves), "{n} marks: {cost:?}");
-    assert!(solutions <= 9 * parts, "{n} marks: {cost:?}");
 }
 
 /// Room for a raw fit.

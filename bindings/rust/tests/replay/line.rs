@@ -92,8 +92,6 @@ pub fn answer_of(kind: &str, words: &mut Words) -> String {
         "pack" => converted(words, pack_file),
         "unpack" => converted(words, unpack_file),
         "salvage" => cleaned(words),
-        "counted" => counted(words),
-        "enter" => entered(words),
         other => panic!("the kind {other} is not known"),
     };
     assert_eq!(words.0.next(), None, "a word of {kind} is left");
@@ -158,31 +156,6 @@ fn cleaned(words: &mut Words) -> String {
         }
         Err(refusal) => refusal.number().to_string(),
     }
-}
-
-/// What the joined fit took; an odd number of coordinates goes through `sys`.
-fn counted(words: &mut Words) -> String {
-    let (tolerance, numbers) = (words.float(), words.rest());
-    if numbers.len() % 2 == 1 {
-        return fitted_by(Kind::Counted, &numbers, tolerance);
-    }
-    let marks: Vec<Point> = numbers.chunks_exact(2).map(|pair| Point::new(pair[0], pair[1])).collect();
-    match fit_joined_counted(&marks, tolerance) {
-        Ok((_, Cost { blocks, curves, parts, solutions })) => format!("0 {blocks} {curves} {parts} {solutions}"),
-        Err(refusal) => refusal.number().to_string(),
-    }
-}
-
-/// What a house file comes to that is entered into given totals, and these after it.
-fn entered(words: &mut Words) -> String {
-    let [accepted, refused, marks, blocks, curves, parts, solutions] = std::array::from_fn(|_| words.whole());
-    let mut totals = Totals { accepted, refused, marks, blocks, curves, parts, solutions };
-    let answer = count_file(&file(words), &mut totals);
-    let number = answer.map_or_else(|refusal| refusal.number(), |_| 0);
-    let Counts { marks, blocks, curves, parts, solutions } = answer.unwrap_or_default();
-    let five = format!("{marks} {blocks} {curves} {parts} {solutions}");
-    let Totals { accepted, refused, marks, blocks, curves, parts, solutions } = totals;
-    format!("{number} {five} {accepted} {refused} {marks} {blocks} {curves} {parts} {solutions}")
 }
 
 /// What path data draws, in a line of answer.

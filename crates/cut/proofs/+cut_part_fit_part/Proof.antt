@@ -330,7 +330,7 @@ module _ (t : ℕ) where
       let y = c.before.before.before.before.before.before.before.before.before in
       let st = c.before.before.before.before.before.before.before.before.before.before.before.before.before.before.before.before in
       let q = c.before.before.before.before.before in
-      (omega (arith, st.requires.0), laws.cut_asks st.args.marks.now st.args.first st.args.start st.args.end st.args.tolerance st.args.curves.now st.args.firsts.now st.args.worsts.now st.args.params.now y.try-part.new.1.1.1.1.0 y.try-part.result q.tried2.given.0.0 q.tried2.given.0.1.0 st.requires.1 y.try-part.auto.1.1.1.1.0 y.try-part.ensures q.tried2.given.1)
+      (omega (arith, st.requires.0), laws.cut_asks st.args.marks.now st.args.first st.args.start st.args.end st.args.tolerance st.args.curves.now st.args.firsts.now st.args.worsts.now st.args.params.now y.try-part.new.1.1.1.1.0 y.try-part.result q.tried2.given.0.0 st.requires.1 y.try-part.auto.1.1.1.1.0 y.try-part.ensures q.tried2.given.1)
 
   fit-enum-known-tried-3 : of-fit fits.Need-enum-known-tried-3
   fit-enum-known-tried-3 c = search rules
@@ -373,7 +373,7 @@ module _ (t : ℕ) where
       let st = c.before.before.before.before.before.before.before.before.before.before.before.before.before.before.before.before.before.before.before.before.before.before.before.before.before in
       let q = c.before.before.before.before.before.before.before.before.before.before.before.before.before.before in
       let u = c.before.before.before.before.before.before.before.before in
-      laws.fit_cut st.args.marks.now st.args.first st.args.start st.args.end st.args.tolerance (omega (arith, st.requires.1)) st.requires.1.usable y.try-part.result y.try-part.new.1.1.1.1.0 y.try-part.ensures q.tried2.given.0.0 q.tried2.given.0.1.0 u.cut-part.result st.args.curves.now u.cut-part.new.1.1.1.1.1.1.0 st.args.firsts.now u.cut-part.new.1.1.1.1.1.1.1.0 st.args.worsts.now u.cut-part.new.1.1.1.1.1.1.1.1.0 u.cut-part.new.1.1.1.1.1.1.1.1.1.0 q.tried2.given.1 u.cut-part.ensures
+      laws.fit_cut st.args.marks.now st.args.first st.args.start st.args.end st.args.tolerance (omega (arith, st.requires.1)) st.requires.1.usable y.try-part.result y.try-part.new.1.1.1.1.0 y.try-part.ensures q.tried2.given.0.0 u.cut-part.result st.args.curves.now u.cut-part.new.1.1.1.1.1.1.0 st.args.firsts.now u.cut-part.new.1.1.1.1.1.1.1.0 st.args.worsts.now u.cut-part.new.1.1.1.1.1.1.1.1.0 u.cut-part.new.1.1.1.1.1.1.1.1.1.0 q.tried2.given.1 u.cut-part.ensures
 
   fit-same-length-9 : of-fit fits.Need-same-length-9
   fit-same-length-9 c = c.before.before.before.before.before.try-part.auto.1.1.1.1.0

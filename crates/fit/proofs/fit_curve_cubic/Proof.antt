@@ -9,7 +9,7 @@ use Rattle.cut.specs.Run.{run_of}
 use Rattle.ring.specs.declared.Outline.TheVariants.{Open}
 use Rattle.gate.proofs.Tests.{Passed}
 use Rattle.fit.specs.Fit.{fitted_answer, cubic_gate, cubic_of}
-use Rattle.fit.proofs.Entries.{of_count, cubic_passed, passed-ready, Fit, end_gate, Ran, as_long, end_refused, end_done}
+use Rattle.fit.proofs.Entries.{of_count, cubic_passed, passed_ready, Fit, end_gate, Ran, as_long, end_refused, end_done}
 use Rattle.fit.proofs.fit_curve_cubic.Statement.{statement}
 use Rattle.fit.proofs.fit_curve_cubic.Tie as tie
 
@@ -74,7 +74,7 @@ slice-aggregate-fit-part c = let q = (through c.before.before.before.before).par
 fit-part-requires : tie.Need-fit-part-requires
 fit-part-requires c κs =
     let f = (first c.before.before.before.before.before).args in
-    of_count f.marks.now f.tolerance f.curves.now f.firsts.now f.worsts.now f.params.now (0 + count f.marks.now) (count f.marks.now) (omega arith) (passed-ready 512 Open f.marks.now f.tolerance f.curves.now f.firsts.now f.worsts.now f.params.now (omega arith) (through c.before.before.before.before))
+    of_count f.marks.now f.tolerance f.curves.now f.firsts.now f.worsts.now f.params.now (0 + count f.marks.now) (count f.marks.now) (omega arith) (passed_ready 512 Open f.marks.now f.tolerance f.curves.now f.firsts.now f.worsts.now f.params.now (omega arith) (through c.before.before.before.before))
 
 enum-known-out : tie.Need-enum-known-out
 enum-known-out c = search rules

@@ -17,7 +17,7 @@ use Rattle.gate.specs.Gate.{gate_of}
 use Rattle.gate.proofs.Tests.{Passed, passed, passed-even}
 use Rattle.blocks.specs.Blocks.{blocks_of}
 use Rattle.fit.specs.Fit.{fitted_answer, fit_of}
-use Rattle.fit.proofs.Entries.{size_within, of_size, of_outline, of_count, passed-ready, Fit, end_gate, Ran, as_long, end_refused, end_done}
+use Rattle.fit.proofs.Entries.{size_within, of_size, of_outline, of_count, passed_ready, Fit, end_gate, Ran, as_long, end_refused, end_done}
 use Rattle.fit.proofs.fit_cut.Statement.{statement}
 use Rattle.fit.proofs.fit_cut.Tie as tie
 
@@ -120,7 +120,7 @@ fit-blocks-requires : tie.Need-fit-blocks-requires
 fit-blocks-requires c κs =
     let a = c.before.before.before.before.before in
     let f = (first a.before.before).args in
-    (of_count (marks a.before.before) f.tolerance f.curves.now f.firsts.now f.worsts.now f.params.now (again (outline a.before.before) + count f.marks.now) (many a) (omega (arith, more a)) (passed-ready most_marks (outline a.before.before) f.marks.now f.tolerance f.curves.now f.firsts.now f.worsts.now f.params.now (omega arith) (through a.before)), size_within _ c.before.before.before.before.max-points-to-fit.result c.before.before.before.before.max-points-to-fit.ensures)
+    (of_count (marks a.before.before) f.tolerance f.curves.now f.firsts.now f.worsts.now f.params.now (again (outline a.before.before) + count f.marks.now) (many a) (omega (arith, more a)) (passed_ready most_marks (outline a.before.before) f.marks.now f.tolerance f.curves.now f.firsts.now f.worsts.now f.params.now (omega arith) (through a.before)), size_within _ c.before.before.before.before.max-points-to-fit.result c.before.before.before.before.max-points-to-fit.ensures)
 
 enum-known-out : tie.Need-enum-known-out
 enum-known-out c = search rules

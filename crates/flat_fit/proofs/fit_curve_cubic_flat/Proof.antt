@@ -3,11 +3,8 @@ use borrow.Author.Rules.{rules}
 use Rattle.flat_fit.proofs.fit_curve_cubic_flat.Statement.{statement}
 use Rattle.flat_fit.proofs.fit_curve_cubic_flat.Tie as tie
 
-count-flat-requires : tie.Need-count-flat-requires
-count-flat-requires c κs = search rules
-
-fitted-requires : tie.Need-fitted-requires
-fitted-requires c κs = search rules
+fit-flat-requires : tie.Need-fit-flat-requires
+fit-flat-requires c κs = search rules
 
 same_length : tie.Need-same-length
 same_length c = search rules
@@ -25,14 +22,13 @@ same-length-5 : tie.Need-same-length-5
 same-length-5 c = search rules
 
 returns : tie.Need-returns
-returns c = rw c.fitted.ensures c.before.before.before.before.before.before.before.before.before.before.before.count-flat.ensures.0
+returns c = c.before.before.before.before.before.before.before.before.before.before.fit-flat.ensures
 
 pub fit-curve-cubic-flat-spec : {M : Type 1} → statement M
 fit-curve-cubic-flat-spec =
     tie.close
     (tie.spec
-    count-flat-requires
-    fitted-requires
+    fit-flat-requires
     same_length
     same-length-2
     same-length-3

@@ -5,12 +5,9 @@ use Rattle.tangents.specs.Ways.{over}
 use Rattle.flat_fit.proofs.fit_ring_flat.Statement.{statement}
 use Rattle.flat_fit.proofs.fit_ring_flat.Tie as tie
 
-count-flat-requires : tie.Need-count-flat-requires
+fit-flat-requires : tie.Need-fit-flat-requires
 unfolding over
-count-flat-requires c κs = refl
-
-fitted-requires : tie.Need-fitted-requires
-fitted-requires c κs = search rules
+fit-flat-requires c κs = refl
 
 same_length : tie.Need-same-length
 same_length c = search rules
@@ -28,14 +25,13 @@ same-length-5 : tie.Need-same-length-5
 same-length-5 c = search rules
 
 returns : tie.Need-returns
-returns c = rw c.fitted.ensures c.before.before.before.before.before.before.before.before.before.before.before.count-flat.ensures.0
+returns c = c.before.before.before.before.before.before.before.before.before.before.fit-flat.ensures
 
 pub fit-ring-flat-spec : {M : Type 1} → statement M
 fit-ring-flat-spec =
     tie.close
     (tie.spec
-    count-flat-requires
-    fitted-requires
+    fit-flat-requires
     same_length
     same-length-2
     same-length-3

@@ -2,7 +2,7 @@
 use mathlib.Core.Path.{sym, ◌∙◌}
 use native.Mathlib.Omega.{arith}
 use borrow.Author.Rules.{rules}
-use Rattle.packed_heads.proofs.Told.{held-told}
+use Rattle.packed_heads.proofs.Told.{held_told}
 use Rattle.outline.proofs.Ways.{list_long, list_broken, list-few, list_many, list-fit}
 use Rattle.outline.proofs.put_listing.Statement.{statement}
 use Rattle.outline.proofs.put_listing.Tie as tie
@@ -41,7 +41,7 @@ same-length-3 : tie.Need-same-length-3
 same-length-3 c = search rules
 
 returns-3 : tie.Need-returns-3
-returns-3 c = (omega arith, rw (list-few (omega arith) (held-told _ _ _ _ _ (sym c.before.before.before.before.before.before.before.before.find-held.ensures ∙ c.before.before.before.before.before.before.held.given.1)) (omega arith)) c.before.before.put-refusal3.ensures.1)
+returns-3 c = (omega arith, rw (list-few (omega arith) (held_told _ _ _ _ _ (sym c.before.before.before.before.before.before.before.before.find-held.ensures ∙ c.before.before.before.before.before.before.held.given.1)) (omega arith)) c.before.before.put-refusal3.ensures.1)
 
 put-refusal-requires-4 : tie.Need-put-refusal-requires-4
 put-refusal-requires-4 c κs = search rules
@@ -50,16 +50,16 @@ same-length-4 : tie.Need-same-length-4
 same-length-4 c = search rules
 
 returns-4 : tie.Need-returns-4
-returns-4 c = (omega arith, rw (list_many (omega arith) (held-told _ _ _ _ _ (sym c.before.before.before.before.before.before.before.before.before.find-held.ensures ∙ c.before.before.before.before.before.before.before.held.given.1)) (omega arith)) c.before.before.put-refusal4.ensures.1)
+returns-4 c = (omega arith, rw (list_many (omega arith) (held_told _ _ _ _ _ (sym c.before.before.before.before.before.before.before.before.before.find-held.ensures ∙ c.before.before.before.before.before.before.before.held.given.1)) (omega arith)) c.before.before.put-refusal4.ensures.1)
 
 put-fit-requires : tie.Need-put-fit-requires
-put-fit-requires c κs = ((held-told _ _ _ _ _ (sym c.before.before.before.before.before.before.find-held.ensures ∙ c.before.before.before.before.held.given.1)).marks, (omega arith, omega arith))
+put-fit-requires c κs = ((held_told _ _ _ _ _ (sym c.before.before.before.before.before.before.find-held.ensures ∙ c.before.before.before.before.held.given.1)).marks, (omega arith, omega arith))
 
 same-length-5 : tie.Need-same-length-5
 same-length-5 c = search rules
 
 returns-5 : tie.Need-returns-5
-returns-5 c = (omega arith, rw (list-fit (omega arith) (held-told _ _ _ _ _ (sym c.before.before.before.before.before.before.before.before.before.find-held.ensures ∙ c.before.before.before.before.before.before.before.held.given.1)) (omega arith) (omega arith)) c.before.before.put-Fit.ensures.1)
+returns-5 c = (omega arith, rw (list-fit (omega arith) (held_told _ _ _ _ _ (sym c.before.before.before.before.before.before.before.before.before.find-held.ensures ∙ c.before.before.before.before.before.before.before.held.given.1)) (omega arith) (omega arith)) c.before.before.put-Fit.ensures.1)
 
 pub put-listing-spec : {M : Type 1} → statement M
 put-listing-spec =

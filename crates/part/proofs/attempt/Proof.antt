@@ -27,7 +27,7 @@ same_length : tie.Need-same-length
 same_length c = kept c.before.before.before.before.before.before.before
 
 returns : tie.Need-returns
-returns c = solves_no _ _ (attempt_unmade _ _ _ _ _ _ _ _ c.before.before.before.before.before.before.before.reparameterize.ensures.0 c.before.before.before.before.before.before.before.reparameterize.ensures.1 c.before.before.before.before.if1.true (made_lost _ _ c.before.before.generate-bezier.ensures c.enum_told.given.1))
+returns c = solves_no _ _ (attempt_unmade _ _ _ _ _ _ _ c.before.before.before.before.before.before.before.reparameterize.ensures.0 c.before.before.before.before.before.before.before.reparameterize.ensures.1 c.before.before.before.before.if1.true (made_lost _ _ c.before.before.generate-bezier.ensures c.enum_told.given.1))
 
 max-error-for-curve-requires : tie.Need-max-error-for-curve-requires
 max-error-for-curve-requires c κs = omega (arith, kept c.before.before.before.before.before.before.before.before.before)
@@ -42,22 +42,19 @@ same-length-2 : tie.Need-same-length-2
 same-length-2 c = kept c.before.before.before.before.before.before.before.before.before.before.before.before
 
 returns-2 : tie.Need-returns-2
-returns-2 c = solves_no _ _ (attempt-unmeasured _ _ _ _ _ _ _ _ c.before.before.before.before.before.before.before.before.before.before.before.before.reparameterize.ensures.0 c.before.before.before.before.before.before.before.before.before.before.before.before.reparameterize.ensures.1 c.before.before.before.before.before.before.before.before.before.if1.true _ (made_of _ _ _ c.before.before.before.before.before.before.before.generate-bezier.ensures c.before.before.before.before.before.curve.given.1) (far_lost _ _ c.before.before.max-error-for-curve.ensures c.enum-told2.given.1))
-
-add-solutions : tie.Need-overflow-add-solutions
-add-solutions c = omega (arith, c.before.before.before.before.before.before.before.before.before.before.before.before.before.before.before.before.before.requires)
+returns-2 c = solves_no _ _ (attempt-unmeasured _ _ _ _ _ _ _ c.before.before.before.before.before.before.before.before.before.before.before.before.reparameterize.ensures.0 c.before.before.before.before.before.before.before.before.before.before.before.before.reparameterize.ensures.1 c.before.before.before.before.before.before.before.before.before.if1.true _ (made_of _ _ _ c.before.before.before.before.before.before.before.generate-bezier.ensures c.before.before.before.before.before.curve.given.1) (far_lost _ _ c.before.before.max-error-for-curve.ensures c.enum-told2.given.1))
 
 same-length-3 : tie.Need-same-length-3
 same-length-3 c = kept c.before.before.before.before.before.before.before.before.before.before.before.before.before
 
 returns-3 : tie.Need-returns-3
-returns-3 c = solves_ok _ _ _ (attempt-done _ _ _ _ _ _ _ _ c.before.before.before.before.before.before.before.before.before.before.before.before.before.reparameterize.ensures.0 c.before.before.before.before.before.before.before.before.before.before.before.before.before.reparameterize.ensures.1 c.before.before.before.before.before.before.before.before.before.before.if1.true _ (made_of _ _ _ c.before.before.before.before.before.before.before.before.generate-bezier.ensures c.before.before.before.before.before.before.curve.given.1) _ (far-mark _ _ _ c.before.before.before.max-error-for-curve.ensures c.before.far.given.1))
+returns-3 c = solves_ok _ _ _ (attempt-done _ _ _ _ _ _ _ c.before.before.before.before.before.before.before.before.before.before.before.before.before.reparameterize.ensures.0 c.before.before.before.before.before.before.before.before.before.before.before.before.before.reparameterize.ensures.1 c.before.before.before.before.before.before.before.before.before.before.if1.true _ (made_of _ _ _ c.before.before.before.before.before.before.before.before.generate-bezier.ensures c.before.before.before.before.before.before.curve.given.1) _ (far-mark _ _ _ c.before.before.before.max-error-for-curve.ensures c.before.far.given.1))
 
 same-length-4 : tie.Need-same-length-4
 same-length-4 c = kept c.before.before.before
 
 returns-4 : tie.Need-returns-4
-returns-4 c = solves_no _ _ (attempt_off _ _ _ _ _ _ _ _ c.before.before.before.reparameterize.ensures.0 c.before.before.before.reparameterize.ensures.1 c.if1.false)
+returns-4 c = solves_no _ _ (attempt_off _ _ _ _ _ _ _ c.before.before.before.reparameterize.ensures.0 c.before.before.before.reparameterize.ensures.1 c.if1.false)
 
 pub attempt-spec : {M : Type 1} → statement M
 attempt-spec =
@@ -74,7 +71,6 @@ attempt-spec =
     enum-told-2
     same-length-2
     returns-2
-    add-solutions
     same-length-3
     returns-3
     same-length-4

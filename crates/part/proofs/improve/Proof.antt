@@ -3,27 +3,26 @@ use borrow.Author.Rules.{rules}
 use borrow.Author.Tests.{not-true, not-false}
 use mathlib.Core.Path.{◌≡◌, refl, sym, ◌∙◌}
 use native.Mathlib.Omega.{arith}
-use Prim.Native.Nat.{◌+◌, ◌≤◌}
 use lib.ListN.{length}
 use Rattle.float.specs.Answer.{outcome}
 use Rattle.part.specs.Trial.{improve}
 use Rattle.part.specs.Answers.{trial_of}
-use Rattle.part.proofs.Trials.{found, lost, one_more, solves_no, solves_ok, improve_end, go_lost, go_off, go_last, go_more}
+use Rattle.part.proofs.Trials.{found, lost, solves_no, solves_ok, improve_end, go_lost, go_off, go_last, go_more}
 use Rattle.part.proofs.improve.Statement.{statement}
 use Rattle.part.proofs.improve.Tie as tie
 
 abbrev invariant-loop : tie.invariant-loop
 invariant-loop marks st et tolerance params₀ s₀ left₀ params s left =
-    (length params ≡ length params₀) × (outcome (improve 7 marks st et tolerance (trial_of s₀ params₀)) ≡ outcome (improve left marks st et tolerance (trial_of s params))) × (s.solutions + left ≤ 9)
+    (length params ≡ length params₀) × (outcome (improve 7 marks st et tolerance (trial_of s₀ params₀)) ≡ outcome (improve left marks st et tolerance (trial_of s params)))
 
 abbrev decreases-loop : tie.decreases-loop
 decreases-loop marks st et tolerance params₀ s₀ left₀ params s left = left
 
 loop-holds : tie.Need-loop-init invariant-loop decreases-loop
-loop-holds c = (refl, refl, omega arith)
+loop-holds c = (refl, refl)
 
 attempt-requires : tie.Need-attempt-requires invariant-loop decreases-loop
-attempt-requires c κs = omega (arith, c.before.before.loop.invariant.2)
+attempt-requires c κs = omega arith
 
 enum-known-next : tie.Need-enum-known-next invariant-loop decreases-loop
 enum-known-next c = search rules
@@ -59,7 +58,7 @@ loop-less : tie.Need-loop-smaller invariant-loop decreases-loop
 loop-less c = omega arith
 
 loop-again : tie.Need-loop-preserved invariant-loop decreases-loop
-loop-again c = (c.before.before.before.before.before.before.before.before.before.before.before.attempt.auto.1.1.1.1.0 ∙ c.before.before.before.before.before.before.before.before.before.before.before.before.before.before.loop.invariant.0, go_more _ _ _ _ _ _ _ _ c.before.before.before.before.before.before.before.before.before.before.before.before.before.before.loop.invariant.1 c.before.before.before.before.before.before.before.before.before.before.before.before.before.loop-test.true _ (found _ _ _ _ c.before.before.before.before.before.before.before.before.before.before.before.attempt.ensures c.before.before.before.before.before.before.before.next.given.1) (sym c.before.before.before.finite.ensures ∙ not-false _ c.before.before.if1.false) c.if2.false, omega (arith, one_more _ _ _ _ _ _ _ (found _ _ _ _ c.before.before.before.before.before.before.before.before.before.before.before.attempt.ensures c.before.before.before.before.before.before.before.next.given.1), c.before.before.before.before.before.before.before.before.before.before.before.before.before.before.loop.invariant.2, c.before.before.before.before.before.before.before.before.before.before.before.before.before.loop-test.true))
+loop-again c = (c.before.before.before.before.before.before.before.before.before.before.before.attempt.auto.1.1.1.1.0 ∙ c.before.before.before.before.before.before.before.before.before.before.before.before.before.before.loop.invariant.0, go_more _ _ _ _ _ _ _ _ c.before.before.before.before.before.before.before.before.before.before.before.before.before.before.loop.invariant.1 c.before.before.before.before.before.before.before.before.before.before.before.before.before.loop-test.true _ (found _ _ _ _ c.before.before.before.before.before.before.before.before.before.before.before.attempt.ensures c.before.before.before.before.before.before.before.next.given.1) (sym c.before.before.before.finite.ensures ∙ not-false _ c.before.before.if1.false) c.if2.false)
 
 same-length-4 : tie.Need-same-length-4 invariant-loop decreases-loop
 same-length-4 c = c.before.loop.invariant.0

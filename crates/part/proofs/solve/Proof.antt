@@ -2,7 +2,7 @@
 use mathlib.Core.Path.{◌≡◌, ◌∙◌}
 use native.Mathlib.Omega.{arith}
 use lib.ListN.{length}
-use Rattle.part.proofs.Trials.{made_of, made_lost, one_more, found, lost, solves_no, solves_ok, solves_same, tried_off, tried_unmade, tried_lost, tried-over, tried-near}
+use Rattle.part.proofs.Trials.{made_of, made_lost, found, lost, solves_no, solves_ok, solves_same, tried_off, tried_unmade, tried_lost, tried-over, tried-near}
 use borrow.Author.Rules.{rules}
 use Rattle.part.proofs.solve.Statement.{statement}
 use Rattle.part.proofs.solve.Tie as tie
@@ -45,7 +45,7 @@ returns-2 : tie.Need-returns-2
 returns-2 c = solves_no _ _ (tried_lost _ _ _ _ _ _ _ c.before.before.before.before.before.before.before.before.before.before.before.before.before.before.chords-for-points.ensures.0 c.before.before.before.before.before.before.before.before.before.before.before.before.before.before.chords-for-points.ensures.1 c.before.before.before.before.before.before.before.before.before.before.before.if1.true _ (made_of _ _ _ c.before.before.before.before.before.before.before.before.before.generate-bezier.ensures c.before.before.before.before.before.before.before.curve.given.1) (lost _ _ _ c.before.before.before.before.attempt.ensures c.enum-told2.given.1))
 
 improve-requires : tie.Need-improve-requires
-improve-requires c κs = let l : length c.before.before.before.before.before.before.before.before.attempt.new.1.1.1.1.0 ≡ length c.before.before.before.before.before.before.before.before.before.before.before.before.before.before.before.before.before.before.before.before.before.before.args.params.now = c.before.before.before.before.before.before.before.before.attempt.auto.1.1.1.1.0 ∙ chords c.before.before.before.before.before.before.before.before.before.before.before.before.before.before.before.before.before.before in (omega (arith, c.before.before.before.before.before.before.before.before.before.before.before.before.before.before.before.before.before.before.before.before.before.before.requires.0), (omega (arith, c.before.before.before.before.before.before.before.before.before.before.before.before.before.before.before.before.before.before.before.before.before.before.requires.1), omega (arith, one_more _ _ _ _ _ _ _ (found _ _ _ _ c.before.before.before.before.before.before.before.before.attempt.ensures c.before.before.before.before.s.given.1))))
+improve-requires c κs = let l : length c.before.before.before.before.before.before.before.before.attempt.new.1.1.1.1.0 ≡ length c.before.before.before.before.before.before.before.before.before.before.before.before.before.before.before.before.before.before.before.before.before.before.args.params.now = c.before.before.before.before.before.before.before.before.attempt.auto.1.1.1.1.0 ∙ chords c.before.before.before.before.before.before.before.before.before.before.before.before.before.before.before.before.before.before in (omega (arith, c.before.before.before.before.before.before.before.before.before.before.before.before.before.before.before.before.before.before.before.before.before.before.requires.0), omega (arith, c.before.before.before.before.before.before.before.before.before.before.before.before.before.before.before.before.before.before.before.before.before.before.requires.1))
 
 same-length-3 : tie.Need-same-length-3
 same-length-3 c = c.before.before.improve.auto.1.1.1.1.1.0 ∙ c.before.before.before.before.before.before.before.before.before.before.before.attempt.auto.1.1.1.1.0 ∙ chords c.before.before.before.before.before.before.before.before.before.before.before.before.before.before.before.before.before.before.before.before.before

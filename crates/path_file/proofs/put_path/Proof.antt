@@ -2,7 +2,7 @@
 use native.Mathlib.Omega.{arith}
 use borrow.Author.Rules.{rules}
 use mathlib.Core.Path.{sym, ◌∙◌}
-use Rattle.packed_heads.proofs.Told.{held-told}
+use Rattle.packed_heads.proofs.Told.{held_told}
 use Rattle.path_file.proofs.Ways.{path_long, path_broken, path_many, path-fit}
 use Rattle.path_file.proofs.put_path.Statement.{statement}
 use Rattle.path_file.proofs.put_path.Tie as tie
@@ -41,16 +41,16 @@ same-length-3 : tie.Need-same-length-3
 same-length-3 c = search rules
 
 returns-3 : tie.Need-returns-3
-returns-3 c = (omega arith, rw (path_many c.before.before.before.before.before.before.before.before.before.before.before.before.args.ring (omega arith) (held-told _ _ _ _ _ (sym c.before.before.before.before.before.before.before.before.find-held.ensures ∙ c.before.before.before.before.before.before.held.given.1)) (omega arith)) c.before.before.put-refusal3.ensures.1)
+returns-3 c = (omega arith, rw (path_many c.before.before.before.before.before.before.before.before.before.before.before.before.args.ring (omega arith) (held_told _ _ _ _ _ (sym c.before.before.before.before.before.before.before.before.find-held.ensures ∙ c.before.before.before.before.before.before.held.given.1)) (omega arith)) c.before.before.put-refusal3.ensures.1)
 
 put-fit-requires : tie.Need-put-fit-requires
-put-fit-requires c κs = ((held-told _ _ _ _ _ (sym c.before.before.before.before.before.find-held.ensures ∙ c.before.before.before.held.given.1)).marks, (omega arith, omega arith))
+put-fit-requires c κs = ((held_told _ _ _ _ _ (sym c.before.before.before.before.before.find-held.ensures ∙ c.before.before.before.held.given.1)).marks, (omega arith, omega arith))
 
 same-length-4 : tie.Need-same-length-4
 same-length-4 c = search rules
 
 returns-4 : tie.Need-returns-4
-returns-4 c = (omega arith, rw (path-fit c.before.before.before.before.before.before.before.before.before.before.before.before.args.ring (omega arith) (held-told _ _ _ _ _ (sym c.before.before.before.before.before.before.before.before.find-held.ensures ∙ c.before.before.before.before.before.before.held.given.1)) (omega arith)) c.before.before.put-Fit.ensures.1)
+returns-4 c = (omega arith, rw (path-fit c.before.before.before.before.before.before.before.before.before.before.before.before.args.ring (omega arith) (held_told _ _ _ _ _ (sym c.before.before.before.before.before.before.before.before.find-held.ensures ∙ c.before.before.before.before.before.before.held.given.1)) (omega arith)) c.before.before.put-Fit.ensures.1)
 
 pub put-path-spec : {M : Type 1} → statement M
 put-path-spec =

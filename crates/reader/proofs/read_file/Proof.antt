@@ -3,7 +3,7 @@ use mathlib.Core.Path.{◌≡◌, sym, ◌∙◌}
 use native.Mathlib.Omega.{arith}
 use Rattle.packed_heads.specs.declared.Held.TheVariants as held
 use Rattle.packed_heads.specs.Layout.{held_layout_of}
-use Rattle.packed_heads.proofs.Told.{HeldTold, held-told}
+use Rattle.packed_heads.proofs.Told.{HeldTold, held_told}
 use Rattle.reader.proofs.Ways.{held-room, read_broken, read_many, read-few, read_short, read-given}
 use borrow.Author.Rules.{rules}
 use Rattle.reader.proofs.read_file.Statement.{statement}
@@ -14,7 +14,7 @@ layout : (c : tie.After-found) → held_layout_of c.before.before.before.before.
 layout c = sym c.before.before.find-held.ensures ∙ c.found.given.1
 
 found : (c : tie.After-found) → HeldTold c.before.before.before.before.before.before.before.before.before.args.file.now c.found.given.0.0 c.found.given.0.1.0 c.found.given.0.1.1.0 c.found.given.0.1.1.1.0
-found c = held-told _ _ _ _ _ (layout c)
+found c = held_told _ _ _ _ _ (layout c)
 
 find-held-requires : tie.Need-find-held-requires
 find-held-requires c κs = search rules

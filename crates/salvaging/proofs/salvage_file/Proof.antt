@@ -1,7 +1,7 @@
 -- `salvaging::salvage_file` meets its contract. Assumes nothing.
 use mathlib.Core.Path.{sym, ◌∙◌}
 use native.Mathlib.Omega.{arith}
-use Rattle.packed_heads.proofs.Told.{held-told}
+use Rattle.packed_heads.proofs.Told.{held_told}
 use Rattle.salvaging.proofs.Ways.{held-few, alone-over, printed_long, printed_broken, printed_many, printed_done}
 use borrow.Author.Rules.{rules}
 use Rattle.salvaging.proofs.salvage_file.Statement.{statement}
@@ -41,10 +41,10 @@ same-length-3 : tie.Need-same-length-3
 same-length-3 c = search rules
 
 returns-3 : tie.Need-returns-3
-returns-3 c = let a = c.before.before.before.before.before.before.before.before.before.before.before.before.before.args in printed_many a.file.now a.out.now a.report.now (omega arith) (held-told _ _ _ _ _ (sym c.before.before.before.before.before.before.before.before.find-held.ensures ∙ c.before.before.before.before.before.before.held.given.1)) (omega arith) (alone-over a.out.now a.report.now 2 c.before.before.refuse3.ensures)
+returns-3 c = let a = c.before.before.before.before.before.before.before.before.before.before.before.before.before.args in printed_many a.file.now a.out.now a.report.now (omega arith) (held_told _ _ _ _ _ (sym c.before.before.before.before.before.before.before.before.find-held.ensures ∙ c.before.before.before.before.before.before.held.given.1)) (omega arith) (alone-over a.out.now a.report.now 2 c.before.before.refuse3.ensures)
 
 clean-requires : tie.Need-clean-requires
-clean-requires c κs = let t = held-told _ _ _ _ _ (sym c.before.before.before.before.before.before.find-held.ensures ∙ c.before.before.before.before.held.given.1) in (t.marks, held-few t)
+clean-requires c κs = let t = held_told _ _ _ _ _ (sym c.before.before.before.before.before.before.find-held.ensures ∙ c.before.before.before.before.held.given.1) in (t.marks, held-few t)
 
 same-length-4 : tie.Need-same-length-4
 same-length-4 c = search rules
@@ -53,7 +53,7 @@ same-length-5 : tie.Need-same-length-5
 same-length-5 c = search rules
 
 returns-4 : tie.Need-returns-4
-returns-4 c = let a = c.before.before.before.before.before.before.before.before.before.before.before.before.before.before.before.before.args in printed_done a.file.now a.out.now a.report.now (omega arith) (held-told _ _ _ _ _ (sym c.before.before.before.before.before.before.before.before.before.before.before.find-held.ensures ∙ c.before.before.before.before.before.before.before.before.before.held.given.1)) (omega arith) c.before.before.before.before.clean.ensures
+returns-4 c = let a = c.before.before.before.before.before.before.before.before.before.before.before.before.before.before.before.before.args in printed_done a.file.now a.out.now a.report.now (omega arith) (held_told _ _ _ _ _ (sym c.before.before.before.before.before.before.before.before.before.before.before.find-held.ensures ∙ c.before.before.before.before.before.before.before.before.before.held.given.1)) (omega arith) c.before.before.before.before.clean.ensures
 
 pub salvage-file-spec : {M : Type 1} → statement M
 salvage-file-spec =

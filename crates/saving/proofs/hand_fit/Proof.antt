@@ -4,7 +4,7 @@ use native.Mathlib.Omega.{arith}
 use borrow.Author.Rules.{rules}
 use lib.Seq.{length-take-le}
 use Rattle.file_fit.proofs.Refused.{other_is}
-use Rattle.saving.proofs.Ways.{fit_is, refused-text, done-text, done-ready}
+use Rattle.saving.proofs.Ways.{fit_is, refused-text, done-text, done_ready}
 use Rattle.saving.proofs.hand_fit.Statement.{statement}
 use Rattle.saving.proofs.hand_fit.Tie as tie
 
@@ -93,7 +93,7 @@ hand-file-requires c κs =
     let p = c.before.before.before.before.before.before.before.before.before.before.before.before.before.before.before.before.before.before.before.before.before.before.before.before.before.before.before.before.before.requires in
     let f = c.before.before.before.before.before.before.before.before.before.before.before.before.fit-joined in
     let h = fit_is a.tolerance a.marks.now _ _ _ _ _ c.before.before.before.before.before.before.before.before.before.before.before.before.before.before.before.before.before.before.before.before.copy-floats.ensures c.before.before.before.before.before.before.before.before.before.before.before.before.before.before.before.before.before.of-bits.ensures c.before.before.before.before.before.before.before.before.before.before.before.before.before.before.before.before.before.before.before.before.before.before.before.before.before.curve-floats.ensures.1 c.before.before.before.before.before.before.before.before.before.before.before.before.before.before.before.before.before.before.before.before.before.before.before.before.first_Marks.ensures.1 c.before.before.before.before.before.before.before.before.before.before.before.before.before.before.before.before.before.before.before.before.before.before.before.first-marks2.ensures.1 c.before.before.before.before.before.before.before.before.before.before.before.before.before.before.before.before.before.before.before.before.before.before.param-floats.ensures.1 f.ensures in
-    done-ready a.tolerance a.marks.now f.result h _ c.before.before.before.before.before.before.fitted.given.1 p.0 p.1 (omega (arith, f.auto.1.1.1.0, c.before.before.before.before.before.before.before.before.before.before.before.before.before.before.before.before.before.before.before.before.before.before.before.before.first_Marks.ensures.0)) (omega (arith, f.auto.1.1.1.1.0, c.before.before.before.before.before.before.before.before.before.before.before.before.before.before.before.before.before.before.before.before.before.before.before.first-marks2.ensures.0)) (omega (arith, f.auto.1.1.0, c.before.before.before.before.before.before.before.before.before.before.before.before.before.before.before.before.before.before.before.before.before.before.before.before.before.curve-floats.ensures.0)) (omega (arith, f.auto.1.1.1.1.1.0, c.before.before.before.before.before.before.before.before.before.before.before.before.before.before.before.before.before.before.before.before.before.before.param-floats.ensures.0))
+    done_ready a.tolerance a.marks.now f.result h _ c.before.before.before.before.before.before.fitted.given.1 p.0 p.1 (omega (arith, f.auto.1.1.1.0, c.before.before.before.before.before.before.before.before.before.before.before.before.before.before.before.before.before.before.before.before.before.before.before.before.first_Marks.ensures.0)) (omega (arith, f.auto.1.1.1.1.0, c.before.before.before.before.before.before.before.before.before.before.before.before.before.before.before.before.before.before.before.before.before.before.before.first-marks2.ensures.0)) (omega (arith, f.auto.1.1.0, c.before.before.before.before.before.before.before.before.before.before.before.before.before.before.before.before.before.before.before.before.before.before.before.before.before.curve-floats.ensures.0)) (omega (arith, f.auto.1.1.1.1.1.0, c.before.before.before.before.before.before.before.before.before.before.before.before.before.before.before.before.before.before.before.before.before.before.param-floats.ensures.0))
 
 same-length-2 : tie.Need-same-length-2
 same-length-2 c = search rules

@@ -7,7 +7,7 @@ use lib.ListN.{length}
 use lib.Seq.{length-take-le}
 use Rattle.marks.specs.Marks.{count}
 use Rattle.ring.specs.Ring.{Even}
-use Rattle.waiting.proofs.Steps.{ready_outlined, ready-room, closed-marks, laid-closed}
+use Rattle.waiting.proofs.Steps.{ready_outlined, ready_room, closed-marks, laid-closed}
 use Rattle.waiting.proofs.fit_round.Statement.{statement}
 use Rattle.waiting.proofs.fit_round.Tie as tie
 
@@ -45,7 +45,7 @@ work-off-requires c κs =
     let t = c.before.before.before.before.before.before.before.before.before.before.Tail-of.ensures in (
       ready_outlined a.heading a.marks.now _ _ a.size a.tolerance a.curves.now a.firsts.now a.worsts.now a.params.now p.1.0 p.0.1.0 p.0.1.1.1
           (laid-closed a.heading a.marks.now (length a.params.now) p.0.0 p.1.0.even p.1.0.two c.before.before.before.before.before.before.before.before.before.before.Tail-of.result _ _ (omega (arith, t)) c.before.before.before.before.before.before.before.lay-round.ensures) (omega (arith, t)),
-      ready-room p.1.0 p.1.1,
+      ready_room p.1.0 p.1.1,
     )
 
 same_length : tie.Need-same-length

@@ -4,7 +4,7 @@ use native.Mathlib.Omega.{arith}
 use mathlib.Core.Path.{◌≡◌, sym, ◌∙◌}
 use Rattle.ring.specs.declared.Outline.TheVariants.{Closed}
 use Rattle.parts.specs.Headings.{outline_in}
-use Rattle.waiting.proofs.Steps.{ready_outlined, ready-room, laid-open}
+use Rattle.waiting.proofs.Steps.{ready_outlined, ready_room, laid-open}
 use Rattle.waiting.proofs.fit_waiting.Statement.{statement}
 use Rattle.waiting.proofs.fit_waiting.Tie as tie
 
@@ -29,7 +29,7 @@ work-off-requires c κs =
     let p = c.before.before.before.before.before.before.before.before.before.before.before.before.before.before.requires in (
       ready_outlined a.heading a.marks.now a.marks.now 0 a.size a.tolerance a.curves.now a.firsts.now a.worsts.now a.params.now p.1.0 p.0.0 p.0.1.0
           (laid-open a.heading a.marks.now a.marks.now 0 (sym c.before.before.before.before.before.before.before.outline-in.ensures ∙ c.before.before.before.before.before.enum-told2.given.1)) (omega arith),
-      ready-room p.1.0 p.1.1,
+      ready_room p.1.0 p.1.1,
     )
 
 same_length : tie.Need-same-length

@@ -3,16 +3,15 @@ use borrow.Author.Rules.{rules}
 use native.Mathlib.Omega.{arith}
 use Prim.Native.Nat.{◌-◌, ◌*◌}
 use mathlib.Core.Path.{refl, ◌∙◌}
-use Rattle.waiting.proofs.Loop.{Call, call, Asked, Sofar, Counts, so_first, counts_first, blocks-few, blocks-counted, Head, numbers, within, Ran, as_long, so_refused, cut_inside, cut_nine, so_cut, counts_cut, good_among, good_nine, counts-done, counts_next, so_done, so_next}
+use Rattle.waiting.proofs.Loop.{Call, call, Asked, Sofar, so_first, Head, numbers, within, Ran, as_long, so_refused, cut_inside, so_cut, good_among, so_done, so_next}
 use Rattle.waiting.proofs.work_off.Statement.{statement}
 use Rattle.waiting.proofs.work_off.Tie as tie
 
 abbrev invariant-loop : tie.invariant-loop
-invariant-loop heading marks round tail size tolerance curves₀ firsts₀ worsts₀ params₀ open₀ n from₀ to₀ depth₀ blocks made₀ parts₀ solutions₀ curves firsts worsts params «open» from to depth made parts solutions =
-    Sofar (call heading marks round tail size tolerance curves₀ firsts₀ worsts₀ params₀ open₀) from to depth made curves firsts worsts params «open» × Counts (call heading marks round tail size tolerance curves₀ firsts₀ worsts₀ params₀ open₀) from to depth parts solutions «open»
+invariant-loop heading marks round tail size tolerance curves₀ firsts₀ worsts₀ params₀ open₀ n from₀ to₀ depth₀ made₀ curves firsts worsts params «open» from to depth made = Sofar (call heading marks round tail size tolerance curves₀ firsts₀ worsts₀ params₀ open₀) from to depth made curves firsts worsts params «open»
 
 abbrev decreases-loop : tie.decreases-loop
-decreases-loop heading marks round tail size tolerance curves₀ firsts₀ worsts₀ params₀ open₀ n from₀ to₀ depth₀ blocks made₀ parts₀ solutions₀ curves firsts worsts params «open» from to depth made parts solutions = 2 * (n - from) - depth
+decreases-loop heading marks round tail size tolerance curves₀ firsts₀ worsts₀ params₀ open₀ n from₀ to₀ depth₀ made₀ curves firsts worsts params «open» from to depth made = 2 * (n - from) - depth
 
 -- ---- what is known at each place
 
@@ -23,7 +22,7 @@ abbrev asks : (c : tie.After-slice-known6 invariant-loop decreases-loop) → Ask
 asks c = let p = c.before.before.before.before.before.before.before.before.before.before.before.requires in record { outlined = p.0; room = (p.1.0, (p.1.1.0, (p.1.1.1.0, omega (arith, p.1, c.before.before.wait-blocks.auto.1.1.0)))) }
 
 abbrev head : tie.At-loop invariant-loop decreases-loop → Head
-head c = record { K = entry c.before; A = asks c.before; from = c.loop.from; to = c.loop.to; depth = c.loop.depth; made = c.loop.made; C₁ = c.loop.curves; F₁ = c.loop.firsts; W₁ = c.loop.worsts; P₁ = c.loop.params; O₁ = c.loop.«open»; so = c.loop.invariant.0 }
+head c = record { K = entry c.before; A = asks c.before; from = c.loop.from; to = c.loop.to; depth = c.loop.depth; made = c.loop.made; C₁ = c.loop.curves; F₁ = c.loop.firsts; W₁ = c.loop.worsts; P₁ = c.loop.params; O₁ = c.loop.«open»; so = c.loop.invariant }
 
 -- a part was tried, and its parameters are back
 abbrev opened : tie.After-slice-known7 invariant-loop decreases-loop → Head
@@ -39,10 +38,7 @@ wait-blocks-requires : tie.Need-wait-blocks-requires invariant-loop decreases-lo
 wait-blocks-requires c κs = let p = c.before.before.before.before.before.before.before.before.requires in (omega (arith, p.0.two), (p.0.some, (omega (arith, p.0.two, p.0.near), omega (arith, p.1))))
 
 loop-holds : tie.Need-loop-init invariant-loop decreases-loop
-loop-holds c = (so_first (entry c) (asks c) _ _ _ c.before.before.wait-blocks.ensures refl, counts_first (entry c) (asks c) _ _ _ c.before.before.wait-blocks.ensures)
-
-add-blocks : tie.Need-overflow-add-blocks invariant-loop decreases-loop
-add-blocks c = omega (arith, blocks-few (entry c) (asks c) _ _ _ c.before.before.wait-blocks.ensures, (asks c).outlined.near)
+loop-holds c = so_first (entry c) (asks c) _ _ _ c.before.before.wait-blocks.ensures refl
 
 add-past : tie.Need-overflow-add-past invariant-loop decreases-loop
 add-past c = omega (arith, numbers (head c))
@@ -62,9 +58,6 @@ part-try-between-end c = omega (arith, numbers (head c))
 try-between-requires : tie.Need-try-between-requires invariant-loop decreases-loop
 try-between-requires c κs = (c.before.before.before.before.before.before.before.before.before.before.before.before.before.requires.0, within (head c.before))
 
-add_parts : tie.Need-overflow-add-parts invariant-loop decreases-loop
-add_parts c = let z = numbers (opened c) in omega (arith, z.near, c.before.before.before.before.loop.invariant.1.parts-few)
-
 enum-known-tried : tie.Need-enum-known-tried invariant-loop decreases-loop
 enum-known-tried c = search rules
 
@@ -76,53 +69,50 @@ put-curve-requires c κs =
 add-made : tie.Need-overflow-add-made invariant-loop decreases-loop
 add-made c = omega (arith, numbers (opened c.before.before.before.before.before.before.before.before.before.before.before.before.before))
 
-add-solutions : tie.Need-overflow-add-solutions invariant-loop decreases-loop
-add-solutions c = let z = numbers (opened c.before.before.before.before.before.before.before.before.before.before.before.before.before.before) in omega (arith, z.near, c.before.before.before.before.before.before.before.before.before.before.before.before.before.before.before.before.before.before.loop.invariant.1.parts-few, c.before.before.before.before.before.before.before.before.before.before.before.before.before.before.before.before.before.before.loop.invariant.1.solutions-few, good_nine (opened c.before.before.before.before.before.before.before.before.before.before.before.before.before.before) (ran c.before.before.before.before.before.before.before.before.before.before.before.before.before.before) c.before.before.before.before.before.before.before.before.before.before.before.before.tried.given.0.0 c.before.before.before.before.before.before.before.before.before.before.before.before.tried.given.1)
-
 same_length : tie.Need-same-length invariant-loop decreases-loop
-same_length c = c.before.before.before.before.before.before.before.before.put-curve.auto.0 ∙ c.before.before.before.before.before.before.before.before.before.before.before.before.before.before.before.before.before.before.before.loop.invariant.0.lc
+same_length c = c.before.before.before.before.before.before.before.put-curve.auto.0 ∙ c.before.before.before.before.before.before.before.before.before.before.before.before.before.before.before.before.before.before.loop.invariant.lc
 
 same-length-2 : tie.Need-same-length-2 invariant-loop decreases-loop
-same-length-2 c = c.before.before.before.before.before.before.before.before.put-curve.auto.1.0 ∙ c.before.before.before.before.before.before.before.before.before.before.before.before.before.before.before.before.before.before.before.loop.invariant.0.lf
+same-length-2 c = c.before.before.before.before.before.before.before.put-curve.auto.1.0 ∙ c.before.before.before.before.before.before.before.before.before.before.before.before.before.before.before.before.before.before.loop.invariant.lf
 
 same-length-3 : tie.Need-same-length-3 invariant-loop decreases-loop
-same-length-3 c = c.before.before.before.before.before.before.before.before.put-curve.auto.1.1.0 ∙ c.before.before.before.before.before.before.before.before.before.before.before.before.before.before.before.before.before.before.before.loop.invariant.0.lw
+same-length-3 c = c.before.before.before.before.before.before.before.put-curve.auto.1.1.0 ∙ c.before.before.before.before.before.before.before.before.before.before.before.before.before.before.before.before.before.before.loop.invariant.lw
 
 same-length-4 : tie.Need-same-length-4 invariant-loop decreases-loop
-same-length-4 c = as_long (opened c.before.before.before.before.before.before.before.before.before.before.before.before.before.before.before) (ran c.before.before.before.before.before.before.before.before.before.before.before.before.before.before.before)
+same-length-4 c = as_long (opened c.before.before.before.before.before.before.before.before.before.before.before.before.before.before) (ran c.before.before.before.before.before.before.before.before.before.before.before.before.before.before)
 
 same-length-5 : tie.Need-same-length-5 invariant-loop decreases-loop
-same-length-5 c = c.before.before.before.before.before.before.before.before.before.before.before.before.before.before.before.before.before.before.before.loop.invariant.0.lo ∙ c.before.before.before.before.before.before.before.before.before.before.before.before.before.before.before.before.before.before.before.before.before.before.wait-blocks.auto.1.1.0
+same-length-5 c = c.before.before.before.before.before.before.before.before.before.before.before.before.before.before.before.before.before.before.loop.invariant.lo ∙ c.before.before.before.before.before.before.before.before.before.before.before.before.before.before.before.before.before.before.before.before.before.wait-blocks.auto.1.1.0
 
 returns : tie.Need-returns invariant-loop decreases-loop
-returns c = (so_done (opened c.before.before.before.before.before.before.before.before.before.before.before.before.before.before.before) (ran c.before.before.before.before.before.before.before.before.before.before.before.before.before.before.before) c.before.before.before.before.before.before.before.before.before.before.before.before.before.tried.given.0.0 c.before.before.before.before.before.before.before.before.before.before.before.before.before.tried.given.1 _ _ _ c.before.before.before.before.before.before.before.before.put-curve.ensures c.if1.true, (blocks-counted (entry c.before.before.before.before.before.before.before.before.before.before.before.before.before.before.before.before.before.before.before.before) (asks c.before.before.before.before.before.before.before.before.before.before.before.before.before.before.before.before.before.before.before.before) _ _ _ c.before.before.before.before.before.before.before.before.before.before.before.before.before.before.before.before.before.before.before.before.before.before.wait-blocks.ensures, counts-done (opened c.before.before.before.before.before.before.before.before.before.before.before.before.before.before.before) (ran c.before.before.before.before.before.before.before.before.before.before.before.before.before.before.before) c.before.before.before.before.before.before.before.before.before.before.before.before.before.tried.given.0.0 c.before.before.before.before.before.before.before.before.before.before.before.before.before.tried.given.1 c.before.before.before.before.before.before.before.before.before.before.before.before.before.before.before.before.before.before.before.loop.invariant.1 c.if1.true))
+returns c = so_done (opened c.before.before.before.before.before.before.before.before.before.before.before.before.before.before) (ran c.before.before.before.before.before.before.before.before.before.before.before.before.before.before) c.before.before.before.before.before.before.before.before.before.before.before.before.tried.given.0.0 c.before.before.before.before.before.before.before.before.before.before.before.before.tried.given.1 _ _ _ c.before.before.before.before.before.before.before.put-curve.ensures c.if1.true
 
 sub-depth : tie.Need-overflow-sub-depth invariant-loop decreases-loop
 sub-depth c = omega (arith, c.if1)
 
 mul-to : tie.Need-overflow-mul-to invariant-loop decreases-loop
-mul-to c = omega (arith, numbers (opened c.before.before.before.before.before.before.before.before.before.before.before.before.before.before.before), c.if1)
+mul-to c = omega (arith, numbers (opened c.before.before.before.before.before.before.before.before.before.before.before.before.before.before), c.if1)
 
 slice-read-to : tie.Need-slice-read-to invariant-loop decreases-loop
-slice-read-to c = omega (arith, numbers (opened c.before.before.before.before.before.before.before.before.before.before.before.before.before.before.before.before), c.before.if1)
+slice-read-to c = omega (arith, numbers (opened c.before.before.before.before.before.before.before.before.before.before.before.before.before.before.before), c.before.if1)
 
 cast-to : tie.Need-overflow-cast-to invariant-loop decreases-loop
-cast-to c = omega (arith, c.slice-known11.given (c.before.before.before.before.before.before.before.before.before.before.before.before.before.before.before.before.before.before.before.before.loop.depth - 1))
+cast-to c = omega (arith, c.slice-known11.given (c.before.before.before.before.before.before.before.before.before.before.before.before.before.before.before.before.before.before.before.loop.depth - 1))
 
 loop-less : tie.Need-loop-smaller invariant-loop decreases-loop
-loop-less c = omega (arith, numbers (opened c.before.before.before.before.before.before.before.before.before.before.before.before.before.before.before.before), c.before.if1)
+loop-less c = omega (arith, numbers (opened c.before.before.before.before.before.before.before.before.before.before.before.before.before.before.before), c.before.if1)
 
 loop-again : tie.Need-loop-preserved invariant-loop decreases-loop
-loop-again c = (so_next (opened c.before.before.before.before.before.before.before.before.before.before.before.before.before.before.before.before) (ran c.before.before.before.before.before.before.before.before.before.before.before.before.before.before.before.before) c.before.before.before.before.before.before.before.before.before.before.before.before.before.before.tried.given.0.0 c.before.before.before.before.before.before.before.before.before.before.before.before.before.before.tried.given.1 _ _ _ c.before.before.before.before.before.before.before.before.before.put-curve.ensures (c.before.before.before.before.before.before.before.before.before.before.before.before.before.before.before.before.before.before.before.before.loop.depth - 1) (omega (arith, c.before.if1)) c.before.before.before.before.before.before.before.before.before.put-curve.auto.0 c.before.before.before.before.before.before.before.before.before.put-curve.auto.1.0 c.before.before.before.before.before.before.before.before.before.put-curve.auto.1.1.0, counts_next (opened c.before.before.before.before.before.before.before.before.before.before.before.before.before.before.before.before) (ran c.before.before.before.before.before.before.before.before.before.before.before.before.before.before.before.before) c.before.before.before.before.before.before.before.before.before.before.before.before.before.before.tried.given.0.0 c.before.before.before.before.before.before.before.before.before.before.before.before.before.before.tried.given.1 c.before.before.before.before.before.before.before.before.before.before.before.before.before.before.before.before.before.before.before.before.loop.invariant.1 (c.before.before.before.before.before.before.before.before.before.before.before.before.before.before.before.before.before.before.before.before.loop.depth - 1) (omega (arith, c.before.if1)))
+loop-again c = so_next (opened c.before.before.before.before.before.before.before.before.before.before.before.before.before.before.before) (ran c.before.before.before.before.before.before.before.before.before.before.before.before.before.before.before) c.before.before.before.before.before.before.before.before.before.before.before.before.before.tried.given.0.0 c.before.before.before.before.before.before.before.before.before.before.before.before.before.tried.given.1 _ _ _ c.before.before.before.before.before.before.before.before.put-curve.ensures (c.before.before.before.before.before.before.before.before.before.before.before.before.before.before.before.before.before.before.before.loop.depth - 1) (omega (arith, c.before.if1)) c.before.before.before.before.before.before.before.before.put-curve.auto.0 c.before.before.before.before.before.before.before.before.put-curve.auto.1.0 c.before.before.before.before.before.before.before.before.put-curve.auto.1.1.0
 
 enum-known-tried-2 : tie.Need-enum-known-tried-2 invariant-loop decreases-loop
 enum-known-tried-2 c = search rules
 
 add-cut : tie.Need-overflow-add-cut invariant-loop decreases-loop
-add-cut c = omega (arith, numbers (opened c.before.before.before), cut_inside (opened c.before.before.before) (ran c.before.before.before) c.before.tried2.given.0.0 c.before.tried2.given.0.1.0 c.before.tried2.given.1)
+add-cut c = omega (arith, numbers (opened c.before.before.before), cut_inside (opened c.before.before.before) (ran c.before.before.before) c.before.tried2.given.0.0 c.before.tried2.given.1)
 
 cast-open : tie.Need-overflow-cast-open invariant-loop decreases-loop
-cast-open c = omega (arith, numbers (opened c.before.before.before), cut_inside (opened c.before.before.before) (ran c.before.before.before) c.before.tried2.given.0.0 c.before.tried2.given.0.1.0 c.before.tried2.given.1)
+cast-open c = omega (arith, numbers (opened c.before.before.before), cut_inside (opened c.before.before.before) (ran c.before.before.before) c.before.tried2.given.0.0 c.before.tried2.given.1)
 
 mul-open : tie.Need-overflow-mul-open invariant-loop decreases-loop
 mul-open c = omega (arith, numbers (opened c.before.before.before))
@@ -133,35 +123,32 @@ slice-write-open c = omega (arith, numbers (opened c.before.before.before))
 add-depth : tie.Need-overflow-add-depth invariant-loop decreases-loop
 add-depth c = omega (arith, numbers (opened c.before.before.before))
 
-add-solutions-2 : tie.Need-overflow-add-solutions-2 invariant-loop decreases-loop
-add-solutions-2 c = let z = numbers (opened c.before.before.before) in omega (arith, z.near, c.before.before.before.before.before.before.before.loop.invariant.1.parts-few, c.before.before.before.before.before.before.before.loop.invariant.1.solutions-few, cut_nine (opened c.before.before.before) (ran c.before.before.before) c.before.tried2.given.0.0 c.before.tried2.given.0.1.0 c.before.tried2.given.1)
-
 loop-less-2 : tie.Need-loop-smaller-2 invariant-loop decreases-loop
 loop-less-2 c = omega (arith, numbers (opened c.before.before.before))
 
 loop-again-2 : tie.Need-loop-preserved-2 invariant-loop decreases-loop
-loop-again-2 c = (so_cut (opened c.before.before.before) (ran c.before.before.before) c.before.tried2.given.0.0 c.before.tried2.given.0.1.0 c.before.tried2.given.1, counts_cut (opened c.before.before.before) (ran c.before.before.before) c.before.tried2.given.0.0 c.before.tried2.given.0.1.0 c.before.tried2.given.1 c.before.before.before.before.before.before.before.loop.invariant.1)
+loop-again-2 c = so_cut (opened c.before.before.before) (ran c.before.before.before) c.before.tried2.given.0.0 c.before.tried2.given.1
 
 enum-known-tried-3 : tie.Need-enum-known-tried-3 invariant-loop decreases-loop
 enum-known-tried-3 c = search rules
 
 same-length-6 : tie.Need-same-length-6 invariant-loop decreases-loop
-same-length-6 c = c.before.before.before.before.before.before.before.loop.invariant.0.lc
+same-length-6 c = c.before.before.before.before.before.before.before.loop.invariant.lc
 
 same-length-7 : tie.Need-same-length-7 invariant-loop decreases-loop
-same-length-7 c = c.before.before.before.before.before.before.before.loop.invariant.0.lf
+same-length-7 c = c.before.before.before.before.before.before.before.loop.invariant.lf
 
 same-length-8 : tie.Need-same-length-8 invariant-loop decreases-loop
-same-length-8 c = c.before.before.before.before.before.before.before.loop.invariant.0.lw
+same-length-8 c = c.before.before.before.before.before.before.before.loop.invariant.lw
 
 same-length-9 : tie.Need-same-length-9 invariant-loop decreases-loop
 same-length-9 c = as_long (opened c.before.before.before) (ran c.before.before.before)
 
 same-length-10 : tie.Need-same-length-10 invariant-loop decreases-loop
-same-length-10 c = c.before.before.before.before.before.before.before.loop.invariant.0.lo ∙ c.before.before.before.before.before.before.before.before.before.before.wait-blocks.auto.1.1.0
+same-length-10 c = c.before.before.before.before.before.before.before.loop.invariant.lo ∙ c.before.before.before.before.before.before.before.before.before.before.wait-blocks.auto.1.1.0
 
 returns-2 : tie.Need-returns-2 invariant-loop decreases-loop
-returns-2 c = (so_refused (opened c.before.before.before) (ran c.before.before.before) c.before.tried3.given.0.0 c.before.tried3.given.1 _ _ _ _, tt)
+returns-2 c = so_refused (opened c.before.before.before) (ran c.before.before.before) c.before.tried3.given.0.0 c.before.tried3.given.1 _ _ _ _
 
 pub work-off-spec : {M : Type 1} → statement M
 work-off-spec =
@@ -171,7 +158,6 @@ work-off-spec =
     decreases-loop
     sub-wait-blocks
     wait-blocks-requires
-    add-blocks
     loop-holds
     add-past
     mul-try-between
@@ -179,11 +165,9 @@ work-off-spec =
     part-try-between-start
     part-try-between-end
     try-between-requires
-    add_parts
     enum-known-tried
     put-curve-requires
     add-made
-    add-solutions
     same_length
     same-length-2
     same-length-3
@@ -202,7 +186,6 @@ work-off-spec =
     mul-open
     slice-write-open
     add-depth
-    add-solutions-2
     loop-less-2
     loop-again-2
     enum-known-tried-3
