@@ -1,0 +1,11 @@
+-- What the loops of `creators::tree::within` keep.
+use Rattle.std.proofs.Common.{◌-◌, get_or, sym, refl, ◌∙◌, arith, rules}
+use Rattle.float.proofs.Truth.{never}
+use Rattle.creators.proofs.Count.{blank, Counting, start, done, too_deep, dead, splits}
+use Rattle.creators.proofs.tree.within.Given as goal
+
+abbrev pub invariant-loop-n : goal.invariant-loop-n
+invariant-loop-n l = Counting (get_or l.counts 0 blank).p l.most l.initial.n l.n l.initial.left l.left
+
+abbrev pub decreases-loop-n : goal.decreases-loop-n
+decreases-loop-n l = l.left

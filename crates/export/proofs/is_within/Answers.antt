@@ -1,0 +1,9 @@
+-- `export::is_within` meets its contract.
+use borrow.Author.Rules.{rules}
+use mathlib.Core.Path.{refl}
+use lib.Ieee.{of_bits}
+use Rattle.export.proofs.is_within.Goals as goal
+
+pub returns : goal.returns
+unfolding of_bits
+returns c = rw c.abs.ensures refl

@@ -1,0 +1,7 @@
+-- `export::point_within` meets its contract.
+use borrow.Author.Rules.{rules}
+use mathlib.Core.Path.{refl}
+use Rattle.export.proofs.point_within.Goals as goal
+
+pub returns : goal.returns
+returns c = rw (c.is_within-2.ensures, c.is_Within.ensures) refl

@@ -1,0 +1,8 @@
+-- `faults::distance_at` meets its contract.
+use borrow.Author.Rules.{rules}
+use Rattle.faults.specs.Tests.{distance_at}
+use Rattle.faults.proofs.distance_at.Goals as goal
+
+pub returns : goal.returns
+unfolding distance_at
+returns c = simp (c.sqrt.ensures, c.error_at.ensures)

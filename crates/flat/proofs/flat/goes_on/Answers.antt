@@ -1,0 +1,10 @@
+-- `roots::flat::goes_on` meets its contract.
+use Rattle.float.proofs.Truth.{and-true}
+use Rattle.flat.specs.Flat.{goes_on}
+use Rattle.flat.specs.Tests.{as_test}
+use borrow.Author.Rules.{rules}
+use Rattle.flat.proofs.flat.goes_on.Goals as goal
+
+pub returns : goal.returns
+unfolding goes_on as_test
+returns c = simp (c.finite.ensures, c.signum.ensures, and-true)

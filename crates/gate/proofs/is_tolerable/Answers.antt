@@ -1,0 +1,8 @@
+-- `gate::is_tolerable` meets its contract.
+use borrow.Author.Rules.{rules}
+use Rattle.gate.specs.Gate.{tolerable}
+use Rattle.gate.proofs.is_tolerable.Goals as goal
+
+pub returns : goal.returns
+unfolding tolerable
+returns c = rw c.finite.ensures

@@ -1,0 +1,16 @@
+-- What the loops of `heads::records_lead` keep.
+use mathlib.Core.Path.{◌≡◌, sym, ◌∙◌}
+use Prim.Native.Nat.{◌+◌, ◌-◌, ◌*◌, ◌≤◌}
+use native.Mathlib.Nat.{add-zero, mul-zero, sub-zero}
+use native.Mathlib.Omega.{arith}
+use lib.ListN.{drop}
+use Rattle.house.specs.Layout.{records_lead}
+use Rattle.house.proofs.Forms.{within}
+use Rattle.heads.proofs.Turns.{lead_more, lead_stop}
+use Rattle.heads.proofs.records_lead.Given as goal
+
+abbrev pub invariant-loop-i : goal.invariant-loop-i
+invariant-loop-i l = (l.i ≤ l.k) × (records_lead l.body l.kind l.k (drop l.at l.b) ≡ records_lead l.body l.kind (l.k - l.i) (drop (l.at + (6 + l.body) * l.i) l.b))
+
+abbrev pub decreases-loop-i : goal.decreases-loop-i
+decreases-loop-i l = l.k - l.i

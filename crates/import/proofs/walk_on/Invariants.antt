@@ -1,0 +1,18 @@
+-- What the loops of `import::walk_on` keep.
+use borrow.Author.Rules.{rules}
+use Prim.Native.Nat.{◌+◌, ◌≤◌}
+use mathlib.Core.Path.{◌≡◌, refl, ◌∙◌}
+use native.Mathlib.Omega.{arith}
+use lib.ListN.{length, drop, length-drop}
+use Rattle.path.specs.declared.Letter.TheVariants as letters
+use Rattle.import.specs.Drawn.{Marked}
+use Rattle.import.specs.Walk.{draws_of, left_answer}
+use Rattle.import.proofs.Walks.{turn_marked, turn_shorter, turn, turn-closed, turn-ended, turn-refused}
+use Rattle.import.proofs.walk_on.Given as goal
+
+abbrev pub invariant-loop-by : goal.invariant-loop-by
+invariant-loop-by l = (length l.initial.p ≡ length l.initial.out) × (l.count + length (drop l.p l.text) ≤ length l.text) × Marked l.small
+    × (left_answer l.start l.start 0 l.fits l.initial.out (draws_of letters.Line (drop l.from l.text)) ≡ left_answer l.start l.small l.count l.initial.count l.initial.p (draws_of l.initial.small (drop l.p l.text)))
+
+abbrev pub decreases-loop-by : goal.decreases-loop-by
+decreases-loop-by l = length (drop l.p l.text)

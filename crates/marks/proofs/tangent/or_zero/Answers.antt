@@ -1,0 +1,14 @@
+-- `marks::tangent::or_zero` meets its contract.
+use mathlib.Core.Path.{ap, ◌∙◌}
+use Rattle.float.specs.Answer.{ok}
+use Rattle.marks.specs.Answers.{bearing_answer, way_answer}
+use borrow.Author.Rules.{rules}
+use Rattle.marks.proofs.tangent.or_zero.Goals as goal
+
+pub returns-in_default : goal.returns-in_default
+unfolding bearing_answer way_answer
+returns-in_default c = rw c.enum_told-1.given.1
+
+pub returns : goal.returns
+unfolding bearing_answer way_answer
+returns c = ap ok c.or_zero.ensures ∙ rw c.bearing-1.given.1

@@ -1,0 +1,9 @@
+-- `marks::tangent::start_tangent` meets its contract.
+use mathlib.Core.Path.{ap, ◌∙◌}
+use Rattle.float.specs.Answer.{outcome}
+use Rattle.marks.proofs.Fine.{start_is}
+use borrow.Author.Rules.{rules}
+use Rattle.marks.proofs.tangent.start_tangent.Goals as goal
+
+pub returns : goal.returns
+returns c = (simp (c.mark_at-2.ensures, c.mark_at.ensures) at c.along.ensures) ∙ ap outcome (start_is _)

@@ -1,0 +1,8 @@
+-- `newton::vertices_finite` meets its contract.
+use Rattle.newton.specs.Tests.{vertices_finite}
+use borrow.Author.Rules.{rules}
+use Rattle.newton.proofs.vertices_finite.Goals as goal
+
+pub returns : goal.returns
+unfolding vertices_finite
+returns c = simp (c.point_finite-2.ensures, c.point_finite.ensures)

@@ -1,0 +1,16 @@
+-- What the loops of `numerals::past_space` keep.
+use borrow.Author.Rules.{rules}
+use Prim.Native.Nat.{◌+◌, ◌-◌, ◌<◌}
+use mathlib.Core.Path.{◌≡◌, sym, ap, ◌∙◌}
+use mathlib.Core.Bool.{true}
+use native.Mathlib.Omega.{arith}
+use lib.ListN.{length, drop, get_or}
+use Rattle.path.specs.Numbers.{is_space, leading}
+use Rattle.numerals.proofs.Leading as leading
+use Rattle.numerals.proofs.past_space.Given as goal
+
+abbrev pub invariant-loop-i : goal.invariant-loop-i
+invariant-loop-i l = l.at + leading is_space (drop l.at l.text) ≡ l.i + leading is_space (drop l.i l.text)
+
+abbrev pub decreases-loop-i : goal.decreases-loop-i
+decreases-loop-i l = length l.text - l.i

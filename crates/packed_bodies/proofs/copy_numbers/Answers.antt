@@ -1,0 +1,67 @@
+-- `packed_bodies::copy_numbers` meets its contract. After i turns the numbers of the first i curves stand in front.
+use mathlib.Core.Path.{◌≡◌, ap}
+use Prim.Native.Nat.{ℕ, ◌+◌, ◌-◌, ◌*◌, ◌≤◌}
+use native.Mathlib.Omega.{arith}
+use lib.ListN.{length-take, length-drop}
+use Rattle.form.specs.Form.{width}
+use Rattle.house.proofs.Forms.{within}
+use Rattle.house.proofs.Turns.{Front}
+use Rattle.packed.specs.Packed.{entry_bytes}
+use Rattle.packed.specs.Unpacked.{entry_at, numbers_in}
+use Rattle.packed_bodies.proofs.Turns.{inside, numbers_none, numbers-turn, numbers_all}
+use borrow.Author.Rules.{rules}
+use Rattle.packed_bodies.proofs.copy_numbers.Goals as goal
+
+pub loop-i-init : goal.loop-i-init
+loop-i-init c = (omega arith, numbers_none _ _ _ _)
+
+pub overflow_mul-j : goal.overflow_mul-j
+overflow_mul-j c =
+    let under : let a = c.args in width a.form * c.loop-i.i + width a.form ≤ width a.form * a.k = let a = c.args in within (width a.form) a.k c.loop-i.i (omega arith) in
+    let from : c.width-step.result * c.loop-i.i ≡ width c.args.form * c.loop-i.i = ap (λ (x : ℕ). x * c.loop-i.i) c.width-step.ensures in
+    omega (arith, under, from)
+
+pub offset_bounds-curves-j : goal.offset_bounds-curves-j
+offset_bounds-curves-j c =
+    let under : let a = c.args in width a.form * c.loop-i.i + width a.form ≤ width a.form * a.k = let a = c.args in within (width a.form) a.k c.loop-i.i (omega arith) in
+    let from : c.width-step.result * c.loop-i.i ≡ width c.args.form * c.loop-i.i = ap (λ (x : ℕ). x * c.loop-i.i) c.width-step.ensures in
+    omega (arith, under, from, c.loop-i.invariant.1.same)
+
+pub slice_bounds-copy_curve-count : goal.slice_bounds-copy_curve-count
+slice_bounds-copy_curve-count c =
+    let under : let a = c.args in width a.form * c.loop-i.i + width a.form ≤ width a.form * a.k = let a = c.args in within (width a.form) a.k c.loop-i.i (omega arith) in
+    let from : c.width-step.result * c.loop-i.i ≡ width c.args.form * c.loop-i.i = ap (λ (x : ℕ). x * c.loop-i.i) c.width-step.ensures in
+    omega (arith, under, from, c.loop-i.invariant.1.same)
+
+pub slice_bounds-copy_curve-start : goal.slice_bounds-copy_curve-start
+slice_bounds-copy_curve-start c =
+    let under : let a = c.args in width a.form * c.loop-i.i + width a.form ≤ width a.form * a.k = let a = c.args in within (width a.form) a.k c.loop-i.i (omega arith) in
+    let from : c.width-step.result * c.loop-i.i ≡ width c.args.form * c.loop-i.i = ap (λ (x : ℕ). x * c.loop-i.i) c.width-step.ensures in
+    omega (arith, under, from, c.loop-i.invariant.1.same)
+
+pub slice_bounds-copy_curve-end : goal.slice_bounds-copy_curve-end
+slice_bounds-copy_curve-end c =
+    let under : let a = c.args in width a.form * c.loop-i.i + width a.form ≤ width a.form * a.k = let a = c.args in within (width a.form) a.k c.loop-i.i (omega arith) in
+    let from : c.width-step.result * c.loop-i.i ≡ width c.args.form * c.loop-i.i = ap (λ (x : ℕ). x * c.loop-i.i) c.width-step.ensures in
+    omega (arith, under, from, c.loop-i.invariant.1.same)
+
+pub copy_curve-requires : goal.copy_curve-requires
+copy_curve-requires c =
+    let here : let a = c.args in entry_at a.form a.n c.loop-i.i + entry_bytes a.form ≤ entry_at a.form a.n a.k = let a = c.args in inside a.form a.n a.k c.loop-i.i (omega arith) in
+    let under : let a = c.args in width a.form * c.loop-i.i + width a.form ≤ width a.form * a.k = let a = c.args in within (width a.form) a.k c.loop-i.i (omega arith) in
+    let from : c.width-step.result * c.loop-i.i ≡ width c.args.form * c.loop-i.i = ap (λ (x : ℕ). x * c.loop-i.i) c.width-step.ensures in
+    (omega (arith, here), simp (length-take, length-drop) (omega (arith, under, from, c.loop-i.invariant.1.same)))
+
+pub loop-i-smaller : goal.loop-i-smaller
+loop-i-smaller c = omega arith
+
+pub loop-i-preserved : goal.loop-i-preserved
+loop-i-preserved c =
+    let under : let a = c.args in width a.form * c.loop-i.i + width a.form ≤ width a.form * a.k = let a = c.args in within (width a.form) a.k c.loop-i.i (omega arith) in
+    let a = c.args in (omega arith, numbers-turn a.b.now a.form a.n a.curves.now c.loop-i.curves c.copy_curve.new.1.1.1.1.0 c.loop-i.i c.width-step.ensures (omega (arith, under)) c.loop-i.invariant.1 c.copy_curve.ensures)
+
+pub shape_of-curves : goal.shape_of-curves
+shape_of-curves c = c.loop-i.invariant.1.same
+
+pub returns : goal.returns
+returns c = let a = c.args in numbers_all a.b.now a.form a.n a.curves.now c.loop-i.curves c.loop-i.i a.k (omega arith) c.loop-i.invariant.1

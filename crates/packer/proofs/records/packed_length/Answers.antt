@@ -1,0 +1,27 @@
+-- `packer::records::packed_length` meets its contract.
+use mathlib.Core.Path.{◌≡◌, ap}
+use Prim.Native.Nat.{ℕ, ◌*◌}
+use native.Mathlib.Omega.{arith}
+use Rattle.packed.specs.Packed.{entry_bytes}
+use borrow.Author.Rules.{rules}
+use Rattle.packer.proofs.records.packed_length.Goals as goal
+
+pub overflow_mul-result : goal.overflow_mul-result
+overflow_mul-result c =
+    let entries : c.entry_bytes.result * c.args.k ≡ entry_bytes c.args.form * c.args.k = ap (λ (x : ℕ). x * c.args.k) c.entry_bytes.ensures in
+    omega (arith, entries)
+
+pub overflow_add-result : goal.overflow_add-result
+overflow_add-result c =
+    let entries : c.entry_bytes.result * c.args.k ≡ entry_bytes c.args.form * c.args.k = ap (λ (x : ℕ). x * c.args.k) c.entry_bytes.ensures in
+    omega (arith, entries)
+
+pub overflow_add-result-2 : goal.overflow_add-result-2
+overflow_add-result-2 c =
+    let entries : c.entry_bytes.result * c.args.k ≡ entry_bytes c.args.form * c.args.k = ap (λ (x : ℕ). x * c.args.k) c.entry_bytes.ensures in
+    omega (arith, entries)
+
+pub returns : goal.returns
+returns c =
+    let entries : c.entry_bytes.result * c.args.k ≡ entry_bytes c.args.form * c.args.k = ap (λ (x : ℕ). x * c.args.k) c.entry_bytes.ensures in
+    omega (arith, entries)

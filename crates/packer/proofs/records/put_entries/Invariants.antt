@@ -1,0 +1,19 @@
+-- What the loops of `packer::records::put_entries` keep.
+use mathlib.Core.Path.{◌≡◌, refl, ap, ◌∙◌}
+use Prim.Native.Nat.{ℕ, ◌+◌, ◌-◌, ◌*◌, ◌≤◌}
+use native.Mathlib.Omega.{arith}
+use lib.ListN.{length}
+use lib.Seq.{sets, length-sets}
+use Rattle.house.specs.Held.{file_at}
+use Rattle.house.proofs.Forms.{within}
+use Rattle.packed.specs.Each.{each}
+use Rattle.packed.specs.Packed.{entry_bytes, entry_of}
+use Rattle.packer.proofs.Puts.{entries_put}
+use borrow.Author.Rules.{rules}
+use Rattle.packer.proofs.records.put_entries.Given as goal
+
+abbrev pub invariant-loop-i : goal.invariant-loop-i
+invariant-loop-i l = (l.i ≤ l.k) × ((l.initial.i ≡ sets l.initial.out l.out (each l.i (entry_of (file_at l.file l.form l.n l.k)))) × (length l.initial.i ≡ length l.initial.out))
+
+abbrev pub decreases-loop-i : goal.decreases-loop-i
+decreases-loop-i l = l.k - l.i

@@ -1,0 +1,35 @@
+-- `parts::start_in` meets its contract.
+use borrow.Author.Rules.{rules}
+use native.Mathlib.Omega.{arith}
+use mathlib.Core.Path.{◌≡◌, sym, ◌∙◌}
+use mathlib.Core.Bool.{false}
+use Rattle.marks.specs.Answers.{way_answer}
+use Rattle.parts.specs.Headings.{marks_in, outer, own_start}
+use Rattle.parts.proofs.Headings.{at_outer, cut_closed, cut_lost, cut_found}
+use Rattle.parts.proofs.start_in.Goals as goal
+
+pub returns-then-is_outer : goal.returns-then-is_outer
+returns-then-is_outer c = let a = c.args in at_outer (λ w. w.start) (own_start a.heading (marks_in a.heading a.marks.now) a.n a.at) (marks_in a.heading a.marks.now) a.n a.size a.at (sym c.is_outer.ensures ∙ c.if-is_outer.true) _ c.own_start.ensures
+
+pub ways_round-requires : goal.ways_round-requires
+ways_round-requires c =
+    let inner : outer c.args.n c.args.size c.args.at ≡ false = sym c.is_outer.ensures ∙ c.if-is_outer.false in
+    let a = c.args in
+    let p = c.requires in
+    cut_closed a.heading a.marks.now a.n a.size a.at p.0.0 p.0.1 (omega (arith, p)) inner
+
+pub returns-in_default : goal.returns-in_default
+unfolding way_answer
+returns-in_default c =
+    let inner : outer c.args.n c.args.size c.args.at ≡ false = sym c.is_outer.ensures ∙ c.if-is_outer.false in
+    let a = c.args in
+    let p = c.requires in
+    cut_lost a.heading a.marks.now a.n a.size a.at p.0.0 p.0.1 (omega (arith, p)) inner (λ w. w.start) (own_start a.heading (marks_in a.heading a.marks.now) a.n a.at) _ c.ways_round.ensures c.enum_told-1.given.1
+
+pub returns : goal.returns
+unfolding way_answer
+returns c =
+    let inner : outer c.args.n c.args.size c.args.at ≡ false = sym c.is_outer.ensures ∙ c.if-is_outer.false in
+    let a = c.args in
+    let p = c.requires in
+    cut_found a.heading a.marks.now a.n a.size a.at p.0.0 p.0.1 (omega (arith, p)) inner (λ w. w.start) (own_start a.heading (marks_in a.heading a.marks.now) a.n a.at) _ c.ways_round.ensures _ c.ways-1.given.1

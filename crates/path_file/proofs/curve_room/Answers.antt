@@ -1,0 +1,8 @@
+-- `path_file::curve_room` meets its contract.
+use mathlib.Core.Path.{refl}
+use Rattle.desk.specs.Desk.{zeros}
+use Rattle.path_file.proofs.curve_room.Goals as goal
+
+pub returns : goal.returns
+unfolding zeros
+returns c = (refl, refl)

@@ -1,0 +1,8 @@
+-- `path_file::first_room` meets its contract.
+use mathlib.Core.Path.{refl}
+use Rattle.desk.specs.Desk.{no_marks}
+use Rattle.path_file.proofs.first_room.Goals as goal
+
+pub returns : goal.returns
+unfolding no_marks
+returns c = (refl, refl)

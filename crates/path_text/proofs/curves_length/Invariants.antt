@@ -1,0 +1,17 @@
+-- What the loops of `path_text::curves_length` keep.
+use native.Mathlib.Omega.{arith}
+use mathlib.Core.Path.{◌≡◌, refl}
+use Prim.Native.Nat.{◌-◌, ◌*◌, ◌≤◌}
+use lib.ListN.{length}
+use Rattle.faults.specs.Tests.{curve_at}
+use Rattle.path.specs.Text.{curves_text}
+use Rattle.path_text.proofs.Records.{held, fewer}
+use Rattle.path_text.proofs.Parts.{curve_at_is}
+use Rattle.path_text.proofs.Lengths.{curves-text}
+use Rattle.path_text.proofs.curves_length.Given as goal
+
+abbrev pub invariant-loop-i : goal.invariant-loop-i
+invariant-loop-i l = (l.i ≤ l.n) × (l.initial.i ≡ length (curves_text l.i (curve_at l.form l.curves))) × (l.initial.i ≤ 92 * l.i)
+
+abbrev pub decreases-loop-i : goal.decreases-loop-i
+decreases-loop-i l = l.n - l.i

@@ -1,0 +1,68 @@
+-- `reader::bodies::copy_marks` meets its contract. After i turns the mark numbers of the first i records stand in front.
+use mathlib.Core.Path.{◌≡◌, refl, ◌∙◌}
+use mathlib.Core.List.{◌++◌}
+use Prim.Native.Nat.{◌+◌, ◌-◌, ◌*◌, ◌≤◌}
+use native.Mathlib.Omega.{arith}
+use lib.ListN.{length, drop, set}
+use Rattle.house.specs.Limits.{mark_field}
+use Rattle.house.specs.Held.{in_each}
+use Rattle.house.proofs.Forms.{within}
+use Rattle.grammar.proofs.Curves.{length-each}
+use Rattle.house.proofs.Turns.{Front, same_front}
+use Rattle.reader.proofs.Turns.{marks-turn}
+use Rattle.reader.proofs.bodies.copy_marks.Goals as goal
+
+pub loop-i-init : goal.loop-i-init
+unfolding in_each
+loop-i-init c = (omega arith, record { whole = refl; same = refl })
+
+pub overflow_mul-step : goal.overflow_mul-step
+overflow_mul-step c =
+    let inside : let a = c.args in a.step * c.loop-i.i + a.step ≤ a.step * a.k = let a = c.args in within a.step a.k c.loop-i.i (omega arith) in
+    omega (arith, inside)
+
+pub overflow_add-at : goal.overflow_add-at
+overflow_add-at c =
+    let inside : let a = c.args in a.step * c.loop-i.i + a.step ≤ a.step * a.k = let a = c.args in within a.step a.k c.loop-i.i (omega arith) in
+    omega (arith, inside)
+
+pub overflow_add-at-in-loop-i : goal.overflow_add-at-in-loop-i
+overflow_add-at-in-loop-i c =
+    let inside : let a = c.args in a.step * c.loop-i.i + a.step ≤ a.step * a.k = let a = c.args in within a.step a.k c.loop-i.i (omega arith) in
+    omega (arith, inside)
+
+pub mark_number-requires : goal.mark_number-requires
+mark_number-requires c =
+    let inside : let a = c.args in a.step * c.loop-i.i + a.step ≤ a.step * a.k = let a = c.args in within a.step a.k c.loop-i.i (omega arith) in
+    omega (arith, inside)
+
+pub offset_bounds-out-i : goal.offset_bounds-out-i
+offset_bounds-out-i c = omega arith
+
+pub bounds-out-i : goal.bounds-out-i
+bounds-out-i c = omega (arith, c.loop-i.invariant.1.same)
+
+pub loop-i-smaller : goal.loop-i-smaller
+loop-i-smaller c = omega arith
+
+pub loop-i-preserved : goal.loop-i-preserved
+loop-i-preserved c =
+    let l = c.loop-i in
+    let a = c.args in
+    let d = drop a.at a.b.now in
+    let f = mark_field a.field in
+    let e : set l.out l.i c.mark_number.result ≡ in_each f 1 a.p a.step (l.i + 1) d ++ drop (l.i + 1) a.out.now =
+    rw (l.invariant.1.whole, c.mark_number.ensures.0) (marks-turn a.b.now a.at a.p a.step f a.out.now l.i (omega arith)) in
+    (omega arith, same_front (in_each f 1 a.p a.step (l.i + 1) d) a.out.now _ (l.i + 1) e (length-each f 1 a.p a.step (l.i + 1) d ∙ omega arith) (omega arith))
+
+pub shape_of-out : goal.shape_of-out
+shape_of-out c = c.loop-i.invariant.1.same
+
+pub returns : goal.returns
+returns c =
+    let l = c.loop-i in
+    let a = c.args in
+    let e : l.i ≡ a.k = omega arith in
+    let f = mark_field a.field in
+    let z : length (in_each f 1 a.p a.step a.k (drop a.at a.b.now)) ≡ a.k = length-each f 1 a.p a.step a.k (drop a.at a.b.now) ∙ omega arith in
+    rw z (rw e at l.invariant.1.whole)

@@ -1,0 +1,19 @@
+-- What the loops of `reader::bodies::copy_marks` keep.
+use mathlib.Core.Path.{◌≡◌, refl, ◌∙◌}
+use mathlib.Core.List.{◌++◌}
+use Prim.Native.Nat.{◌+◌, ◌-◌, ◌*◌, ◌≤◌}
+use native.Mathlib.Omega.{arith}
+use lib.ListN.{length, drop, set}
+use Rattle.house.specs.Limits.{mark_field}
+use Rattle.house.specs.Held.{in_each}
+use Rattle.house.proofs.Forms.{within}
+use Rattle.grammar.proofs.Curves.{length-each}
+use Rattle.house.proofs.Turns.{Front, same_front}
+use Rattle.reader.proofs.Turns.{marks-turn}
+use Rattle.reader.proofs.bodies.copy_marks.Given as goal
+
+abbrev pub invariant-loop-i : goal.invariant-loop-i
+invariant-loop-i l = (l.i ≤ l.k) × Front (in_each (mark_field l.field) 1 l.p l.step l.i (drop l.at l.b)) l.initial.out l.initial.i l.i
+
+abbrev pub decreases-loop-i : goal.decreases-loop-i
+decreases-loop-i l = l.k - l.i

@@ -1,0 +1,12 @@
+-- What the loops of `root::root_by_digits` keep.
+use Prim.Native.Nat.{◌-◌, ◌^◌, ◌<◌}
+use native.Mathlib.Omega.{arith}
+use mathlib.Core.Logic.{⊎_elim}
+use Rattle.root.proofs.Digits.{Digits, top, start, turn_one, turn-zero, done, moved}
+use Rattle.root.proofs.root_by_digits.Given as goal
+
+abbrev pub invariant-loop-i : goal.invariant-loop-i
+invariant-loop-i l = Digits l.a l.initial.left l.left l.initial.i l.i
+
+abbrev pub decreases-loop-i : goal.decreases-loop-i
+decreases-loop-i l = 54 - l.i

@@ -1,0 +1,15 @@
+-- What the loops of `salvaging::walks::measure` keep.
+use mathlib.Core.Path.{◌≡◌, ap}
+use Prim.Native.Nat.{◌+◌, ◌-◌, ◌*◌, ◌≤◌}
+use native.Mathlib.Omega.{arith}
+use lib.ListN.{length}
+use Rattle.salvaging.specs.Layout.{part_of}
+use Rattle.salvaging.proofs.Walk.{left_of, left_all, left_none, left_count, piece_length_is}
+use borrow.Author.Rules.{rules}
+use Rattle.salvaging.proofs.walks.measure.Given as goal
+
+abbrev pub invariant-loop-i : goal.invariant-loop-i
+invariant-loop-i l = (l.i ≤ l.n) × ((l.initial.i ≤ 32 * l.i) × (l.initial.i + length (left_of l.part l.file l.n l.size l.i) ≡ length (part_of l.part l.file l.n)))
+
+abbrev pub decreases-loop-i : goal.decreases-loop-i
+decreases-loop-i l = l.n - l.i

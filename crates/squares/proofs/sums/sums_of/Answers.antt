@@ -1,0 +1,35 @@
+-- `squares::sums::sums_of` meets its contract: s is the sums over the first i marks.
+use borrow.Author.Rules.{rules}
+use mathlib.Core.Path.{◌≡◌, refl}
+use mathlib.Core.List.{List}
+use Prim.Native.Nat.{ℕ, ◌≤◌, ◌-◌, ◌+◌, zero-le}
+use native.Mathlib.Omega.{arith}
+use lib.ListN.{length}
+use lib.Ieee.{Float}
+use Rattle.float.specs.Folds.{upto}
+use Rattle.float.proofs.Folds.{upto_next}
+use Rattle.plane.specs.declared.Point.{Point}
+use Rattle.squares.specs.Sums.{sum_at, zeros, sums_of}
+use Rattle.squares.specs.declared.sums.Sums.{Sums}
+use Rattle.squares.proofs.sums.sums_of.Goals as goal
+
+module _ (ms ts : List Float) (st et : Point) (s : Sums) (i : ℕ) (d : s ≡ (upto i zeros (sum_at ms ts st et)).val) where
+  more : (v : Sums) → v ≡ (sum_at ms ts st et i s).val → v ≡ (upto (i + 1) zeros (sum_at ms ts st et)).val
+  more v h = cc (upto_next zeros (sum_at ms ts st et) i)
+
+  end : i ≡ length ts → s ≡ (sums_of ms ts st et).val
+  unfolding sums_of
+  end n = rw n at d
+
+pub loop-i-init : goal.loop-i-init
+unfolding upto
+loop-i-init c = (zero-le, refl)
+
+pub loop-i-smaller : goal.loop-i-smaller
+loop-i-smaller c = omega arith
+
+pub loop-i-preserved : goal.loop-i-preserved
+loop-i-preserved c = (omega arith, more _ _ _ _ _ _ c.loop-i.invariant.1 _ c.sum_at-s.ensures)
+
+pub returns : goal.returns
+returns c = end _ _ _ _ _ _ c.loop-i.invariant.1 (omega arith)

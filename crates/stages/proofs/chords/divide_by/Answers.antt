@@ -1,0 +1,46 @@
+-- `stages::chords::divide_by` meets its contract: the numbers are divided one by one.
+use borrow.Author.Rules.{rules}
+use mathlib.Core.Path.{◌≡◌, ap, ◌∙◌}
+use mathlib.Core.Bool.{Bool, ◌&&◌}
+use mathlib.Core.List.{List}
+use Prim.Native.Nat.{ℕ, ◌<◌, ◌-◌, ◌+◌}
+use native.Mathlib.Omega.{arith}
+use lib.ListN.{length, get_or, set}
+use lib.Ieee.{Float, nan, binary64, div}
+use Rattle.float.specs.Number.{finite}
+use Rattle.stages.specs.Chords.{part_at, parts}
+use Rattle.stages.proofs.InPlace.{Done, start, len, read, more, finish}
+use Rattle.stages.proofs.chords.divide_by.Goals as goal
+
+next : (ts ps : List Float) (total : Float) (fine : Bool) (i : ℕ) → Done (part_at ts total) ts ps fine i → i < length ts
+    → (b : Bool) → b ≡ finite (div binary64 (get_or ps i nan) total)
+    → Done (part_at ts total) ts (set ps i (div binary64 (get_or ps i nan) total)) (fine && b) (i + 1)
+unfolding part_at
+next ts ps total fine i d l b e =
+    let same = ap (λ (x : Float). div binary64 x total) (read (part_at ts total) ts ps fine i d l) in
+    more (part_at ts total) ts ps fine i d l _ b same (e ∙ ap finite same)
+
+pub loop-i-init : goal.loop-i-init
+loop-i-init c = start _ _
+
+pub offset_bounds-params-i : goal.offset_bounds-params-i
+offset_bounds-params-i c = omega (arith, len _ _ _ _ _ c.loop-i.invariant)
+
+pub offset_bounds-params-i-in-loop-i : goal.offset_bounds-params-i-in-loop-i
+offset_bounds-params-i-in-loop-i c = omega (arith, len _ _ _ _ _ c.loop-i.invariant)
+
+pub overflow_add-i : goal.overflow_add-i
+overflow_add-i c = omega (arith, len _ _ _ _ _ c.loop-i.invariant)
+
+pub loop-i-smaller : goal.loop-i-smaller
+loop-i-smaller c = omega (arith, len _ _ _ _ _ c.loop-i.invariant)
+
+pub loop-i-preserved : goal.loop-i-preserved
+loop-i-preserved c = next _ _ _ _ _ c.loop-i.invariant (omega (arith, len _ _ _ _ _ c.loop-i.invariant)) _ c.finite-fine.ensures
+
+pub shape_of-params : goal.shape_of-params
+shape_of-params c = len _ _ _ _ _ c.loop-i.invariant
+
+pub returns : goal.returns
+unfolding parts
+returns c = finish _ _ _ _ _ c.loop-i.invariant c.loop-i-test.false

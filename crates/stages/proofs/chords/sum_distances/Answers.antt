@@ -1,0 +1,53 @@
+-- `stages::chords::sum_distances` meets its contract: the lengths stand up to the mark before k.
+use borrow.Author.Rules.{rules}
+use mathlib.Core.Path.{◌≡◌, ap, ◌∙◌}
+use Prim.Native.Nat.{ℕ, ◌-◌}
+use native.Mathlib.Omega.{arith}
+use lib.ListN.{length, set, length-set}
+use Rattle.float.specs.Number.{f0}
+use Rattle.stages.specs.Chords.{along, lengths}
+use Rattle.stages.proofs.Lengths.{Summed, first, count, next, summed}
+use Rattle.stages.proofs.chords.sum_distances.Goals as goal
+
+pub loop-k-init : goal.loop-k-init
+loop-k-init c = first _ c.args.params.now c.requires.0
+
+pub square_at-requires : goal.square_at-requires
+square_at-requires c =
+    let sizes : length (set c.args.params.now 0 f0) ≡ length c.args.params.now = simp length-set in
+    (c.loop-k.invariant.some, omega (arith, sizes, count _ _ _ _ _ c.loop-k.invariant))
+
+pub offset_bounds-params-k : goal.offset_bounds-params-k
+offset_bounds-params-k c =
+    let sizes : length (set c.args.params.now 0 f0) ≡ length c.args.params.now = simp length-set in
+    omega (arith, sizes, count _ _ _ _ _ c.loop-k.invariant)
+
+pub offset_bounds-params-k-in-loop-k : goal.offset_bounds-params-k-in-loop-k
+offset_bounds-params-k-in-loop-k c =
+    let sizes : length (set c.args.params.now 0 f0) ≡ length c.args.params.now = simp length-set in
+    omega (arith, sizes, count _ _ _ _ _ c.loop-k.invariant)
+
+pub overflow_add-k : goal.overflow_add-k
+overflow_add-k c =
+    let sizes : length (set c.args.params.now 0 f0) ≡ length c.args.params.now = simp length-set in
+    omega (arith, sizes, count _ _ _ _ _ c.loop-k.invariant)
+
+pub loop-k-smaller : goal.loop-k-smaller
+loop-k-smaller c =
+    let sizes : length (set c.args.params.now 0 f0) ≡ length c.args.params.now = simp length-set in
+    omega (arith, sizes, count _ _ _ _ _ c.loop-k.invariant)
+
+pub loop-k-preserved : goal.loop-k-preserved
+loop-k-preserved c = next _ _ _ _ _ c.loop-k.invariant (omega (arith, count _ _ _ _ _ c.loop-k.invariant)) _ _ c.square_at.ensures c.root_by-total.ensures
+
+pub shape_of-params : goal.shape_of-params
+shape_of-params c =
+    let sizes : length (set c.args.params.now 0 f0) ≡ length c.args.params.now = simp length-set in
+    count _ _ _ _ _ c.loop-k.invariant ∙ sizes
+
+pub returns : goal.returns
+returns c =
+    let sizes : length (set c.args.params.now 0 f0) ≡ length c.args.params.now = simp length-set in
+    let s = summed _ _ _ _ _ c.loop-k.invariant c.loop-k-test.false in
+    let e = sizes in
+    (s.0 ∙ ap (λ (n : ℕ). (along c.args.marks.now (n - 1)).val) e, s.1 ∙ ap (lengths c.args.marks.now) e)

@@ -1,0 +1,14 @@
+-- What the loops of `text::decimal_len` keep.
+use mathlib.Core.Path.{◌≡◌, ap}
+use Prim.Native.Nat.{◌+◌, ◌≤◌}
+use native.Mathlib.Omega.{arith}
+use lib.ListN.{length}
+use Rattle.text.specs.Text.{decimal}
+use Rattle.text.proofs.Digits.{decimal_one, length_more, decimal_u64}
+use Rattle.text.proofs.decimal_len.Given as goal
+
+abbrev pub invariant-loop-rest : goal.invariant-loop-rest
+invariant-loop-rest l = (l.len + length (decimal l.initial.len) ≡ 1 + length (decimal l.n)) × (l.initial.len ≤ l.n)
+
+abbrev pub decreases-loop-rest : goal.decreases-loop-rest
+decreases-loop-rest l = l.initial.len

@@ -1,0 +1,15 @@
+-- What the loops of `text::put_hex` keep.
+use mathlib.Core.Path.{◌≡◌, refl}
+use Prim.Native.Nat.{◌+◌, ◌-◌, ◌/◌, ◌^◌, ◌<◌, ◌≤◌}
+use native.Mathlib.Omega.{arith}
+use lib.ListN.{length, length-set}
+use lib.Seq.{sets}
+use Rattle.text.specs.Text.{hex}
+use Rattle.text.proofs.Digits.{hex-turn, rest-turn}
+use Rattle.text.proofs.put_hex.Given as goal
+
+abbrev pub invariant-loop-i : goal.invariant-loop-i
+invariant-loop-i l = (l.i ≤ 16) × (l.initial.i ≡ l.at / 16 ^ (16 - l.i)) × (l.rest ≡ sets l.initial.out (l.out + l.i) (hex (16 - l.i) l.at)) × (length l.rest ≡ length l.initial.out)
+
+abbrev pub decreases-loop-i : goal.decreases-loop-i
+decreases-loop-i l = l.i

@@ -1,0 +1,19 @@
+-- What the loops of `writer::records::put_curves` keep.
+use mathlib.Core.Path.{◌≡◌, refl, ap, ◌∙◌}
+use Prim.Native.Nat.{ℕ, ◌+◌, ◌-◌, ◌*◌, ◌<◌, ◌≤◌}
+use native.Mathlib.Omega.{arith}
+use lib.ListN.{length, take}
+use lib.Seq.{sets, length-sets}
+use Rattle.form.specs.Form.{width, worsts_for}
+use Rattle.house.specs.Limits.{curve_bytes}
+use Rattle.house.specs.File.{flat, curve_records}
+use Rattle.house.proofs.Forms.{body-few, within, worsts_within}
+use Rattle.writer.proofs.Turns.{curves-put}
+use borrow.Author.Rules.{rules}
+use Rattle.writer.proofs.records.put_curves.Given as goal
+
+abbrev pub invariant-loop-i : goal.invariant-loop-i
+invariant-loop-i l = (l.i ≤ l.curves) × ((l.initial.i ≡ sets l.initial.out l.out (flat (curve_records l.at l.form (take l.i l.field) (take (worsts_for l.at l.i) l.firsts) (take (width l.at * l.i) l.worsts)))) × (length l.initial.i ≡ length l.initial.out))
+
+abbrev pub decreases-loop-i : goal.decreases-loop-i
+decreases-loop-i l = l.curves - l.i
