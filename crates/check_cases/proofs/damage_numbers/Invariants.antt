@@ -3,7 +3,7 @@ use Rattle.std.proofs.Common.{◌≡◌, ◌-◌, length, rules}
 use Rattle.check_cases.proofs.damage_numbers.Given as goal
 
 abbrev pub invariant-loop-i : goal.invariant-loop-i
-invariant-loop-i l = length l.t ≡ length l.initial.all
+invariant-loop-i l = length l.all ≡ length l.initial.all
 
 abbrev pub decreases-loop-i : goal.decreases-loop-i
-decreases-loop-i l = l.s - l.i
+decreases-loop-i l = l.n - l.i

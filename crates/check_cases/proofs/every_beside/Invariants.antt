@@ -3,7 +3,7 @@ use Rattle.std.proofs.Common.{◌≡◌, ◌-◌, ◌≤◌, length, rules}
 use Rattle.check_cases.proofs.every_beside.Given as goal
 
 abbrev pub invariant-loop-kind : goal.invariant-loop-kind
-invariant-loop-kind l = (l.kind ≤ 6) × (length l.initial.kind ≡ length l.initial.beside)
+invariant-loop-kind l = (l.kind ≤ 6) × (length l.beside ≡ length l.initial.beside)
 
 abbrev pub decreases-loop-kind : goal.decreases-loop-kind
 decreases-loop-kind l = 6 - l.kind

@@ -3,7 +3,7 @@ use Rattle.std.proofs.Common.{◌≡◌, ◌-◌, ◌≤◌, length, rules}
 use Rattle.check_cases.proofs.every_number.Given as goal
 
 abbrev pub invariant-loop-kind : goal.invariant-loop-kind
-invariant-loop-kind l = (l.kind ≤ 4) × (length l.initial.kind ≡ length l.initial.all)
+invariant-loop-kind l = (l.kind ≤ 4) × (length l.all ≡ length l.initial.all)
 
 abbrev pub decreases-loop-kind : goal.decreases-loop-kind
 decreases-loop-kind l = 4 - l.kind

@@ -11,7 +11,7 @@ use Rattle.checker.proofs.Under.{Faultless, fault_c, fault_d, faultless, faultle
 use Rattle.checker.proofs.check_marks.Given as goal
 
 abbrev pub invariant-loop-i : goal.invariant-loop-i
-invariant-loop-i l = Faultless l.tolerance l.n l.j l.first l.from l.c l.under l.params l.initial.far l.initial.i l.i
+invariant-loop-i l = Faultless l.tolerance l.n l.j l.first l.from l.c l.under l.params l.initial.far l.far l.i
 
 abbrev pub decreases-loop-i : goal.decreases-loop-i
 decreases-loop-i l = length l.params - l.i

@@ -11,7 +11,7 @@ use Rattle.desk.proofs.Turns.{map-turn, map_all}
 use Rattle.desk.proofs.copy_floats.Given as goal
 
 abbrev pub invariant-loop-i : goal.invariant-loop-i
-invariant-loop-i l = (l.i ≤ length l.xs) × ((l.initial.i ≡ floats (take l.i l.xs) ++ drop l.i l.initial.out) × (length l.initial.i ≡ length l.initial.out))
+invariant-loop-i l = (l.i ≤ length l.xs) × ((l.out ≡ floats (take l.i l.xs) ++ drop l.i l.initial.out) × (length l.out ≡ length l.initial.out))
 
 abbrev pub decreases-loop-i : goal.decreases-loop-i
 decreases-loop-i l = length l.xs - l.i

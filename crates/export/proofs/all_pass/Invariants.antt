@@ -10,7 +10,7 @@ use Rattle.export.proofs.Tests.{every_next}
 use Rattle.export.proofs.all_pass.Given as goal
 
 abbrev pub invariant-loop-i : goal.invariant-loop-i
-invariant-loop-i l = (l.i ≤ l.n) × (l.initial.i ≡ every l.i (passes l.test (curve_at l.form l.curves)))
+invariant-loop-i l = (l.i ≤ l.n) × (l.all ≡ every l.i (passes l.test (curve_at l.form l.curves)))
 
 abbrev pub decreases-loop-i : goal.decreases-loop-i
 decreases-loop-i l = l.n - l.i

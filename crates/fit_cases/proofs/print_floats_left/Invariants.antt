@@ -6,7 +6,7 @@ use lib.ListN.{length}
 use Rattle.fit_cases.proofs.print_floats_left.Given as goal
 
 abbrev pub invariant-loop-i : goal.invariant-loop-i
-invariant-loop-i l = (l.i ≤ length l.xs) × (l.initial.digest ≤ l.i) × (l.digest ≤ l.i)
+invariant-loop-i l = (l.i ≤ length l.xs) × (l.before ≤ l.i) × (l.zeros ≤ l.i)
 
 abbrev pub decreases-loop-i : goal.decreases-loop-i
 decreases-loop-i l = length l.xs - l.i

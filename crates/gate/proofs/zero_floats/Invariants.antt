@@ -9,7 +9,7 @@ use Rattle.gate.proofs.Fills.{Filled, same, more, all}
 use Rattle.gate.proofs.zero_floats.Given as goal
 
 abbrev pub invariant-loop-k : goal.invariant-loop-k
-invariant-loop-k l = Filled f0 l.initial.s l.initial.k l.k
+invariant-loop-k l = Filled f0 l.initial.s l.s l.k
 
 abbrev pub decreases-loop-k : goal.decreases-loop-k
 decreases-loop-k l = length l.initial.s - l.k

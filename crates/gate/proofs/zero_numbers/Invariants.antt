@@ -8,7 +8,7 @@ use Rattle.gate.proofs.Fills.{Filled, same, more, all}
 use Rattle.gate.proofs.zero_numbers.Given as goal
 
 abbrev pub invariant-loop-j : goal.invariant-loop-j
-invariant-loop-j l = Filled 0 l.initial.s l.initial.j l.j
+invariant-loop-j l = Filled 0 l.initial.s l.s l.j
 
 abbrev pub decreases-loop-j : goal.decreases-loop-j
 decreases-loop-j l = length l.initial.s - l.j

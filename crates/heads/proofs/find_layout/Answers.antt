@@ -38,7 +38,7 @@ overflow_add-k c =
 pub ends_with-requires : goal.ends_with-requires
 ends_with-requires c =
     let body : c.body_bytes.result ≡ body_bytes c.form_of-form.result (field_for (c.four.result / 16)) = c.body_bytes.ensures ∙ ap (λ (f : Field). body_bytes c.form_of-form.result f) c.field_for-field.ensures in
-    let under : let n = c.four.result / 16 in let x = length c.args.b.now - (20 + 16 * n + 6 + 8 * n) in = let n = c.four.result / 16 in rw body (records_under c.form_of-form.result (field_for n) (length c.args.b.now - (20 + 16 * n + 6 + 8 * n))) in
+    let under : let n = c.four.result / 16 in let x = length c.args.b.now - (20 + 16 * n + 6 + 8 * n) in curve_bytes c.form_of-form.result (field_for n) * (x / (6 + c.body_bytes.result)) ≤ x = let n = c.four.result / 16 in rw body (records_under c.form_of-form.result (field_for n) (length c.args.b.now - (20 + 16 * n + 6 + 8 * n))) in
     omega (arith, under)
 
 pub returns-then-ends_with : goal.returns-then-ends_with
@@ -53,7 +53,7 @@ returns-then-starts_with c =
     let marks : marks_held c.args.b.now ≡ c.four.result / 16 = ap (λ (x : ℕ). x / 16) (sym c.four.ensures.0) in
     let form : form_held c.args.b.now (c.four.result / 16) ≡ c.form_of-form.result = form_by c.args.b.now (c.four.result / 16) c.field_for-field.ensures c.two.ensures.0 c.form_of-form.ensures in
     let body : c.body_bytes.result ≡ body_bytes c.form_of-form.result (field_for (c.four.result / 16)) = c.body_bytes.ensures ∙ ap (λ (f : Field). body_bytes c.form_of-form.result f) c.field_for-field.ensures in
-    let count : let n = c.four.result / 16 in let b = c.args.b.now in = let n = c.four.result / 16 in ap (λ (x : ℕ). (length c.args.b.now - (20 + 16 * n + 6 + 8 * n)) / (6 + x)) (sym body) in
+    let count : let n = c.four.result / 16 in let b = c.args.b.now in curves_held b c.form_of-form.result n ≡ (length b - (20 + 16 * n + 6 + 8 * n)) / (6 + c.body_bytes.result) = let n = c.four.result / 16 in ap (λ (x : ℕ). (length c.args.b.now - (20 + 16 * n + 6 + 8 * n)) / (6 + x)) (sym body) in
     broken c.args.b.now c.form_of-form.result (c.four.result / 16) _ marks form count (λ l. true-false _ (ending (laid-ended l (λ z. omega arith))) (sym c.ends_with.ensures ∙ c.if-ends_with.false))
 
 pub returns : goal.returns

@@ -11,8 +11,8 @@ use Rattle.import.proofs.Walks.{turn_marked, turn_shorter, turn, turn-closed, tu
 use Rattle.import.proofs.walk_on.Given as goal
 
 abbrev pub invariant-loop-by : goal.invariant-loop-by
-invariant-loop-by l = (length l.initial.p ≡ length l.initial.out) × (l.count + length (drop l.p l.text) ≤ length l.text) × Marked l.small
-    × (left_answer l.start l.start 0 l.fits l.initial.out (draws_of letters.Line (drop l.from l.text)) ≡ left_answer l.start l.small l.count l.initial.count l.initial.p (draws_of l.initial.small (drop l.p l.text)))
+invariant-loop-by l = (length l.out ≡ length l.initial.out) × (l.count + length (drop l.at l.text) ≤ length l.text) × Marked l.p
+    × (left_answer l.start l.start 0 l.fits l.initial.out (draws_of letters.Line (drop l.from l.text)) ≡ left_answer l.start l.p l.count l.small l.out (draws_of l.letter (drop l.at l.text)))
 
 abbrev pub decreases-loop-by : goal.decreases-loop-by
-decreases-loop-by l = length (drop l.p l.text)
+decreases-loop-by l = length (drop l.at l.text)

@@ -13,7 +13,7 @@ use Rattle.lines.proofs.Turns.{length-numbers, numbers-suc}
 use Rattle.lines.proofs.put_numbers.Given as goal
 
 abbrev pub invariant-loop-i : goal.invariant-loop-i
-invariant-loop-i l = (l.i ≤ 8) × (l.initial.i ≡ l.out + 17 * l.i) × Put l.initial.out l.out (numbers (take l.i l.at)) l.end l.initial.i
+invariant-loop-i l = (l.i ≤ 8) × (l.end ≡ l.at + 17 * l.i) × Put l.initial.out l.at (numbers (take l.i l.curve)) l.out l.end
 
 abbrev pub decreases-loop-i : goal.decreases-loop-i
 decreases-loop-i l = 8 - l.i

@@ -11,7 +11,7 @@ use Rattle.lines.proofs.Turns.{pieces_suc, piece_put}
 use Rattle.lines.proofs.put_pieces.Given as goal
 
 abbrev pub invariant-loop-i : goal.invariant-loop-i
-invariant-loop-i l = (l.i ≤ l.curves) × (l.initial.i ≤ l.out + 153 * l.i) × Put l.initial.out l.out (piece_lines (take l.i l.at) l.firsts) l.end l.initial.i
+invariant-loop-i l = (l.i ≤ l.k) × (l.end ≤ l.at + 153 * l.i) × Put l.initial.out l.at (piece_lines (take l.i l.firsts) l.curves) l.out l.end
 
 abbrev pub decreases-loop-i : goal.decreases-loop-i
-decreases-loop-i l = l.curves - l.i
+decreases-loop-i l = l.k - l.i

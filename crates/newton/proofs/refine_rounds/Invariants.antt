@@ -9,7 +9,7 @@ use Rattle.newton.proofs.Rounds.{goes_next, goes_stop, goes_lost, at_end}
 use Rattle.newton.proofs.refine_rounds.Given as goal
 
 abbrev pub invariant-loop-left : goal.invariant-loop-left
-invariant-loop-left l = outcome (refine_by l.c l.q l.p l.rounds l.t) ≡ outcome (refine_by l.c l.q l.p l.initial.u l.u)
+invariant-loop-left l = outcome (refine_by l.c l.q l.p l.rounds l.t) ≡ outcome (refine_by l.c l.q l.p l.left l.u)
 
 abbrev pub decreases-loop-left : goal.decreases-loop-left
-decreases-loop-left l = l.initial.u
+decreases-loop-left l = l.left

@@ -13,7 +13,7 @@ use Rattle.numerals.proofs.Leading as leading
 use Rattle.numerals.proofs.digits_from.Given as goal
 
 abbrev pub invariant-loop-v : goal.invariant-loop-v
-invariant-loop-v l = (l.v ≤ suc most) × (digits_of l.text l.at l.value ≡ digits_of l.text l.initial.v l.v)
+invariant-loop-v l = (l.v ≤ suc most) × (digits_of l.text l.at l.value ≡ digits_of l.text l.i l.v)
 
 abbrev pub decreases-loop-v : goal.decreases-loop-v
-decreases-loop-v l = length l.text - l.initial.v
+decreases-loop-v l = length l.text - l.i

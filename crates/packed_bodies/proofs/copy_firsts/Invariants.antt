@@ -9,7 +9,7 @@ use Rattle.packed_bodies.proofs.Turns.{inside, front_none, marks-turn, marks_all
 use Rattle.packed_bodies.proofs.copy_firsts.Given as goal
 
 abbrev pub invariant-loop-i : goal.invariant-loop-i
-invariant-loop-i l = (l.i ≤ l.k) × Front (firsts_in l.b l.form l.n l.i) l.initial.firsts l.initial.i l.i
+invariant-loop-i l = (l.i ≤ l.k) × Front (firsts_in l.b l.form l.n l.i) l.initial.firsts l.firsts l.i
 
 abbrev pub decreases-loop-i : goal.decreases-loop-i
 decreases-loop-i l = l.k - l.i

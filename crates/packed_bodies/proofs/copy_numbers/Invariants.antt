@@ -13,7 +13,7 @@ use borrow.Author.Rules.{rules}
 use Rattle.packed_bodies.proofs.copy_numbers.Given as goal
 
 abbrev pub invariant-loop-i : goal.invariant-loop-i
-invariant-loop-i l = (l.i ≤ l.k) × Front (numbers_in l.b l.form l.n l.i) l.initial.curves l.initial.i (width l.form * l.i)
+invariant-loop-i l = (l.i ≤ l.k) × Front (numbers_in l.b l.form l.n l.i) l.initial.curves l.curves (width l.form * l.i)
 
 abbrev pub decreases-loop-i : goal.decreases-loop-i
 decreases-loop-i l = l.k - l.i

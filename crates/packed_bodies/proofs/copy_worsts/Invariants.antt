@@ -14,7 +14,7 @@ use borrow.Author.Rules.{rules}
 use Rattle.packed_bodies.proofs.copy_worsts.Given as goal
 
 abbrev pub invariant-loop-i : goal.invariant-loop-i
-invariant-loop-i l = (l.i ≤ l.worsts) × Front (each l.i (mark l.b (worst_place l.form l.n))) l.initial.worsts l.initial.i l.i
+invariant-loop-i l = (l.i ≤ l.kept) × Front (each l.i (mark l.b (worst_place l.form l.n))) l.initial.worsts l.worsts l.i
 
 abbrev pub decreases-loop-i : goal.decreases-loop-i
-decreases-loop-i l = l.worsts - l.i
+decreases-loop-i l = l.kept - l.i

@@ -10,7 +10,7 @@ use Rattle.path_list.proofs.Lines.{put_none, put_next}
 use Rattle.path_list.proofs.put_curves.Given as goal
 
 abbrev pub invariant-loop-i : goal.invariant-loop-i
-invariant-loop-i l = (l.i ≤ l.curves) × (l.initial.i ≤ l.out + 153 * l.i) × Put l.initial.out l.out (curve_lines l.i l.at) l.end l.initial.i
+invariant-loop-i l = (l.i ≤ l.k) × (l.end ≤ l.at + 153 * l.i) × Put l.initial.out l.at (curve_lines l.i l.curves) l.out l.end
 
 abbrev pub decreases-loop-i : goal.decreases-loop-i
-decreases-loop-i l = l.curves - l.i
+decreases-loop-i l = l.k - l.i

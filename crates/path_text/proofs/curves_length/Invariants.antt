@@ -11,7 +11,7 @@ use Rattle.path_text.proofs.Lengths.{curves-text}
 use Rattle.path_text.proofs.curves_length.Given as goal
 
 abbrev pub invariant-loop-i : goal.invariant-loop-i
-invariant-loop-i l = (l.i ≤ l.n) × (l.initial.i ≡ length (curves_text l.i (curve_at l.form l.curves))) × (l.initial.i ≤ 92 * l.i)
+invariant-loop-i l = (l.i ≤ l.n) × (l.total ≡ length (curves_text l.i (curve_at l.form l.curves))) × (l.total ≤ 92 * l.i)
 
 abbrev pub decreases-loop-i : goal.decreases-loop-i
 decreases-loop-i l = l.n - l.i

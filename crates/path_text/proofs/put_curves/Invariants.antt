@@ -12,7 +12,7 @@ use Rattle.path_text.proofs.Lengths.{curves_grow, put-curves_none, put-curves_ne
 use Rattle.path_text.proofs.put_curves.Given as goal
 
 abbrev pub invariant-loop-i : goal.invariant-loop-i
-invariant-loop-i l = (l.i ≤ l.curves) × Put l.initial.out l.out (curves_text l.i (curve_at l.at l.form)) l.end l.initial.i
+invariant-loop-i l = (l.i ≤ l.n) × Put l.initial.out l.at (curves_text l.i (curve_at l.form l.curves)) l.out l.end
 
 abbrev pub decreases-loop-i : goal.decreases-loop-i
-decreases-loop-i l = l.curves - l.i
+decreases-loop-i l = l.n - l.i

@@ -6,8 +6,7 @@ use Rattle.root.specs.Guess.{◌⊗◌, half, nearer, inverse_of, high_of, rest_
 use Rattle.root.proofs.guess.Goals as goal
 
 pub returns : goal.returns
-unfolding guess step_of high_of rest_of
-unfolding inverse_of
+unfolding guess step_of high_of rest_of inverse_of
 returns c =
     let inverse : c.nearer-y.result ≡ inverse_of c.args.x = let h = c.args.x ⊗ half in
     c.nearer-y.ensures ∙ ap (nearer h) (c.nearer-2.ensures ∙ ap (nearer h) (c.nearer.ensures ∙ ap (nearer h) c.first_of.ensures)) in

@@ -10,22 +10,22 @@ use Rattle.root.proofs.is_root.Goals as goal
 
 pub overflow_mul-square : goal.overflow_mul-square
 overflow_mul-square c =
-    let small :  = products ((c.args.c * 2 - 1) / 2 ^ 27) ((c.args.c * 2 - 1) % 2 ^ 27) (halves c.args.c c.requires.2) in
+    let small : let s = (c.args.c * 2 - 1) / 2 ^ 27 in let l = (c.args.c * 2 - 1) % 2 ^ 27 in (s * s ≤ 2 ^ 54) × (s * l ≤ 2 ^ 54) × (l * l ≤ 2 ^ 54) = products ((c.args.c * 2 - 1) / 2 ^ 27) ((c.args.c * 2 - 1) % 2 ^ 27) (halves c.args.c c.requires.2) in
     omega (arith, small.0)
 
 pub overflow_mul-w : goal.overflow_mul-w
 overflow_mul-w c =
-    let small :  = products ((c.args.c * 2 - 1) / 2 ^ 27) ((c.args.c * 2 - 1) % 2 ^ 27) (halves c.args.c c.requires.2) in
+    let small : let s = (c.args.c * 2 - 1) / 2 ^ 27 in let l = (c.args.c * 2 - 1) % 2 ^ 27 in (s * s ≤ 2 ^ 54) × (s * l ≤ 2 ^ 54) × (l * l ≤ 2 ^ 54) = products ((c.args.c * 2 - 1) / 2 ^ 27) ((c.args.c * 2 - 1) % 2 ^ 27) (halves c.args.c c.requires.2) in
     omega (arith, small.1)
 
 pub overflow_mul-w-then-r-lt536870912 : goal.overflow_mul-w-then-r-lt536870912
 overflow_mul-w-then-r-lt536870912 c =
-    let small :  = products ((c.args.c * 2 - 1) / 2 ^ 27) ((c.args.c * 2 - 1) % 2 ^ 27) (halves c.args.c c.requires.2) in
+    let small : let s = (c.args.c * 2 - 1) / 2 ^ 27 in let l = (c.args.c * 2 - 1) % 2 ^ 27 in (s * s ≤ 2 ^ 54) × (s * l ≤ 2 ^ 54) × (l * l ≤ 2 ^ 54) = products ((c.args.c * 2 - 1) / 2 ^ 27) ((c.args.c * 2 - 1) % 2 ^ 27) (halves c.args.c c.requires.2) in
     omega (arith, small.1)
 
 pub overflow_mul-k : goal.overflow_mul-k
 overflow_mul-k c =
-    let small :  = products ((c.args.c * 2 - 1) / 2 ^ 27) ((c.args.c * 2 - 1) % 2 ^ 27) (halves c.args.c c.requires.2) in
+    let small : let s = (c.args.c * 2 - 1) / 2 ^ 27 in let l = (c.args.c * 2 - 1) % 2 ^ 27 in (s * s ≤ 2 ^ 54) × (s * l ≤ 2 ^ 54) × (l * l ≤ 2 ^ 54) = products ((c.args.c * 2 - 1) / 2 ^ 27) ((c.args.c * 2 - 1) % 2 ^ 27) (halves c.args.c c.requires.2) in
     omega (arith, small.2)
 
 pub returns-then-k-z : goal.returns-then-k-z

@@ -20,7 +20,7 @@ root_by_digits-q-requires c =
 
 pub overflow_add-result-else-is_root-2 : goal.overflow_add-result-else-is_root-2
 overflow_add-result-else-is_root-2 c =
-    let found :  = let start = c in
+    let found : let a = c.args in IsRoot (a.m * 2 ^ (a.i % 2) * 2 ^ 54) c.root_by_digits-q.result = let start = c in
     subst (λ (x : ℕ). IsRoot (x * 2 ^ 54) c.root_by_digits-q.result) (shifted start.args.m start.args.i start.requires.1) c.root_by_digits-q.ensures in
     let top : c.root_by_digits-q.result ≤ 2 ^ 54 - 2 = let start = c in
     root-top start.args.m start.args.i c.root_by_digits-q.result start.requires.1 found in
@@ -28,7 +28,7 @@ overflow_add-result-else-is_root-2 c =
 
 pub float_from_bits-result-else-is_root : goal.float_from_bits-result-else-is_root
 float_from_bits-result-else-is_root c =
-    let found :  = let start = c in
+    let found : let a = c.args in IsRoot (a.m * 2 ^ (a.i % 2) * 2 ^ 54) c.root_by_digits-q.result = let start = c in
     subst (λ (x : ℕ). IsRoot (x * 2 ^ 54) c.root_by_digits-q.result) (shifted start.args.m start.args.i start.requires.1) c.root_by_digits-q.ensures in
     let top : c.root_by_digits-q.result ≤ 2 ^ 54 - 2 = let start = c in
     root-top start.args.m start.args.i c.root_by_digits-q.result start.requires.1 found in
@@ -43,7 +43,7 @@ returns-then-is_root c = λ x u v e.
 
 pub returns-else-is_root : goal.returns-else-is_root
 returns-else-is_root c =
-    let found :  = let start = c in
+    let found : let a = c.args in IsRoot (a.m * 2 ^ (a.i % 2) * 2 ^ 54) c.root_by_digits-q.result = let start = c in
     subst (λ (x : ℕ). IsRoot (x * 2 ^ 54) c.root_by_digits-q.result) (shifted start.args.m start.args.i start.requires.1) c.root_by_digits-q.ensures in
     λ x u v e.
     let a = c.args in

@@ -8,7 +8,7 @@ use Rattle.text.proofs.Digits.{decimal_one, length_more, decimal_u64}
 use Rattle.text.proofs.decimal_len.Given as goal
 
 abbrev pub invariant-loop-rest : goal.invariant-loop-rest
-invariant-loop-rest l = (l.len + length (decimal l.initial.len) ≡ 1 + length (decimal l.n)) × (l.initial.len ≤ l.n)
+invariant-loop-rest l = (l.len + length (decimal l.rest) ≡ 1 + length (decimal l.n)) × (l.rest ≤ l.n)
 
 abbrev pub decreases-loop-rest : goal.decreases-loop-rest
-decreases-loop-rest l = l.initial.len
+decreases-loop-rest l = l.rest

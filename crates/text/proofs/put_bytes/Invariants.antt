@@ -8,7 +8,7 @@ use Rattle.text.proofs.Stores.{sets-suc}
 use Rattle.text.proofs.put_bytes.Given as goal
 
 abbrev pub invariant-loop-i : goal.invariant-loop-i
-invariant-loop-i l = (l.i ≤ length l.at) × (l.initial.i ≡ sets l.initial.out l.out (take l.i l.at)) × (length l.initial.i ≡ length l.initial.out)
+invariant-loop-i l = (l.i ≤ length l.text) × (l.out ≡ sets l.initial.out l.at (take l.i l.text)) × (length l.out ≡ length l.initial.out)
 
 abbrev pub decreases-loop-i : goal.decreases-loop-i
-decreases-loop-i l = length l.at - l.i
+decreases-loop-i l = length l.text - l.i

@@ -9,7 +9,7 @@ use Rattle.text.proofs.Digits.{hex-turn, rest-turn}
 use Rattle.text.proofs.put_hex.Given as goal
 
 abbrev pub invariant-loop-i : goal.invariant-loop-i
-invariant-loop-i l = (l.i ≤ 16) × (l.initial.i ≡ l.at / 16 ^ (16 - l.i)) × (l.rest ≡ sets l.initial.out (l.out + l.i) (hex (16 - l.i) l.at)) × (length l.rest ≡ length l.initial.out)
+invariant-loop-i l = (l.i ≤ 16) × (l.rest ≡ l.x / 16 ^ (16 - l.i)) × (l.out ≡ sets l.initial.out (l.at + l.i) (hex (16 - l.i) l.x)) × (length l.out ≡ length l.initial.out)
 
 abbrev pub decreases-loop-i : goal.decreases-loop-i
 decreases-loop-i l = l.i

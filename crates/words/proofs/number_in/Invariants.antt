@@ -13,7 +13,7 @@ use Rattle.words.proofs.number_in.Lts as lts
 use Rattle.words.proofs.number_in.Given as goal
 
 abbrev pub invariant-loop-i : goal.invariant-loop-i
-invariant-loop-i l = (l.i ≤ length l.s) × (number_from l.base 0 l.s ≡ number_from l.base l.initial.i (drop l.i l.s))
+invariant-loop-i l = (l.i ≤ length l.s) × (number_from l.base 0 l.s ≡ number_from l.base l.v (drop l.i l.s))
 
 abbrev pub decreases-loop-i : goal.decreases-loop-i
 decreases-loop-i l = length l.s - l.i

@@ -5,7 +5,7 @@ use Rattle.creators.proofs.Count.{blank, Counting, start, done, too_deep, dead, 
 use Rattle.creators.proofs.tree.within.Given as goal
 
 abbrev pub invariant-loop-n : goal.invariant-loop-n
-invariant-loop-n l = Counting (get_or l.counts 0 blank).p l.most l.initial.n l.n l.initial.left l.left
+invariant-loop-n l = Counting (get_or l.initial.waiting 0 blank).p l.most l.counts l.waiting l.n l.left
 
 abbrev pub decreases-loop-n : goal.decreases-loop-n
 decreases-loop-n l = l.left

@@ -10,7 +10,7 @@ use Rattle.house.proofs.Turns.{words-turn}
 use Rattle.house.proofs.bytes.copy_words.Given as goal
 
 abbrev pub invariant-loop-i : goal.invariant-loop-i
-invariant-loop-i l = (l.i ≤ l.n) × ((l.initial.i ≡ words l.i (drop l.at l.b) ++ drop l.i l.initial.out) × (length l.initial.i ≡ length l.initial.out))
+invariant-loop-i l = (l.i ≤ l.n) × ((l.out ≡ words l.i (drop l.at l.b) ++ drop l.i l.initial.out) × (length l.out ≡ length l.initial.out))
 
 abbrev pub decreases-loop-i : goal.decreases-loop-i
 decreases-loop-i l = l.n - l.i

@@ -9,7 +9,7 @@ use Rattle.house.proofs.Turns.{words-put}
 use Rattle.house.proofs.bytes.put_words.Given as goal
 
 abbrev pub invariant-loop-i : goal.invariant-loop-i
-invariant-loop-i l = (l.i ≤ l.xs) × ((l.initial.i ≡ sets l.initial.out l.out (les (take l.i l.at))) × (length l.initial.i ≡ length l.initial.out))
+invariant-loop-i l = (l.i ≤ l.n) × ((l.out ≡ sets l.initial.out l.at (les (take l.i l.xs))) × (length l.out ≡ length l.initial.out))
 
 abbrev pub decreases-loop-i : goal.decreases-loop-i
-decreases-loop-i l = l.xs - l.i
+decreases-loop-i l = l.n - l.i

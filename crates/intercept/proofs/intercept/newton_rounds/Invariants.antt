@@ -9,7 +9,7 @@ use Rattle.intercept.proofs.Rounds.{goes_next, goes_stop, goes_lost, at_end}
 use Rattle.intercept.proofs.intercept.newton_rounds.Given as goal
 
 abbrev pub invariant-loop-left : goal.invariant-loop-left
-invariant-loop-left l = outcome (newton_by l.h l.d 30 l.t) ≡ outcome (newton_by l.h l.d l.initial.u l.u)
+invariant-loop-left l = outcome (newton_by l.h l.d 30 l.t) ≡ outcome (newton_by l.h l.d l.left l.u)
 
 abbrev pub decreases-loop-left : goal.decreases-loop-left
-decreases-loop-left l = l.initial.u
+decreases-loop-left l = l.left

@@ -8,7 +8,7 @@ use Rattle.nearest.proofs.Candidates.{Left, at_first, steps, settles}
 use Rattle.nearest.proofs.choose.choose.Given as goal
 
 abbrev pub invariant-loop-i : goal.invariant-loop-i
-invariant-loop-i l = Left l.c l.p (choose_of l.c l.p l.roots) (drop l.i l.roots) l.initial.i
+invariant-loop-i l = Left l.c l.p (choose_of l.c l.p l.roots) (drop l.i l.roots) l.best
 
 abbrev pub decreases-loop-i : goal.decreases-loop-i
 decreases-loop-i l = length l.roots - l.i

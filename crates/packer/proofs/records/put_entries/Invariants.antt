@@ -13,7 +13,7 @@ use borrow.Author.Rules.{rules}
 use Rattle.packer.proofs.records.put_entries.Given as goal
 
 abbrev pub invariant-loop-i : goal.invariant-loop-i
-invariant-loop-i l = (l.i ≤ l.k) × ((l.initial.i ≡ sets l.initial.out l.out (each l.i (entry_of (file_at l.file l.form l.n l.k)))) × (length l.initial.i ≡ length l.initial.out))
+invariant-loop-i l = (l.i ≤ l.k) × ((l.out ≡ sets l.initial.out l.at (each l.i (entry_of (file_at l.file l.form l.n l.k)))) × (length l.out ≡ length l.initial.out))
 
 abbrev pub decreases-loop-i : goal.decreases-loop-i
 decreases-loop-i l = l.k - l.i

@@ -13,7 +13,7 @@ use Rattle.reader.proofs.Turns.{marks-turn}
 use Rattle.reader.proofs.bodies.copy_marks.Given as goal
 
 abbrev pub invariant-loop-i : goal.invariant-loop-i
-invariant-loop-i l = (l.i ≤ l.k) × Front (in_each (mark_field l.field) 1 l.p l.step l.i (drop l.at l.b)) l.initial.out l.initial.i l.i
+invariant-loop-i l = (l.i ≤ l.k) × Front (in_each (mark_field l.field) 1 l.p l.step l.i (drop l.at l.b)) l.initial.out l.out l.i
 
 abbrev pub decreases-loop-i : goal.decreases-loop-i
 decreases-loop-i l = l.k - l.i

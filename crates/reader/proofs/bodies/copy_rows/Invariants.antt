@@ -12,7 +12,7 @@ use Rattle.reader.proofs.Turns.{rows_put}
 use Rattle.reader.proofs.bodies.copy_rows.Given as goal
 
 abbrev pub invariant-loop-i : goal.invariant-loop-i
-invariant-loop-i l = (l.i ≤ l.k) × Front (in_each 8 l.n l.p l.step l.i (drop l.at l.b)) l.initial.out l.initial.i (l.n * l.i)
+invariant-loop-i l = (l.i ≤ l.k) × Front (in_each 8 l.n l.p l.step l.i (drop l.at l.b)) l.initial.out l.out (l.n * l.i)
 
 abbrev pub decreases-loop-i : goal.decreases-loop-i
 decreases-loop-i l = l.k - l.i

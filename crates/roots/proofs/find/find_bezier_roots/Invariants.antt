@@ -10,7 +10,7 @@ use Rattle.roots.proofs.Stack.{blank, stack_of, Going, start, full, done, stops,
 use Rattle.roots.proofs.find.find_bezier_roots.Given as goal
 
 abbrev pub invariant-loop-waiting : goal.invariant-loop-waiting
-invariant-loop-waiting l = Going (find 8 l.sections (stack_of l.initial.sections l.roots)) (length l.initial.roots) l.waiting l.initial.left l.left l.initial.found l.found
+invariant-loop-waiting l = Going (find 8 l.initial.left (stack_of l.initial.waiting l.initial.sections)) (length l.initial.roots) l.roots l.sections l.waiting l.left l.found
 
 abbrev pub decreases-loop-waiting : goal.decreases-loop-waiting
-decreases-loop-waiting l = l.initial.found
+decreases-loop-waiting l = l.left

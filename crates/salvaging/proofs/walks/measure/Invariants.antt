@@ -9,7 +9,7 @@ use borrow.Author.Rules.{rules}
 use Rattle.salvaging.proofs.walks.measure.Given as goal
 
 abbrev pub invariant-loop-i : goal.invariant-loop-i
-invariant-loop-i l = (l.i ≤ l.n) × ((l.initial.i ≤ 32 * l.i) × (l.initial.i + length (left_of l.part l.file l.n l.size l.i) ≡ length (part_of l.part l.file l.n)))
+invariant-loop-i l = (l.i ≤ l.n) × ((l.size ≤ 32 * l.i) × (l.size + length (left_of l.part l.file l.n l.last l.i) ≡ length (part_of l.part l.file l.n)))
 
 abbrev pub decreases-loop-i : goal.decreases-loop-i
 decreases-loop-i l = l.n - l.i

@@ -9,7 +9,7 @@ use borrow.Author.Rules.{rules}
 use Rattle.salvaging.proofs.walks.put_part.Given as goal
 
 abbrev pub invariant-loop-i : goal.invariant-loop-i
-invariant-loop-i l = (l.i ≤ l.file) × Goes l.initial.out l.out (part_of l.at l.part l.file) l.initial.end l.initial.i (left_of l.at l.part l.file l.end l.i)
+invariant-loop-i l = (l.i ≤ l.n) × Goes l.initial.out l.at (part_of l.part l.file l.n) l.out l.end (left_of l.part l.file l.n l.last l.i)
 
 abbrev pub decreases-loop-i : goal.decreases-loop-i
-decreases-loop-i l = l.file - l.i
+decreases-loop-i l = l.n - l.i

@@ -14,7 +14,7 @@ use Rattle.squares.specs.declared.sums.Sums.{Sums}
 use Rattle.squares.proofs.sums.sums_of.Given as goal
 
 abbrev pub invariant-loop-i : goal.invariant-loop-i
-invariant-loop-i l = (l.i ≤ length l.params) × (l.initial.i ≡ (upto l.i zeros (sum_at l.marks l.params l.st l.et)).val)
+invariant-loop-i l = (l.i ≤ length l.params) × (l.s ≡ (upto l.i zeros (sum_at l.marks l.params l.st l.et)).val)
 
 abbrev pub decreases-loop-i : goal.decreases-loop-i
 decreases-loop-i l = length l.params - l.i

@@ -7,7 +7,7 @@ use lib.ListN.{length, length-set}
 use Rattle.stages.proofs.chords.guess_distances.Given as goal
 
 abbrev pub invariant-loop-k : goal.invariant-loop-k
-invariant-loop-k l = (1 ≤ l.k) × (length l.initial.k ≡ length l.initial.params)
+invariant-loop-k l = (1 ≤ l.k) × (length l.params ≡ length l.initial.params)
 
 abbrev pub decreases-loop-k : goal.decreases-loop-k
 decreases-loop-k l = length l.initial.params - l.k

@@ -19,7 +19,7 @@ use Rattle.stages.proofs.InPlace.{Done, start, len, read, more, finish}
 use Rattle.stages.proofs.steps.reparameterize.Given as goal
 
 abbrev pub invariant-loop-i : goal.invariant-loop-i
-invariant-loop-i l = Done (step_at l.marks l.c l.initial.params) l.initial.params l.fine l.initial.i l.i
+invariant-loop-i l = Done (step_at l.marks l.c l.initial.params) l.initial.params l.params l.fine l.i
 
 abbrev pub decreases-loop-i : goal.decreases-loop-i
 decreases-loop-i l = length l.initial.params - l.i

@@ -24,7 +24,7 @@ use Rattle.stages.proofs.Errors.{error_fine, error_bad, error_sign}
 use Rattle.stages.proofs.worst.largest_error.Given as goal
 
 abbrev pub invariant-loop-i : goal.invariant-loop-i
-invariant-loop-i l = Sofar l.marks l.c l.params l.initial.i l.i
+invariant-loop-i l = Sofar l.marks l.c l.params l.w l.i
 
 abbrev pub decreases-loop-i : goal.decreases-loop-i
 decreases-loop-i l = length l.params - l.i

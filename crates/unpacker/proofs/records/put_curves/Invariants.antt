@@ -14,7 +14,7 @@ use borrow.Author.Rules.{rules}
 use Rattle.unpacker.proofs.records.put_curves.Given as goal
 
 abbrev pub invariant-loop-i : goal.invariant-loop-i
-invariant-loop-i l = (l.i ≤ l.k) × ((l.initial.i ≡ sets l.initial.out l.out (each l.i (record_here l.file l.form l.field l.n))) × (length l.initial.i ≡ length l.initial.out))
+invariant-loop-i l = (l.i ≤ l.k) × ((l.out ≡ sets l.initial.out l.at (each l.i (record_here l.file l.form l.field l.n))) × (length l.out ≡ length l.initial.out))
 
 abbrev pub decreases-loop-i : goal.decreases-loop-i
 decreases-loop-i l = l.k - l.i

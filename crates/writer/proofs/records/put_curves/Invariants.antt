@@ -13,7 +13,7 @@ use borrow.Author.Rules.{rules}
 use Rattle.writer.proofs.records.put_curves.Given as goal
 
 abbrev pub invariant-loop-i : goal.invariant-loop-i
-invariant-loop-i l = (l.i ≤ l.curves) × ((l.initial.i ≡ sets l.initial.out l.out (flat (curve_records l.at l.form (take l.i l.field) (take (worsts_for l.at l.i) l.firsts) (take (width l.at * l.i) l.worsts)))) × (length l.initial.i ≡ length l.initial.out))
+invariant-loop-i l = (l.i ≤ l.k) × ((l.out ≡ sets l.initial.out l.at (flat (curve_records l.form l.field (take l.i l.firsts) (take (worsts_for l.form l.i) l.worsts) (take (width l.form * l.i) l.curves)))) × (length l.out ≡ length l.initial.out))
 
 abbrev pub decreases-loop-i : goal.decreases-loop-i
-decreases-loop-i l = l.curves - l.i
+decreases-loop-i l = l.k - l.i
