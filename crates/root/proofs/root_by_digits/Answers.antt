@@ -1,9 +1,9 @@
 -- `root::root_by_digits` meets its contract: the loop's invariant is `Digits`.
 use Prim.Native.Nat.{◌-◌, ◌^◌, ◌<◌}
 use native.Mathlib.Omega.{arith}
-use mathlib.Core.Logic.{⊎_elim}
 use Rattle.root.proofs.Digits.{Digits, top, start, turn_one, turn-zero, done, moved}
 use Rattle.root.proofs.root_by_digits.Goals as goal
+use Rattle.root.proofs.root_by_digits.Goals.{then-trial-next, else-trial-next}
 
 pub loop-i-init : goal.loop-i-init
 loop-i-init c = start c.args.a c.requires
@@ -63,10 +63,9 @@ pub loop-i-preserved : goal.loop-i-preserved
 loop-i-preserved c =
     let a = c.args.a in
     let l = c.loop-i in
-    ⊎_elim
-    (λ w. moved w.1 w.2 (turn_one a l.root l.rest l.left l.i l.invariant c.loop-i-test.true w.0.taken))
-    (λ w. moved w.1 w.2 (turn-zero a l.root l.rest l.left l.i l.invariant c.loop-i-test.true w.0.left))
-    c.if-trial-next.branch
+    elim c.if-trial-next.branch [
+    | then-trial-next w ↦ moved w.root-is w.rest-is (turn_one a l.root l.rest l.left l.i l.invariant c.loop-i-test.true w.if-trial-next.true)
+    | else-trial-next w ↦ moved w.root-is w.rest-is (turn-zero a l.root l.rest l.left l.i l.invariant c.loop-i-test.true w.if-trial-next.false) ]
 
 pub returns : goal.returns
 returns c =
