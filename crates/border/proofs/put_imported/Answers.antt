@@ -1,0 +1,13 @@
+-- `border::put_imported` meets its contract.
+use borrow.Author.Rules.{rules}
+use mathlib.Core.Path.{refl}
+use Rattle.border.specs.Crossing.{drawn_crossed}
+use Rattle.border.proofs.put_imported.Goals as goal
+
+pub returns-in-Path : goal.returns-in-Path
+unfolding drawn_crossed
+returns-in-Path c = rw c.answer-1.given.1 refl
+
+pub returns-in-Refused : goal.returns-in-Refused
+unfolding drawn_crossed
+returns-in-Refused c = rw c.answer-in-Refused-1.given.1 refl

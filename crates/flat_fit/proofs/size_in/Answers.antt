@@ -1,0 +1,10 @@
+-- `flat_fit::size_in` meets its contract.
+use borrow.Author.Rules.{rules}
+use Rattle.flat_fit.proofs.Flat.{given-size, by_size}
+use Rattle.flat_fit.proofs.size_in.Goals as goal
+
+pub returns-in-Given : goal.returns-in-Given
+returns-in-Given c = given-size c.args.heading _ c.args.n c.enum_told-1.given.1 c.requires
+
+pub returns-in-By : goal.returns-in-By
+returns-in-By c = by_size c.args.heading _ c.args.n _ c.enum_told-in-By-1.given.1 c.max_points_to_fit.ensures

@@ -1,0 +1,17 @@
+-- What the loops of `part::improve` keep.
+use borrow.Author.Rules.{rules}
+use borrow.Author.Tests.{not-true, not-false}
+use mathlib.Core.Path.{◌≡◌, refl, sym, ◌∙◌}
+use native.Mathlib.Omega.{arith}
+use lib.ListN.{length}
+use Rattle.float.specs.Answer.{outcome}
+use Rattle.part.specs.Trial.{improve}
+use Rattle.part.specs.Answers.{trial_of}
+use Rattle.part.proofs.Trials.{found, lost, solves_no, solves_ok, improve_end, go_lost, go_off, go_last, go_more}
+use Rattle.part.proofs.improve.Given as goal
+
+abbrev pub invariant-loop-left : goal.invariant-loop-left
+invariant-loop-left l = (length l.params ≡ length l.initial.params) × (outcome (improve 7 l.marks l.st l.et l.tolerance (trial_of l.initial.s l.initial.params)) ≡ outcome (improve l.left l.marks l.st l.et l.tolerance (trial_of l.s l.params)))
+
+abbrev pub decreases-loop-left : goal.decreases-loop-left
+decreases-loop-left l = l.left

@@ -1,0 +1,37 @@
+-- `waiting::try_between`: the tangents by the two end marks, and then the part.
+use borrow.Author.Rules.{rules}
+use native.Mathlib.Omega.{arith}
+use lib.ListN.{length}
+use Rattle.part.specs.Part.{part_of}
+use Rattle.ring.proofs.Whole.{again-small}
+use Rattle.parts.specs.Headings.{outline_in, marks_in, start_in, end_in}
+use Rattle.waiting.specs.Waiting.{part_at}
+use Rattle.waiting.proofs.Steps.{same_part, given-even, reached, part_read, no_start, no_end, both_ways}
+use Rattle.waiting.proofs.try_between.Goals as goal
+
+pub returns-in_default : goal.returns-in_default
+returns-in_default c =
+    let a = c.args in
+    let ms = marks_in a.heading a.marks.now in
+    no_start (start_in a.heading ms a.n a.size a.from) (end_in a.heading ms a.n a.size a.to) (λ s e. part_of (part_at ms a.from a.to) s e a.tolerance) _ c.start_in.ensures _ c.enum_told-1.given.1
+
+pub returns-in_default-end_in : goal.returns-in_default-end_in
+returns-in_default-end_in c =
+    let a = c.args in
+    let ms = marks_in a.heading a.marks.now in
+    no_end (start_in a.heading ms a.n a.size a.from) (end_in a.heading ms a.n a.size a.to) (λ s e. part_of (part_at ms a.from a.to) s e a.tolerance) _ c.start_in.ensures _ _ c.start-1.given.1 _ c.end_in.ensures c.enum_told-in_default-end_in-1.given.1
+
+pub try_marks-requires : goal.try_marks-requires
+try_marks-requires c =
+    let a = c.args in
+    let p = c.requires in
+    let e = given-even a.heading a.marks.now a.round.now a.tail a.n a.size a.tolerance p.0 in
+    ((e.0, (p.1.0, omega (arith, e.1, p.1, again-small (outline_in a.heading)))), (p.1.1.1.1, reached a.heading a.marks.now a.round.now a.tail a.n a.size a.tolerance p.0 a.from a.to (length a.params.now) p.1))
+
+pub returns : goal.returns
+returns c =
+    let a = c.args in
+    let p = c.requires in
+    let ms = marks_in a.heading a.marks.now in
+    both_ways (start_in a.heading ms a.n a.size a.from) (end_in a.heading ms a.n a.size a.to) (λ s e. part_of (part_at ms a.from a.to) s e a.tolerance) _ c.start_in.ensures _ _ c.start-1.given.1 _ c.end_in.ensures _ c.end-1.given.1 _
+    (same_part _ _ c.start-1.given.0.0 c.end-1.given.0.0 a.tolerance _ _ (part_read a.heading a.marks.now a.round.now a.tail a.n a.size a.tolerance p.0 a.from a.to (length a.params.now) p.1) c.try_marks.ensures)
