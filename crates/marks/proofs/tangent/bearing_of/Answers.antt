@@ -2,7 +2,6 @@
 use mathlib.Core.Path.{sym, ◌∙◌}
 use Rattle.marks.proofs.Fine.{far_off, nowhere, toward_on, toward_off}
 use Rattle.marks.specs.Answers.{bearing_answer}
-use borrow.Author.Rules.{rules}
 use Rattle.marks.proofs.tangent.bearing_of.Goals as goal
 
 pub returns-in_default : goal.returns-in_default

@@ -2,7 +2,6 @@
 use mathlib.Core.Path.{ap, ◌∙◌}
 use Rattle.float.specs.Answer.{ok}
 use Rattle.marks.specs.Answers.{bearing_answer, way_answer}
-use borrow.Author.Rules.{rules}
 use Rattle.marks.proofs.tangent.or_zero.Goals as goal
 
 pub returns-in_default : goal.returns-in_default
