@@ -5,7 +5,10 @@ pub mod parts;
 
 ghost use Rattle.std.specs.Prelude.{◌<◌};
 
-use libc::{STDIN_FILENO, STDOUT_FILENO};
+// The descriptors of standard input and output.
+pub const STDIN: i32 = 0;
+
+pub const STDOUT: i32 = 1;
 
 // A byte as a number.
 fn wide(x: u8) -> u64
@@ -38,35 +41,35 @@ pub fn number(bytes: &[u8], at: usize) -> f64 {
 
 // Writes a number's bit pattern in 16 hex digits.
 pub fn print_number(x: f64) {
-    io::print_hex(STDOUT_FILENO, float::to_bits(x), 16);
+    io::print_hex(STDOUT, float::to_bits(x), 16);
 }
 
 // Writes a blank and then a number's bit pattern.
 pub fn print_next(x: f64) {
-    io::write_all(STDOUT_FILENO, b" ");
+    io::write_all(STDOUT, b" ");
     print_number(x);
 }
 
 // Writes a whole number in decimal.
 pub fn print_count(n: u64) {
-    io::print_decimal(STDOUT_FILENO, n);
+    io::print_decimal(STDOUT, n);
 }
 
 // Ends the line.
 pub fn end_line() {
-    io::write_all(STDOUT_FILENO, b"\n");
+    io::write_all(STDOUT, b"\n");
 }
 
 // Writes a blank and then a whole number in decimal.
 pub fn print_next_count(n: u64) {
-    io::write_all(STDOUT_FILENO, b" ");
+    io::write_all(STDOUT, b" ");
     print_count(n);
 }
 
 // The next number from standard input.
 fn read_float() -> f64 {
     let mut bytes = [0u8; 8];
-    io::read_full(STDIN_FILENO, &mut bytes);
+    io::read_full(STDIN, &mut bytes);
     number(&bytes, 0)
 }
 

@@ -11,7 +11,7 @@
 use cases::parts::{firsts_at, floats_at, front_firsts, front_floats, lent_firsts};
 use checker::{Checked, Fault, Place};
 use form::Form;
-use libc::{STDIN_FILENO, STDOUT_FILENO};
+use cases::{STDIN, STDOUT};
 use ring::Outline;
 
 // The outline that the list is of and its form, the claimed count, the lengths, where the worst marks, the curves and the parameters begin, how many numbers there are in all, and the tolerance.
@@ -136,8 +136,8 @@ fn print_tally(t: Tally) {
     cases::print_next_count(t.d);
     cases::print_next_count(t.e);
     cases::print_next_count(t.refused);
-    io::write_all(STDOUT_FILENO, b" ");
-    io::print_hex(STDOUT_FILENO, t.digest, 16);
+    io::write_all(STDOUT, b" ");
+    io::print_hex(STDOUT, t.digest, 16);
     cases::end_line();
 }
 
@@ -321,7 +321,7 @@ fn every_beside(all: &[f64], beside: &mut [u32], s: Sizes, n: u32) {
 // The next word from standard input.
 fn read_word() -> u64 {
     let mut bytes = [0u8; 8];
-    io::read_full(STDIN_FILENO, &mut bytes);
+    io::read_full(STDIN, &mut bytes);
     cases::word(&bytes, 0)
 }
 
@@ -410,7 +410,7 @@ fn record(s: Sizes, damage: u64) {
 // One record, if there is one.
 fn step() -> bool {
     let mut head = [0u8; 80];
-    if io::read_full(STDIN_FILENO, &mut head) < 80 {
+    if io::read_full(STDIN, &mut head) < 80 {
         return false;
     }
     record(sizes_of(&head), cases::word(&head, 64));

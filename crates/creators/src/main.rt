@@ -6,17 +6,18 @@
 mod boxes;
 mod tree;
 
-use libc::STDOUT_FILENO;
+// The descriptor of standard output.
+const STDOUT: i32 = 1;
 
 fn main() {
     let tally = boxes::all();
-    io::write_all(STDOUT_FILENO, b"SECTIONS ");
-    io::print_decimal(STDOUT_FILENO, tally.sections);
-    io::write_all(STDOUT_FILENO, b" OUTSIDE ");
-    io::print_decimal(STDOUT_FILENO, tally.outside);
-    io::write_all(STDOUT_FILENO, b" CREATORS ");
-    io::print_decimal(STDOUT_FILENO, tally.creators);
-    io::write_all(STDOUT_FILENO, b" BEYOND ");
-    io::print_decimal(STDOUT_FILENO, tally.beyond);
-    io::write_all(STDOUT_FILENO, b"\n");
+    io::write_all(STDOUT, b"SECTIONS ");
+    io::print_decimal(STDOUT, tally.sections);
+    io::write_all(STDOUT, b" OUTSIDE ");
+    io::print_decimal(STDOUT, tally.outside);
+    io::write_all(STDOUT, b" CREATORS ");
+    io::print_decimal(STDOUT, tally.creators);
+    io::write_all(STDOUT, b" BEYOND ");
+    io::print_decimal(STDOUT, tally.beyond);
+    io::write_all(STDOUT, b"\n");
 }

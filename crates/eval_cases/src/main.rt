@@ -3,7 +3,7 @@
 #![tactic(auto)]
 
 use bezier::{CoefficientsAnswer, HalvesAnswer, NumberAnswer, PointAnswer};
-use libc::STDIN_FILENO;
+use cases::STDIN;
 use plane::{Curve, Point};
 
 // The point that stands at a place of the record.
@@ -123,7 +123,7 @@ fn refine_line(r: &[u8; 104], t: f64, p1: Point, p2: Point, p3: Point, p4: Point
 // One record, if there is one.
 fn step() -> bool {
     let mut record = [0u8; 104];
-    if io::read_full(STDIN_FILENO, &mut record) < 104 {
+    if io::read_full(STDIN, &mut record) < 104 {
         return false;
     }
     answer(&record);

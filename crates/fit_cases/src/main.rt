@@ -12,7 +12,7 @@ ghost use Rattle.std.specs.Prelude.{◌≤◌};
 use cases::parts::{front_floats, lent_firsts, lent_floats};
 use cut::Fitted;
 use form::RECORD_NUMBERS;
-use libc::{STDIN_FILENO, STDOUT_FILENO};
+use cases::{STDIN, STDOUT};
 use plane::Point;
 
 // The bit pattern of 7.5.
@@ -32,8 +32,8 @@ const PARAMS: usize = 4097;
 fn print_state(before: u64, zeros: u64, digest: u64) {
     cases::print_next_count(before);
     cases::print_next_count(zeros);
-    io::write_all(STDOUT_FILENO, b" ");
-    io::print_hex(STDOUT_FILENO, digest, 16);
+    io::write_all(STDOUT, b" ");
+    io::print_hex(STDOUT, digest, 16);
 }
 
 // 1 where two words are equal.
@@ -295,7 +295,7 @@ fn record(head: &[u8; 104], marks: &[f64]) {
 // One record, if there is one with no more than there is room for.
 fn step() -> bool {
     let mut head = [0u8; 104];
-    if io::read_full(STDIN_FILENO, &mut head) < 104 {
+    if io::read_full(STDIN, &mut head) < 104 {
         return false;
     }
     if !fits(&head) {

@@ -13,7 +13,7 @@ ghost use Rattle.std.specs.Prelude.{◌<◌, length};
 
 use cases::parts::{front_bytes, front_words, lent_bytes, lent_firsts, lent_words};
 use form::Form;
-use libc::{STDIN_FILENO, STDOUT_FILENO};
+use cases::{STDIN, STDOUT};
 use lines::Listed;
 use packer::pack_file;
 use reader::Read;
@@ -82,7 +82,7 @@ fn count(t: Tally, answer: u32) -> Tally {
 }
 
 fn print_next(n: u64) {
-    io::write_all(STDOUT_FILENO, b" ");
+    io::write_all(STDOUT, b" ");
     cases::print_count(n);
 }
 
@@ -285,13 +285,13 @@ fn print_bytes(n: usize, file: &[u8], out: &[u8]) {
     print_next(n as u64);
     cases::end_line();
     if !same(file, front_bytes(out, n)) {
-        io::write_all(STDOUT_FILENO, b"DIFFERS\n");
+        io::write_all(STDOUT, b"DIFFERS\n");
     }
 }
 
 // What was written, against the file.
 fn print_written(wrote: Wrote, file: &[u8], out: &[u8]) {
-    io::write_all(STDOUT_FILENO, b" ");
+    io::write_all(STDOUT, b" ");
     match wrote {
         Wrote::Bytes(n) => print_bytes(n, file, out),
         Wrote::Refused(q) => print_refusal(q),
@@ -378,7 +378,7 @@ fn read_and_write(
 fn list(file: &[u8], out: &mut [u8]) {
     match outline::list_outline(file, out) {
         Listed::Bytes(n) => {
-            io::write_all(STDOUT_FILENO, front_bytes(out, n));
+            io::write_all(STDOUT, front_bytes(out, n));
         }
         Listed::Refused(q) => print_refusal(q),
     }
@@ -400,8 +400,8 @@ fn digest(xs: &[u8]) -> u64 {
 }
 
 fn print_digest(xs: &[u8]) {
-    io::write_all(STDOUT_FILENO, b" ");
-    io::print_hex(STDOUT_FILENO, digest(xs), 16);
+    io::write_all(STDOUT, b" ");
+    io::print_hex(STDOUT, digest(xs), 16);
 }
 
 // The answer of either way, without the end of its line.
@@ -589,7 +589,7 @@ fn read_run(file: &mut [u8], at: usize, end: usize) {
     if at > end {
         return;
     }
-    io::read_full(STDIN_FILENO, &mut file[at..end]);
+    io::read_full(STDIN, &mut file[at..end]);
 }
 
 fn read_runs(runs: Runs, file: &mut [u8]) {
@@ -614,7 +614,7 @@ fn in_room(head: &[u8; 104], room: &mut [u8; FILE]) {
 // One record, if there is one with no more than there is room for.
 fn step() -> bool {
     let mut head = [0u8; 104];
-    if io::read_full(STDIN_FILENO, &mut head) < 104 {
+    if io::read_full(STDIN, &mut head) < 104 {
         return false;
     }
     if !fits(&head) {

@@ -1,8 +1,7 @@
 // Judges a house file: the file on standard input, one line on standard output.
 #![tactic(auto)]
 
-use libc::STDIN_FILENO;
-use piped::print_listed;
+use piped::{STDIN, print_listed};
 use verdict::judge_file;
 
 // Room for a file, in a function of its own: an array that is made where it is used is long in every goal.
@@ -14,6 +13,6 @@ fn file_room() -> [u8; 434121] {
 fn main() {
     let mut file = file_room();
     let mut out = [0u8; 64];
-    let got = io::read_full(STDIN_FILENO, &mut file);
+    let got = io::read_full(STDIN, &mut file);
     print_listed(judge_file(&file[..got], &mut out), &out);
 }

@@ -1,9 +1,8 @@
 // Lists the outline of a house file: the file on standard input, its listing on standard output.
 #![tactic(auto)]
 
-use libc::STDIN_FILENO;
 use outline::list_outline;
-use piped::print_listed;
+use piped::{STDIN, print_listed};
 
 // Room for a file, in a function of its own: an array that is made where it is used is long in every goal.
 fn file_room() -> [u8; 65537] {
@@ -19,6 +18,6 @@ fn text_room() -> [u8; 78233] {
 fn main() {
     let mut file = file_room();
     let mut out = text_room();
-    let got = io::read_full(STDIN_FILENO, &mut file);
+    let got = io::read_full(STDIN, &mut file);
     print_listed(list_outline(&file[..got], &mut out), &out);
 }

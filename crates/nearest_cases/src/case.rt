@@ -3,9 +3,13 @@ ghost use Rattle.std.specs.Prelude.{◌+◌, ◌≤◌};
 
 use crate::compare::{Agreement, Tally, compared, count_near, count_other, count_same};
 use crate::words::{bits, number, word};
-use libc::{STDIN_FILENO, STDOUT_FILENO};
 use nearest::NearestPoint;
 use plane::{Curve, Point};
+
+// The descriptors of standard input and output.
+const STDIN: i32 = 0;
+
+const STDOUT: i32 = 1;
 
 // No more cases than this are read.
 const MOST_CASES: u64 = 100000;
@@ -25,14 +29,14 @@ fn point(record: &[u8; 88], at: usize) -> Point
 
 // Lists a case that is neither the same nor near.
 fn list(line: u64, rust: u64) {
-    io::write_all(STDOUT_FILENO, b"OTHER ");
-    io::print_decimal(STDOUT_FILENO, line);
+    io::write_all(STDOUT, b"OTHER ");
+    io::print_decimal(STDOUT, line);
     if rust == ENDLESS {
-        io::write_all(STDOUT_FILENO, b" ENDLESS\n");
+        io::write_all(STDOUT, b" ENDLESS\n");
     } else {
-        io::write_all(STDOUT_FILENO, b" ");
-        io::print_hex(STDOUT_FILENO, rust, 16);
-        io::write_all(STDOUT_FILENO, b"\n");
+        io::write_all(STDOUT, b" ");
+        io::print_hex(STDOUT, rust, 16);
+        io::write_all(STDOUT, b"\n");
     }
 }
 
@@ -63,16 +67,16 @@ fn report(line: u64, record: [u8; 88], tally: Tally) -> Tally {
     let rust = word(&record, 80);
     match nearest::nearest_point_on_curve(curve, point(&record, 64)) {
         NearestPoint::Found(t, distance_sq) => {
-            io::write_all(STDOUT_FILENO, b"0 ");
-            io::print_hex(STDOUT_FILENO, bits(t), 16);
-            io::write_all(STDOUT_FILENO, b" ");
-            io::print_hex(STDOUT_FILENO, bits(distance_sq), 16);
-            io::write_all(STDOUT_FILENO, b"\n");
+            io::write_all(STDOUT, b"0 ");
+            io::print_hex(STDOUT, bits(t), 16);
+            io::write_all(STDOUT, b" ");
+            io::print_hex(STDOUT, bits(distance_sq), 16);
+            io::write_all(STDOUT, b"\n");
             count(line, t, rust, tally)
         }
         NearestPoint::Refused(n) => {
-            io::print_decimal(STDOUT_FILENO, n as u64);
-            io::write_all(STDOUT_FILENO, b"\n");
+            io::print_decimal(STDOUT, n as u64);
+            io::write_all(STDOUT, b"\n");
             list(line, rust);
             count_other(tally)
         }
@@ -90,7 +94,7 @@ pub fn report_all() -> Tally {
     while line < MOST_CASES {
         line += 1;
         let mut record = [0u8; 88];
-        if io::read_full(STDIN_FILENO, &mut record) < 88 {
+        if io::read_full(STDIN, &mut record) < 88 {
             return tally;
         }
         tally = report(line, record, tally);
@@ -100,11 +104,11 @@ pub fn report_all() -> Tally {
 
 // Writes how many parameters agree.
 pub fn write_tally(tally: Tally) {
-    io::write_all(STDOUT_FILENO, b"SAME ");
-    io::print_decimal(STDOUT_FILENO, tally.same);
-    io::write_all(STDOUT_FILENO, b" NEAR ");
-    io::print_decimal(STDOUT_FILENO, tally.near);
-    io::write_all(STDOUT_FILENO, b" OTHER ");
-    io::print_decimal(STDOUT_FILENO, tally.other);
-    io::write_all(STDOUT_FILENO, b"\n");
+    io::write_all(STDOUT, b"SAME ");
+    io::print_decimal(STDOUT, tally.same);
+    io::write_all(STDOUT, b" NEAR ");
+    io::print_decimal(STDOUT, tally.near);
+    io::write_all(STDOUT, b" OTHER ");
+    io::print_decimal(STDOUT, tally.other);
+    io::write_all(STDOUT, b"\n");
 }

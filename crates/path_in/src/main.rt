@@ -1,9 +1,8 @@
 // Lists the curves of path data: the text on standard input, its listing on standard output.
 #![tactic(auto)]
 
-use libc::STDIN_FILENO;
 use path_list::list_path;
-use piped::print_listed;
+use piped::{STDIN, print_listed};
 
 // Room for a text, in a function of its own: an array that is made where it is used is long in every goal.
 fn text_room() -> [u8; 262145] {
@@ -19,6 +18,6 @@ fn list_room() -> [u8; 78369] {
 fn main() {
     let mut text = text_room();
     let mut out = list_room();
-    let got = io::read_full(STDIN_FILENO, &mut text);
+    let got = io::read_full(STDIN, &mut text);
     print_listed(list_path(&text[..got], &mut out), &out);
 }

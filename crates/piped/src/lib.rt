@@ -1,8 +1,14 @@
 // What the programs over house files print.
 #![tactic(auto)]
 
-use libc::STDOUT_FILENO;
 use lines::Listed;
+
+// The descriptors of standard input, output and error.
+pub const STDIN: i32 = 0;
+
+pub const STDOUT: i32 = 1;
+
+pub const STDERR: i32 = 2;
 
 // Writes the first n bytes.
 pub fn print_front(to: i32, out: &[u8], n: usize) {
@@ -17,8 +23,8 @@ pub fn print_front(to: i32, out: &[u8], n: usize) {
 // those that a text names.
 pub fn print_listed(listed: Listed, out: &[u8]) {
     let Listed::Bytes(n) = listed else {
-        io::write_all(STDOUT_FILENO, b"REFUSED 4\n");
+        io::write_all(STDOUT, b"REFUSED 4\n");
         return;
     };
-    print_front(STDOUT_FILENO, out, n);
+    print_front(STDOUT, out, n);
 }

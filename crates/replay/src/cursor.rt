@@ -3,7 +3,7 @@
 // once whether the last place is the line's end.
 ghost use Rattle.std.specs.Prelude.{◌≤◌};
 
-use bytes::scan;
+use crate::scan;
 use plane::{Curve, Point};
 use words::Read;
 

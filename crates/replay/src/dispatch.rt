@@ -1,10 +1,9 @@
 // A line, answered by the kind that its first word names.
 use crate::kind::{EXPORT, PACK, SALVAGE, SINGLE_KINDS, kind_of};
 use crate::outline::Fit;
-use crate::{listing, outline, packing, paths, room, single};
-use bytes::scan;
+use crate::{listing, outline, packing, paths, room, scan, single};
 use form::Form;
-use libc::STDOUT_FILENO;
+use cases::STDOUT;
 use ring::Outline;
 
 // Whether a line of one of the first kinds is a case; what a case answers is printed. The kinds are in the order of their names' list.
@@ -90,7 +89,7 @@ fn answered(line: &mut [u8]) -> bool {
 // The answer to a line, and a newline. A line that is no case is bad.
 pub fn answer(line: &mut [u8]) {
     if !answered(line) {
-        io::write_all(STDOUT_FILENO, b"BAD");
+        io::write_all(STDOUT, b"BAD");
     }
     cases::end_line();
 }

@@ -3,7 +3,7 @@ ghost use Rattle.std.specs.Prelude.{◌≤◌};
 
 use crate::dispatch::answer;
 use crate::room;
-use libc::STDIN_FILENO;
+use std::io::{Read, Stdin};
 
 // How much there is of a line after a chunk, or that the input has ended.
 #[derive(Clone, Copy)]
@@ -51,9 +51,8 @@ fn take_bytes(chunk: &[u8], line: &mut [u8], start: usize) -> usize {
 }
 
 // One chunk of the input.
-fn take_chunk(chunk: &mut [u8], line: &mut [u8], len: usize) -> Turn {
-    let got = libc::read(STDIN_FILENO, chunk);
-    let n = io::count(got, chunk);
+fn take_chunk(stdin: &mut Stdin, chunk: &mut [u8], line: &mut [u8], len: usize) -> Turn {
+    let n = stdin.read(chunk).unwrap_or(0);
     if n == 0 {
         return Turn::End;
     }
@@ -62,11 +61,11 @@ fn take_chunk(chunk: &mut [u8], line: &mut [u8], len: usize) -> Turn {
 }
 
 // The input to its end. Nothing says that it ends, so the turns are counted, up to a number that no run uses up.
-fn take_chunks(chunk: &mut [u8], line: &mut [u8]) -> usize {
+fn take_chunks(stdin: &mut Stdin, chunk: &mut [u8], line: &mut [u8]) -> usize {
     let mut len: usize = 0;
     let mut turns: u64 = 0;
     while turns < 0xffff_ffff_ffff {
-        let Turn::More(next) = take_chunk(chunk, line, len) else {
+        let Turn::More(next) = take_chunk(stdin, chunk, line, len) else {
             return len;
         };
         len = next;
@@ -76,15 +75,16 @@ fn take_chunks(chunk: &mut [u8], line: &mut [u8]) -> usize {
 }
 
 // All lines; a last one without a newline counts. The line's room comes as an array by its type, so that no proof counts its bytes.
-fn take_lines(line: &mut [u8; room::LINE]) {
+fn take_lines(stdin: &mut Stdin, line: &mut [u8; room::LINE]) {
     let mut chunk = [0u8; 65536];
-    let last = take_chunks(&mut chunk, line);
+    let last = take_chunks(stdin, &mut chunk, line);
     if last > 0 {
         end_line(line, last);
     }
 }
 
-pub fn run() {
+pub fn run(stdin: Stdin) {
+    let mut input = stdin;
     let mut line = room::line();
-    take_lines(&mut line);
+    take_lines(&mut input, &mut line);
 }

@@ -1,6 +1,5 @@
 // The kinds of cases by their names.
-use bytes::scan;
-use check::same;
+use crate::scan;
 
 // How many of the names, which a blank separates, come before the one that is the word.
 fn place_of(word: &[u8], names: &[u8]) -> usize {
@@ -8,7 +7,7 @@ fn place_of(word: &[u8], names: &[u8]) -> usize {
     let mut from: usize = 0;
     while from < names.len() {
         let end = scan::find(names, from, names.len(), b' ');
-        if same(word, &names[from..end]) {
+        if word == &names[from..end] {
             return k;
         }
         k += 1;

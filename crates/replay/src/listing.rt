@@ -6,7 +6,7 @@ use crate::print::{print_accepted, print_refused};
 use crate::room;
 use checker::{Checked, Fault, Place};
 use form::{CURVE_NUMBERS, Form, RECORD_NUMBERS, width};
-use libc::STDOUT_FILENO;
+use cases::STDOUT;
 use ring::Outline;
 
 const MOST_FIRST: u64 = 0xffff_ffff;
@@ -59,7 +59,7 @@ fn take_curves(
 // A fault's kind, curve and mark.
 fn say_place(letter: u8, p: Place) {
     let word = [b'F', b'A', b'U', b'L', b'T', b' ', letter];
-    io::write_all(STDOUT_FILENO, &word);
+    io::write_all(STDOUT, &word);
     cases::print_next_count(p.curve as u64);
     cases::print_next_count(p.mark as u64);
 }

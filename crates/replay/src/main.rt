@@ -40,8 +40,9 @@ mod packing;
 mod paths;
 mod print;
 mod room;
+mod scan;
 mod single;
 
-fn main() {
-    input::run();
+fn main(rt: HostRuntime) {
+    input::run(rt.stdin());
 }

@@ -6,7 +6,7 @@ use crate::kind::{PACK, SALVAGE};
 use crate::print::{print_accepted, print_bytes, print_refused};
 use crate::room;
 use cases::parts::front_bytes;
-use libc::STDOUT_FILENO;
+use cases::STDOUT;
 use lines::Listed;
 use packer::pack_file;
 use salvaging::{Salvaged, salvage};
@@ -73,7 +73,7 @@ fn decode(line: &mut [u8], from: usize) -> usize {
 // The other file.
 fn say_file(file: &[u8]) {
     print_accepted();
-    io::write_all(STDOUT_FILENO, b" ");
+    io::write_all(STDOUT, b" ");
     print_bytes(file);
 }
 
@@ -96,7 +96,7 @@ fn say_packing(packs: bool, file: &[u8], out: &mut [u8]) {
 // A cleaned file, and the list of the marks that were dropped.
 fn say_cleaned(file: &[u8], report: &[u8]) {
     say_file(file);
-    io::write_all(STDOUT_FILENO, b" ");
+    io::write_all(STDOUT, b" ");
     print_bytes(report);
 }
 

@@ -1,13 +1,11 @@
 // Cases of path data: curves to a text, and a text to curves. A text may draw more curves than there is room for, and is refused for room then.
 use crate::cursor::{NOWHERE, front, take_count, take_some};
 use crate::print::{print_accepted, print_floats, print_refused};
-use crate::room;
-use bytes::scan;
-use check::same;
+use crate::{room, scan};
 use export::export_path;
 use form::{CURVE_NUMBERS, Form};
 use import::{Imported, import_path};
-use libc::STDOUT_FILENO;
+use cases::STDOUT;
 use lines::Listed;
 
 // Whether a ring is meant, with the place behind the word.
@@ -19,13 +17,13 @@ struct Course {
 
 // What a word means.
 fn course_of(word: &[u8], end: usize) -> Course {
-    if same(word, b"RING") {
+    if word == b"RING" {
         return Course {
             ring: true,
             then: end,
         };
     }
-    if same(word, b"OPEN") {
+    if word == b"OPEN" {
         return Course {
             ring: false,
             then: end,
@@ -53,10 +51,10 @@ fn take_course(line: &[u8], at: usize) -> Course {
 // The first n bytes behind a blank.
 fn say_text(text: &[u8], n: usize) {
     print_accepted();
-    io::write_all(STDOUT_FILENO, b" ");
+    io::write_all(STDOUT, b" ");
     let from: usize = 0;
     if n <= text.len() {
-        io::write_all(STDOUT_FILENO, &text[from..n]);
+        io::write_all(STDOUT, &text[from..n]);
     }
 }
 
@@ -93,9 +91,9 @@ fn say_path(count: usize, closed: bool, curves: &[f64]) {
     print_accepted();
     cases::print_next_count(count as u64);
     if closed {
-        io::write_all(STDOUT_FILENO, b" CLOSED");
+        io::write_all(STDOUT, b" CLOSED");
     } else {
-        io::write_all(STDOUT_FILENO, b" OPEN");
+        io::write_all(STDOUT, b" OPEN");
     }
     print_floats(first_curves(curves, count));
 }

@@ -1,14 +1,14 @@
 // Numbers as words of an answer.
 ghost use Rattle.std.specs.Prelude.{◌<◌, ◌≤◌};
 
-use libc::STDOUT_FILENO;
+use cases::STDOUT;
 use plane::{Curve, Point};
 
 // A blank and the bits of a float.
 pub fn print_float(x: f64) {
     let mut word = [b' '; 17];
     text::put_hex(&mut word, 1, float::to_bits(x));
-    io::write_all(STDOUT_FILENO, &word);
+    io::write_all(STDOUT, &word);
 }
 
 // Every number of a slice.
@@ -48,7 +48,7 @@ fn print_piece(piece: &[u8]) {
         x = x % 0x100_0000_0000_0000 * 256 + wide(piece[i]);
         i += 1;
     }
-    io::print_hex(STDOUT_FILENO, x, 2 * piece.len());
+    io::print_hex(STDOUT, x, 2 * piece.len());
 }
 
 // Where eight bytes end, or fewer at the end of all.

@@ -1,8 +1,7 @@
 // Cleans a house file: the file on standard input; on standard output the file with its tolerance and the marks kept, and on standard error the list of the marks dropped, or one line that names a refusal.
 #![tactic(auto)]
 
-use libc::{STDERR_FILENO, STDIN_FILENO, STDOUT_FILENO};
-use piped::print_front;
+use piped::{STDERR, STDIN, STDOUT, print_front};
 use salvaging::{Salvaged, salvage_file};
 
 // Room for a file, in a function of its own: an array that is made where it is used is long in every goal.
@@ -27,11 +26,11 @@ fn print_salvaged(salvaged: Salvaged, out: &[u8], report: &[u8]) {
         report: listed,
     } = salvaged
     else {
-        io::write_all(STDERR_FILENO, b"REFUSED 4\n");
+        io::write_all(STDERR, b"REFUSED 4\n");
         return;
     };
-    print_front(STDOUT_FILENO, out, cleaned);
-    print_front(STDERR_FILENO, report, listed);
+    print_front(STDOUT, out, cleaned);
+    print_front(STDERR, report, listed);
 }
 
 // One byte more is read than is cleaned, so that too long a file is seen.
@@ -39,7 +38,7 @@ fn main() {
     let mut file = file_room();
     let mut out = clean_room();
     let mut report = list_room();
-    let got = io::read_full(STDIN_FILENO, &mut file);
+    let got = io::read_full(STDIN, &mut file);
     let salvaged = salvage_file(&file[..got], &mut out, &mut report);
     print_salvaged(salvaged, &out, &report);
 }

@@ -1,8 +1,7 @@
 // Fits a house file: the file on standard input, the same marks with their curves as a house file on standard output; or one line that names a refusal.
 #![tactic(auto)]
 
-use libc::STDIN_FILENO;
-use piped::print_listed;
+use piped::{STDIN, print_listed};
 use saving::save_fit;
 
 // Room for a file, in a function of its own: an array that is made where it is used is long in every goal.
@@ -19,6 +18,6 @@ fn text_room() -> [u8; 434120] {
 fn main() {
     let mut file = file_room();
     let mut out = text_room();
-    let got = io::read_full(STDIN_FILENO, &mut file);
+    let got = io::read_full(STDIN, &mut file);
     print_listed(save_fit(&file[..got], &mut out), &out);
 }

@@ -2,7 +2,7 @@
 // The digest of one size is that size.
 #![tactic(auto)]
 
-use libc::STDOUT_FILENO;
+use cases::STDOUT;
 
 fn size_of(n: u64) -> u64 {
     marks::max_points_to_fit(n as usize) as u64
@@ -24,8 +24,8 @@ fn range(first: u64, last: u64) {
     cases::print_count(first);
     cases::print_next_count(last);
     cases::print_next_count(size_of(last));
-    io::write_all(STDOUT_FILENO, b" ");
-    io::print_hex(STDOUT_FILENO, digest(first, last), 16);
+    io::write_all(STDOUT, b" ");
+    io::print_hex(STDOUT, digest(first, last), 16);
     cases::end_line();
 }
 

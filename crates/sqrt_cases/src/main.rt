@@ -2,7 +2,7 @@
 // of output, the pattern and its root's.
 #![tactic(auto)]
 
-use libc::STDIN_FILENO;
+use cases::STDIN;
 
 // The line of one pattern.
 fn line(record: &[u8; 8]) {
@@ -15,7 +15,7 @@ fn line(record: &[u8; 8]) {
 // One record, if there is one.
 fn step() -> bool {
     let mut record = [0u8; 8];
-    if io::read_full(STDIN_FILENO, &mut record) < 8 {
+    if io::read_full(STDIN, &mut record) < 8 {
         return false;
     }
     line(&record);

@@ -1,5 +1,5 @@
 -- `cases::word` meets its contract: it ends, and stays inside its bytes.
-use Rattle.std.proofs.Common.{◌+◌, ◌≤◌, length, arith, rules}
+use Rattle.std.proofs.Common.{arith}
 use Rattle.cases.proofs.word.Goals as goal
 
 pub loop-i-init : goal.loop-i-init

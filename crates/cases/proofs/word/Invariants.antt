@@ -1,5 +1,5 @@
 -- What the loops of `cases::word` keep.
-use Rattle.std.proofs.Common.{◌+◌, ◌≤◌, length, arith, rules}
+use Rattle.std.proofs.Common.{◌+◌, ◌≤◌, length}
 use Rattle.cases.proofs.word.Given as goal
 
 abbrev pub invariant-loop-i : goal.invariant-loop-i

@@ -1,6 +1,5 @@
 -- `lines::hand_over` meets its contract.
 use native.Mathlib.Omega.{arith}
-use borrow.Author.Rules.{rules}
 use Rattle.lines.proofs.Handed.{over-short, over-whole}
 use Rattle.lines.proofs.hand_over.Goals as goal
 

@@ -1,7 +1,6 @@
 -- `lines::hand_refusal` meets its contract.
 use mathlib.Core.Path.{sym}
 use native.Mathlib.Omega.{arith}
-use borrow.Author.Rules.{rules}
 use lib.Seq.{length-take-le}
 use Rattle.text.proofs.Stores.{put-length}
 use Rattle.lines.proofs.Handed.{over-front}

@@ -1,6 +1,5 @@
 -- `lines::put_number` meets its contract.
 use mathlib.Core.List.{append-nil}
-use borrow.Author.Rules.{rules}
 use Rattle.text.proofs.Stores.{one, next}
 use Rattle.text.proofs.Digits.{one_hex}
 use Rattle.lines.specs.Lines.{numbers, blank}

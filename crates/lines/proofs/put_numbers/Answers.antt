@@ -1,12 +1,11 @@
 -- `lines::put_numbers` meets its contract. After i turns the first i numbers are there.
 use mathlib.Core.Path.{◌≡◌, refl, sym}
-use Prim.Native.Nat.{◌+◌, ◌-◌, ◌*◌, ◌<◌, ◌≤◌}
+use Prim.Native.Nat.{◌<◌}
 use native.Mathlib.Nat.{add-zero}
 use native.Mathlib.Omega.{arith}
 use mathlib.Core.List.{[], ◌∷◌}
-use lib.ListN.{length, take, get_or}
+use lib.ListN.{length, get_or}
 use lib.Ieee.{nan}
-use Rattle.text.specs.Put.{Put}
 use Rattle.text.proofs.Stores.{next, put-length}
 use Rattle.lines.specs.Lines.{numbers}
 use Rattle.lines.proofs.Turns.{length-numbers, numbers-suc}

@@ -1,15 +1,9 @@
 -- What the loops of `lines::put_numbers` keep.
-use mathlib.Core.Path.{◌≡◌, refl, sym}
-use Prim.Native.Nat.{◌+◌, ◌-◌, ◌*◌, ◌<◌, ◌≤◌}
-use native.Mathlib.Nat.{add-zero}
-use native.Mathlib.Omega.{arith}
-use mathlib.Core.List.{[], ◌∷◌}
-use lib.ListN.{length, take, get_or}
-use lib.Ieee.{nan}
+use mathlib.Core.Path.{◌≡◌}
+use Prim.Native.Nat.{◌+◌, ◌-◌, ◌*◌, ◌≤◌}
+use lib.ListN.{take}
 use Rattle.text.specs.Put.{Put}
-use Rattle.text.proofs.Stores.{next, put-length}
 use Rattle.lines.specs.Lines.{numbers}
-use Rattle.lines.proofs.Turns.{length-numbers, numbers-suc}
 use Rattle.lines.proofs.put_numbers.Given as goal
 
 abbrev pub invariant-loop-i : goal.invariant-loop-i

@@ -1,6 +1,5 @@
 -- `lines::put_one` meets its contract.
 use native.Mathlib.Omega.{arith}
-use borrow.Author.Rules.{rules}
 use Rattle.text.specs.Text.{decimal}
 use Rattle.text.proofs.Stores.{one, next}
 use Rattle.text.proofs.Digits.{decimal_u64}
@@ -16,4 +15,4 @@ put_bytes-requires c = omega (arith, decimal_u64 c.args.a c.ranges.a.fits)
 pub returns : goal.returns
 unfolding one_line
 returns c =
-    (omega (arith, decimal_u64 c.args.a c.ranges.a.fits), next (next (one c.args.out.now 0 c.args.word.now c.put_bytes-number.ensures) (one _ _ (decimal c.args.a) c.put_decimal-end.ensures)) (one _ _ newline c.put_bytes-number.ensures))
+    (omega (arith, decimal_u64 c.args.a c.ranges.a.fits), next (next (one c.args.out.now 0 c.args.word.now c.put_bytes-number.ensures) (one _ _ (decimal c.args.a) c.put_decimal-end.ensures)) (one _ _ newline c.put_bytes.ensures))

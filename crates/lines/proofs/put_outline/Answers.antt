@@ -1,6 +1,5 @@
 -- `lines::put_outline` meets its contract.
 use native.Mathlib.Omega.{arith}
-use borrow.Author.Rules.{rules}
 use lib.Seq.{length-take-le}
 use Rattle.text.proofs.Stores.{next}
 use Rattle.lines.specs.Lines.{outline_lines}

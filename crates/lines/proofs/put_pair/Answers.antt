@@ -4,7 +4,6 @@ use Rattle.text.specs.Text.{decimal}
 use Rattle.text.proofs.Stores.{one, next}
 use Rattle.lines.specs.Lines.{newline, pair_line}
 use Rattle.lines.proofs.Turns.{length-pair}
-use borrow.Author.Rules.{rules}
 use Rattle.lines.proofs.put_pair.Goals as goal
 
 pub put_bytes-first-requires : goal.put_bytes-first-requires

@@ -1,6 +1,5 @@
 -- `lines::put_piece` meets its contract.
 use native.Mathlib.Omega.{arith}
-use borrow.Author.Rules.{rules}
 use lib.ListN.{take}
 use lib.Seq.{length-take-le}
 use Rattle.text.specs.Text.{decimal}
@@ -30,5 +29,5 @@ returns c =
     let l = length-numbers (take 8 c.args.curve.now) in
     let t = length-take-le 8 c.args.curve.now (omega arith) in (
       omega (arith, decimal_u32 c.args.first c.ranges.first.fits, p.end),
-      next (next (next (one c.args.out.now c.args.at piece_word c.put_bytes-number.ensures) (one _ _ (decimal c.args.first) c.put_decimal-numbers.ensures)) p) (one _ _ newline c.put_bytes-number.ensures),
+      next (next (next (one c.args.out.now c.args.at piece_word c.put_bytes-number.ensures) (one _ _ (decimal c.args.first) c.put_decimal-numbers.ensures)) p) (one _ _ newline c.put_bytes.ensures),
     )

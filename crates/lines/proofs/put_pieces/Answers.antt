@@ -1,10 +1,9 @@
 -- `lines::put_pieces` meets its contract. After i turns the first i lines are there.
 use mathlib.Core.Path.{◌≡◌, refl, sym}
-use Prim.Native.Nat.{◌+◌, ◌-◌, ◌*◌, ◌<◌, ◌≤◌}
+use Prim.Native.Nat.{◌+◌, ◌*◌, ◌<◌, ◌≤◌}
 use native.Mathlib.Nat.{add-zero}
 use native.Mathlib.Omega.{arith}
-use lib.ListN.{length, take, length-take, length-drop}
-use Rattle.text.specs.Put.{Put}
+use lib.ListN.{length, length-take, length-drop}
 use Rattle.text.proofs.Stores.{next, put-length}
 use Rattle.lines.specs.Lines.{piece_lines}
 use Rattle.lines.proofs.Turns.{pieces_suc, piece_put}

@@ -1,13 +1,8 @@
 -- What the loops of `lines::put_pieces` keep.
-use mathlib.Core.Path.{◌≡◌, refl, sym}
-use Prim.Native.Nat.{◌+◌, ◌-◌, ◌*◌, ◌<◌, ◌≤◌}
-use native.Mathlib.Nat.{add-zero}
-use native.Mathlib.Omega.{arith}
-use lib.ListN.{length, take, length-take, length-drop}
+use Prim.Native.Nat.{◌+◌, ◌-◌, ◌*◌, ◌≤◌}
+use lib.ListN.{take}
 use Rattle.text.specs.Put.{Put}
-use Rattle.text.proofs.Stores.{next, put-length}
 use Rattle.lines.specs.Lines.{piece_lines}
-use Rattle.lines.proofs.Turns.{pieces_suc, piece_put}
 use Rattle.lines.proofs.put_pieces.Given as goal
 
 abbrev pub invariant-loop-i : goal.invariant-loop-i

@@ -1,5 +1,4 @@
 -- `lines::put_refusal` meets its contract.
-use borrow.Author.Rules.{rules}
 use Rattle.lines.specs.Lines.{refusal_line}
 use Rattle.lines.proofs.put_refusal.Goals as goal
 

@@ -3,7 +3,6 @@ use native.Mathlib.Omega.{arith}
 use Rattle.text.proofs.Digits.{decimal_u64}
 use Rattle.lines.specs.Lines.{blank, two_line}
 use Rattle.lines.proofs.Turns.{length-pair}
-use borrow.Author.Rules.{rules}
 use Rattle.lines.proofs.put_two.Goals as goal
 
 pub put_pair-requires : goal.put_pair-requires

@@ -2,7 +2,6 @@
 use Rattle.marks.proofs.Fine.{line_made, line_lost}
 use Rattle.marks.specs.Answers.{made_answer}
 use Rattle.marks.specs.Line.{line_of}
-use borrow.Author.Rules.{rules}
 use Rattle.marks.proofs.fit_line.Goals as goal
 
 pub returns-then-point_finite : goal.returns-then-point_finite

@@ -1,6 +1,5 @@
 -- `plane::curve_in_range` meets its contract.
 use Rattle.plane.specs.Range.{curve_in_range}
-use borrow.Author.Rules.{rules}
 use Rattle.plane.proofs.curve_in_range.Goals as goal
 
 pub returns : goal.returns

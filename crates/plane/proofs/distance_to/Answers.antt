@@ -1,6 +1,5 @@
 -- `plane::distance_to` meets its contract.
 use Rattle.plane.specs.Plane.{distance_of}
-use borrow.Author.Rules.{rules}
 use Rattle.plane.proofs.distance_to.Goals as goal
 
 pub returns : goal.returns

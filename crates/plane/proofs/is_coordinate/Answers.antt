@@ -1,7 +1,6 @@
 -- `plane::is_coordinate` meets its contract.
 use mathlib.Core.Path.{refl}
 use lib.Ieee.{of_bits}
-use borrow.Author.Rules.{rules}
 use Rattle.float.specs.Number.{finite}
 use Rattle.plane.specs.Range.{million, coordinate}
 use Rattle.plane.proofs.Ranges.{by_size}

@@ -1,6 +1,5 @@
 -- `plane::magnitude` meets its contract.
 use Rattle.plane.specs.Plane.{magnitude_of}
-use borrow.Author.Rules.{rules}
 use Rattle.plane.proofs.magnitude.Goals as goal
 
 pub returns : goal.returns

@@ -1,6 +1,5 @@
 -- `plane::point_finite` meets its contract.
 use Rattle.plane.specs.Range.{point_finite}
-use borrow.Author.Rules.{rules}
 use Rattle.plane.proofs.point_finite.Goals as goal
 
 pub returns : goal.returns

@@ -1,6 +1,5 @@
 -- `plane::point_in_range` meets its contract.
 use Rattle.plane.specs.Range.{point_in_range}
-use borrow.Author.Rules.{rules}
 use Rattle.plane.proofs.point_in_range.Goals as goal
 
 pub returns : goal.returns

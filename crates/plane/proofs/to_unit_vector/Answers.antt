@@ -1,6 +1,5 @@
 -- `plane::to_unit_vector` meets its contract.
 use Rattle.plane.specs.Plane.{direction_of}
-use borrow.Author.Rules.{rules}
 use Rattle.plane.proofs.to_unit_vector.Goals as goal
 
 pub returns : goal.returns

@@ -1,6 +1,5 @@
 -- `plane::unit_by` meets its contract.
 use Rattle.plane.proofs.Fine.{no_direction, its_direction}
-use borrow.Author.Rules.{rules}
 use Rattle.plane.proofs.unit_by.Goals as goal
 
 pub returns-then-magnitude : goal.returns-then-magnitude

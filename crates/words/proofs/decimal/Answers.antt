@@ -1,5 +1,4 @@
 -- `words::decimal` meets its contract.
-use borrow.Author.Rules.{rules}
 use mathlib.Core.Path.{sym, ◌∙◌}
 use Rattle.words.specs.Words.{decimal_of}
 use Rattle.words.proofs.decimal.Goals as goal

@@ -1,5 +1,4 @@
 -- `words::digit` meets its contract.
-use borrow.Author.Rules.{rules}
 use borrow.Author.Tests.{lt-ltb, le-ltb}
 use Rattle.words.specs.Words.{digit_of}
 use Rattle.words.proofs.digit.Goals as goal

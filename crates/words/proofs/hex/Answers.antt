@@ -1,5 +1,4 @@
 -- `words::hex` meets its contract.
-use borrow.Author.Rules.{rules}
 use borrow.Author.Tests.{eq-eqb, ne_eqb}
 use Rattle.words.specs.Words.{hex_of}
 use Rattle.words.proofs.hex.Goals as goal

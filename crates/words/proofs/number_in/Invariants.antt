@@ -1,15 +1,8 @@
 -- What the loops of `words::number_in` keep.
-use borrow.Author.Rules.{rules}
-use Prim.Native.Nat.{ℕ, ◌≤◌, ◌<◌, ◌+◌, ◌-◌, ◌*◌, ◌^◌}
-use mathlib.Core.Path.{◌≡◌, sym}
-use mathlib.Core.List.{List}
-use native.Mathlib.Omega.{arith}
+use Prim.Native.Nat.{◌≤◌, ◌-◌}
+use mathlib.Core.Path.{◌≡◌}
 use lib.ListN.{length, drop}
-use Rattle.words.specs.declared.Read.TheVariants.{Bad}
 use Rattle.words.specs.Words.{number_from}
-use Rattle.words.proofs.Reading as reading
-use Rattle.words.proofs.number_in.Reads as reads
-use Rattle.words.proofs.number_in.Lts as lts
 use Rattle.words.proofs.number_in.Given as goal
 
 abbrev pub invariant-loop-i : goal.invariant-loop-i

@@ -1,5 +1,4 @@
 -- `words::plain` meets its contract.
-use borrow.Author.Rules.{rules}
 use borrow.Author.Tests.{eq-eqb, ne_eqb}
 use Rattle.words.specs.Words.{plain_of}
 use Rattle.words.proofs.plain.Goals as goal

@@ -1,6 +1,5 @@
 -- `cubic::eval::basis` meets its contract.
 use Rattle.cubic.specs.Basis.{basis}
-use borrow.Author.Rules.{rules}
 use Rattle.cubic.proofs.eval.basis.Goals as goal
 
 pub returns : goal.returns

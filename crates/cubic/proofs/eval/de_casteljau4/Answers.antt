@@ -1,6 +1,5 @@
 -- `cubic::eval::de_casteljau4` meets its contract.
 use Rattle.cubic.specs.Basis.{casteljau4}
-use borrow.Author.Rules.{rules}
 use Rattle.cubic.proofs.eval.de_casteljau4.Goals as goal
 
 pub returns : goal.returns

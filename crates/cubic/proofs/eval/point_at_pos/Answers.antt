@@ -1,6 +1,5 @@
 -- `cubic::eval::point_at_pos` meets its contract.
 use Rattle.cubic.specs.Basis.{point_at}
-use borrow.Author.Rules.{rules}
 use Rattle.cubic.proofs.eval.point_at_pos.Goals as goal
 
 pub returns : goal.returns

@@ -1,6 +1,5 @@
 -- `cubic::split::subdivide4` meets its contract.
 use Rattle.cubic.specs.Subdivide.{subdivide4_of}
-use borrow.Author.Rules.{rules}
 use Rattle.cubic.proofs.split.subdivide4.Goals as goal
 
 pub returns : goal.returns

@@ -1,10 +1,9 @@
 -- `house::bytes::copy_words` meets its contract. After i turns the first i numbers of the row stand in front.
 use mathlib.Core.Path.{◌≡◌, refl, ◌∙◌}
-use mathlib.Core.List.{◌++◌}
-use Prim.Native.Nat.{◌-◌, ◌<◌, ◌≤◌}
+use Prim.Native.Nat.{◌<◌}
 use native.Mathlib.Omega.{arith}
-use lib.ListN.{length, drop, length-set}
-use Rattle.house.specs.Bytes.{row, words}
+use lib.ListN.{length, length-set}
+use Rattle.house.specs.Bytes.{row}
 use Rattle.house.proofs.Rows.{length-words}
 use Rattle.house.proofs.Turns.{words-turn}
 use Rattle.house.proofs.bytes.copy_words.Goals as goal

@@ -1,12 +1,9 @@
 -- What the loops of `house::bytes::copy_words` keep.
-use mathlib.Core.Path.{◌≡◌, refl, ◌∙◌}
+use mathlib.Core.Path.{◌≡◌}
 use mathlib.Core.List.{◌++◌}
-use Prim.Native.Nat.{◌-◌, ◌<◌, ◌≤◌}
-use native.Mathlib.Omega.{arith}
-use lib.ListN.{length, drop, length-set}
-use Rattle.house.specs.Bytes.{row, words}
-use Rattle.house.proofs.Rows.{length-words}
-use Rattle.house.proofs.Turns.{words-turn}
+use Prim.Native.Nat.{◌-◌, ◌≤◌}
+use lib.ListN.{length, drop}
+use Rattle.house.specs.Bytes.{words}
 use Rattle.house.proofs.bytes.copy_words.Given as goal
 
 abbrev pub invariant-loop-i : goal.invariant-loop-i

@@ -1,5 +1,4 @@
 -- `house::bytes::eight` meets its contract.
-use borrow.Author.Rules.{rules}
 use native.Mathlib.Omega.{arith}
 use Rattle.house.proofs.Numbers.{num-eight}
 use Rattle.house.proofs.bytes.eight.Goals as goal

@@ -1,5 +1,4 @@
 -- `house::bytes::four` meets its contract.
-use borrow.Author.Rules.{rules}
 use native.Mathlib.Omega.{arith}
 use Rattle.house.proofs.Numbers.{num-four}
 use Rattle.house.proofs.bytes.four.Goals as goal

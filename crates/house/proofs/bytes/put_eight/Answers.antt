@@ -1,7 +1,6 @@
 -- `house::bytes::put_eight` meets its contract.
 use mathlib.Core.Path.{◌∙◌}
 use Prim.Native.Nat.{◌/◌}
-use borrow.Author.Rules.{rules}
 use Rattle.house.proofs.Turns.{le-eight, put_both}
 use Rattle.house.proofs.bytes.put_eight.Goals as goal
 

@@ -1,7 +1,6 @@
 -- `house::bytes::put_four` meets its contract.
 use mathlib.Core.Path.{◌∙◌}
 use Prim.Native.Nat.{◌/◌}
-use borrow.Author.Rules.{rules}
 use Rattle.house.proofs.Turns.{le_four, put_both}
 use Rattle.house.proofs.bytes.put_four.Goals as goal
 

@@ -1,6 +1,5 @@
 -- `house::bytes::put_head` meets its contract.
 use mathlib.Core.Path.{◌∙◌}
-use borrow.Author.Rules.{rules}
 use Rattle.house.proofs.Turns.{put_both}
 use Rattle.house.proofs.bytes.put_head.Goals as goal
 

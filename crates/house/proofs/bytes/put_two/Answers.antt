@@ -1,5 +1,4 @@
 -- `house::bytes::put_two` meets its contract.
-use borrow.Author.Rules.{rules}
 use native.Mathlib.Omega.{arith}
 use lib.ListN.{length-set}
 use Rattle.house.proofs.Turns.{le_two}

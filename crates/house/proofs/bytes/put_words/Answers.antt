@@ -1,6 +1,6 @@
 -- `house::bytes::put_words` meets its contract. After i turns the first i numbers are put.
 use mathlib.Core.Path.{◌≡◌, refl, ap, ◌∙◌}
-use Prim.Native.Nat.{◌+◌, ◌-◌, ◌<◌, ◌≤◌}
+use Prim.Native.Nat.{◌+◌, ◌<◌}
 use native.Mathlib.Omega.{arith}
 use lib.ListN.{length, take}
 use lib.Seq.{sets, length-sets}
@@ -26,7 +26,7 @@ loop-i-preserved c =
     let l = c.loop-i in
     let a = c.args in
     let h : l.i < length a.xs.now = omega arith in
-    let e : c.put_eight.new.0 ≡ sets a.out.now a.at (les (take (l.i + 1) a.xs.now)) =
+    let e : c.put_eight.new.out ≡ sets a.out.now a.at (les (take (l.i + 1) a.xs.now)) =
     c.put_eight.ensures ∙ rw l.invariant.1.0 (words-put a.out.now a.xs.now a.at l.i h) in
     (omega arith, (e, ap length e ∙ length-sets a.out.now a.at (les (take (l.i + 1) a.xs.now))))
 

@@ -1,11 +1,9 @@
 -- What the loops of `house::bytes::put_words` keep.
-use mathlib.Core.Path.{◌≡◌, refl, ap, ◌∙◌}
-use Prim.Native.Nat.{◌+◌, ◌-◌, ◌<◌, ◌≤◌}
-use native.Mathlib.Omega.{arith}
+use mathlib.Core.Path.{◌≡◌}
+use Prim.Native.Nat.{◌-◌, ◌≤◌}
 use lib.ListN.{length, take}
-use lib.Seq.{sets, length-sets}
-use Rattle.house.specs.Bytes.{row_bytes, les}
-use Rattle.house.proofs.Turns.{words-put}
+use lib.Seq.{sets}
+use Rattle.house.specs.Bytes.{les}
 use Rattle.house.proofs.bytes.put_words.Given as goal
 
 abbrev pub invariant-loop-i : goal.invariant-loop-i

@@ -1,5 +1,4 @@
 -- `house::bytes::two` meets its contract.
-use borrow.Author.Rules.{rules}
 use native.Mathlib.Omega.{arith}
 use Rattle.house.proofs.Numbers.{num_two}
 use Rattle.house.proofs.bytes.two.Goals as goal

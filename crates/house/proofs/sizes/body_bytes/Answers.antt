@@ -1,7 +1,6 @@
 -- `house::sizes::body_bytes` meets its contract.
 use native.Mathlib.Omega.{arith}
 use Rattle.house.proofs.Forms.{body-few}
-use borrow.Author.Rules.{rules}
 use Rattle.house.proofs.sizes.body_bytes.Goals as goal
 
 pub overflow_mul-result : goal.overflow_mul-result

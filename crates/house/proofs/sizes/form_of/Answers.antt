@@ -4,7 +4,6 @@ use borrow.Author.Tests.{eq-eqb, ne_eqb}
 use Rattle.form.specs.declared.Form.TheVariants.{Nine}
 use Rattle.house.specs.Limits.{curve_kind}
 use Rattle.house.specs.Held.{form_of}
-use borrow.Author.Rules.{rules}
 use Rattle.house.proofs.sizes.form_of.Goals as goal
 
 pub returns-then-kind-nine_kind : goal.returns-then-kind-nine_kind

@@ -7,8 +7,7 @@ use lib.Dec.{leb}
 use borrow.Author.Tests.{le-leb, lt-leb, eq-eqb, ne_eqb}
 use Rattle.form.specs.Form.{width, worsts_for}
 use Rattle.house.specs.Slices.{room}
-use Rattle.house.proofs.Forms.{width_some, curves-over, curves-under}
-use borrow.Author.Rules.{rules}
+use Rattle.house.proofs.Forms.{curves-over, curves-under}
 use Rattle.house.proofs.sizes.has_room.Goals as goal
 
 pub returns-then-firsts-k : goal.returns-then-firsts-k

@@ -6,7 +6,6 @@ use borrow.Author.Tests.{eq-eqb, ne_eqb}
 use Rattle.house.specs.declared.sizes.Field.{Field}
 use Rattle.house.specs.Limits.{field_for, body_bytes, curve_bytes}
 use Rattle.house.proofs.Forms.{body-few}
-use borrow.Author.Rules.{rules}
 use Rattle.house.proofs.sizes.size_for.Goals as goal
 
 pub returns-then-k-eq0 : goal.returns-then-k-eq0

@@ -1,6 +1,6 @@
 -- `marks::block::by_count_down` meets its contract.
 use native.Mathlib.Omega.{arith}
-use Rattle.marks.proofs.Sizes.{Down, start, found, next, end}
+use Rattle.marks.proofs.Sizes.{start, found, next, end}
 use Rattle.marks.proofs.block.by_count_down.Goals as goal
 
 pub loop-size-init : goal.loop-size-init

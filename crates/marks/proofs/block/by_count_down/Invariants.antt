@@ -1,6 +1,5 @@
 -- What the loops of `marks::block::by_count_down` keep.
-use native.Mathlib.Omega.{arith}
-use Rattle.marks.proofs.Sizes.{Down, start, found, next, end}
+use Rattle.marks.proofs.Sizes.{Down}
 use Rattle.marks.proofs.block.by_count_down.Given as goal
 
 abbrev pub invariant-loop-size : goal.invariant-loop-size

@@ -1,7 +1,6 @@
 -- `marks::block::by_division` meets its contract.
 use native.Mathlib.Nat.{le_trans, div-le_self}
 use native.Mathlib.Omega.{arith}
-use borrow.Author.Rules.{rules}
 use Rattle.marks.proofs.Sizes.{start, found}
 use Rattle.marks.proofs.Division.{shares, shrunk}
 use Rattle.marks.proofs.block.by_division.Goals as goal

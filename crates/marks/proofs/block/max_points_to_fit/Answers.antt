@@ -1,6 +1,5 @@
 -- `marks::block::max_points_to_fit` meets its contract.
 use native.Mathlib.Omega.{arith}
-use borrow.Author.Rules.{rules}
 use Rattle.marks.proofs.Sizes.{small}
 use Rattle.marks.proofs.block.max_points_to_fit.Goals as goal
 

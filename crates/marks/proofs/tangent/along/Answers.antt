@@ -3,7 +3,6 @@ use mathlib.Core.Path.{sym, ap, ◌∙◌}
 use Rattle.float.specs.Answer.{outcome}
 use Rattle.plane.specs.Plane.{unit_of}
 use Rattle.marks.proofs.Fine.{unit_by, along_is}
-use borrow.Author.Rules.{rules}
 use Rattle.marks.proofs.tangent.along.Goals as goal
 
 pub returns : goal.returns

@@ -2,7 +2,6 @@
 use mathlib.Core.Path.{sym, ◌∙◌}
 use Rattle.marks.specs.Tangent.{between}
 use Rattle.marks.proofs.Fine.{direction_is}
-use borrow.Author.Rules.{rules}
 use Rattle.marks.proofs.tangent.direction_between.Goals as goal
 
 pub returns : goal.returns

@@ -2,7 +2,6 @@
 use mathlib.Core.Path.{ap, ◌∙◌}
 use Rattle.float.specs.Answer.{outcome}
 use Rattle.marks.proofs.Fine.{end_is}
-use borrow.Author.Rules.{rules}
 use Rattle.marks.proofs.tangent.end_tangent.Goals as goal
 
 pub returns : goal.returns

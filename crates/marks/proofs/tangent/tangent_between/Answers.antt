@@ -1,7 +1,6 @@
 -- `marks::tangent::tangent_between` meets its contract.
 use mathlib.Core.Path.{sym, ◌∙◌}
 use Rattle.marks.proofs.Fine.{unit_by, direction_is, tangent_is}
-use borrow.Author.Rules.{rules}
 use Rattle.marks.proofs.tangent.tangent_between.Goals as goal
 
 pub returns : goal.returns
