@@ -1,7 +1,7 @@
 -- An operation's result is finite only where its operands are; of a quotient only the dividend. So where the end of a chain of sums,
 -- differences and products is finite, each operation on the way gave a finite number. Assumes nothing.
 use mathlib.Core.Path.{◌≡◌, refl, sym}
-use mathlib.Core.Bool.{Bool, true, false, not, cond}
+use mathlib.Core.Bool.{Bool, true, false, cond}
 use lib.Dec.{eqb}
 use lib.Ieee.{Float, nan, inf, fin, Format, neg, add, sub, mul, div, lt, unlike}
 use Rattle.float.specs.Number.{finite}

@@ -1,7 +1,6 @@
 // How many marks an outline may have, and how many bytes a file that a program reads.
 #![tactic(auto)]
 
-
 // The most marks that a fit by blocks, the checker and a house file take: a mainsail, traced at full rate.
 pub const MOST_MARKS: usize = 100000;
 

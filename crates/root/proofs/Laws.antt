@@ -9,7 +9,7 @@ use mathlib.Core.Bool.{Bool, true, false, not, cond}
 use lib.Dec.{T, eqb, eqb→eq, T_not, lt→ltb}
 use lib.IntN.{ℤ, pos}
 use lib.Pow.{pow_pos}
-use lib.Ieee.{Float, nan, inf, fin, binary64, up, down, lt, eq, le, fits, round}
+use lib.Ieee.{Float, nan, inf, fin, binary64, up, down, lt, eq, le, fits}
 use lib.Ieee.Fits.{up_pos, down_pos, eq→eqb}
 use lib.Ieee.Bits.{is_true}
 use lib.Ieee.Nearest.{div_mono}

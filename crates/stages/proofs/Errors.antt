@@ -13,7 +13,6 @@ use Rattle.float.proofs.Signs.{negative}
 use Rattle.float.proofs.Answers.{Fine, outcome-then}
 use Rattle.root.specs.Root.{sqrt}
 use Rattle.root.specs.Operation.{sqrt! }
-use Rattle.plane.specs.Plane.{minus}
 use Rattle.plane.specs.declared.Point.{Point}
 use Rattle.plane.specs.declared.Curve.{Curve}
 use Rattle.plane.proofs.Fine.{dot-fine, dot_bad, minus-fine, dot-sign}

@@ -1,5 +1,4 @@
 -- `bezier::basis` meets its promise.
-use borrow.Author.Rules.{rules}
 use Rattle.float.proofs.Answers.{denied, settled}
 use Rattle.bezier.specs.Calls.{point_answer, basis_call}
 use Rattle.cubic.proofs.Fine.{basis_same}

@@ -1,5 +1,4 @@
 -- `bezier::bezier_coefficients` meets its promise.
-use borrow.Author.Rules.{rules}
 use Rattle.float.proofs.Answers.{denied, settled}
 use Rattle.bezier.specs.Calls.{coefficients_answer, coefficients_call}
 use Rattle.cubic.proofs.Fine.{coefficients_same}

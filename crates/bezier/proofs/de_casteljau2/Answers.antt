@@ -1,5 +1,4 @@
 -- `bezier::de_casteljau2` meets its promise.
-use borrow.Author.Rules.{rules}
 use Rattle.float.proofs.Answers.{denied, settled}
 use Rattle.bezier.specs.Calls.{point_answer, casteljau2_call}
 use Rattle.cubic.proofs.Fine.{casteljau2_same}

@@ -1,5 +1,4 @@
 -- `bezier::de_casteljau4` meets its promise.
-use borrow.Author.Rules.{rules}
 use Rattle.float.proofs.Answers.{denied, settled}
 use Rattle.bezier.specs.Calls.{point_answer, casteljau4_call}
 use Rattle.cubic.proofs.Fine.{casteljau4_same}

@@ -1,5 +1,4 @@
 -- `bezier::finite_halves` meets its contract.
-use borrow.Author.Rules.{rules}
 use mathlib.Core.Path.{sym, ◌∙◌}
 use Rattle.float.proofs.Answers.{granted, denied}
 use Rattle.cubic.specs.Tests.{halves_finite}

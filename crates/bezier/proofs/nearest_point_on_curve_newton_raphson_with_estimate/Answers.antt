@@ -1,5 +1,4 @@
 -- `bezier::nearest_point_on_curve_newton_raphson_with_estimate` meets its promise.
-use borrow.Author.Rules.{rules}
 use mathlib.Core.Path.{sym, ap, ◌∙◌}
 use Rattle.float.proofs.Answers.{granted, denied}
 use Rattle.newton.specs.Tests.{refined_answer}
@@ -9,14 +8,14 @@ use Rattle.bezier.proofs.nearest_point_on_curve_newton_raphson_with_estimate.Goa
 pub returns-in_default : goal.returns-in_default
 unfolding refine_call number_answer refined_answer
 returns-in_default c =
-    sym (ap refined_answer c.enum_told-1.given.1)
+    sym (ap refined_answer c.in_default.is)
     ∙ c.refine.ensures
     ∙ granted 5 _ (simp (c.finite.ensures, c.point_in_range.ensures, c.curve_in_range.ensures) at c.if-curve_in_range-point_in_range.true)
 
 pub returns-then-curve_in_range-point_in_range : goal.returns-then-curve_in_range-point_in_range
 unfolding refine_call number_answer refined_answer
 returns-then-curve_in_range-point_in_range c =
-    sym (ap refined_answer c.t-1.given.1)
+    sym (ap refined_answer c.in-At.is)
     ∙ c.refine.ensures
     ∙ granted 5 _ (simp (c.finite.ensures, c.point_in_range.ensures, c.curve_in_range.ensures) at c.if-curve_in_range-point_in_range.true)
 

@@ -1,5 +1,4 @@
 -- `bezier::subdivide4` meets its promise.
-use borrow.Author.Rules.{rules}
 use Rattle.float.proofs.Answers.{denied, settled}
 use Rattle.bezier.specs.Calls.{halves_answer, subdivide4_call}
 use Rattle.cubic.proofs.Fine.{subdivide4_same}

@@ -9,7 +9,7 @@ use Rattle.blocks.proofs.Blocks.{block_lost, block_ran, block_ready, block_as-cl
 use Rattle.blocks.proofs.fit_block.Goals as goal
 
 pub returns-in_default : goal.returns-in_default
-returns-in_default c = let a = c.args in block_lost a.cutting (marks_of a.cutting a.marks.now) a.n a.tolerance a.from a.to c.ways_of.result c.ways_of.ensures c.enum_told-1.given.1 _ _ _ _ _ _ _
+returns-in_default c = let a = c.args in block_lost a.cutting (marks_of a.cutting a.marks.now) a.n a.tolerance a.from a.to c.ways_of.result c.ways_of.ensures c.in_default.is _ _ _ _ _ _ _
 
 pub fit_marks-requires : goal.fit_marks-requires
 fit_marks-requires c =

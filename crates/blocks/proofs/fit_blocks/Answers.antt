@@ -197,7 +197,7 @@ returns-in_default c =
       lv = f.kept.1.1.1.1.1.1.1.1.0;
       lp = f.kept.1.1.1.1.1.1.1.1.1.0;
     } in
-    so_stops (opened c) more ran c.enum_told-1.given.0.0 c.enum_told-1.given.1 _ _ _ _
+    so_stops (opened c) more ran c.in_default.field-0 c.in_default.is _ _ _ _
 
 pub overflow_add-made : goal.overflow_add-made
 overflow_add-made c =
@@ -215,7 +215,7 @@ overflow_add-made c =
       lv = f.kept.1.1.1.1.1.1.1.1.0;
       lp = f.kept.1.1.1.1.1.1.1.1.1.0;
     } in
-    omega (arith, numbers (opened c), so_few (opened c) more ran c.out-1.given.0.0 c.out-1.given.1, more)
+    omega (arith, numbers (opened c), so_few (opened c) more ran c.in-Curves.k c.in-Curves.is, more)
 
 pub overflow_add-from : goal.overflow_add-from
 overflow_add-from c =
@@ -243,7 +243,7 @@ loop-from-preserved c =
       lv = f.kept.1.1.1.1.1.1.1.1.0;
       lp = f.kept.1.1.1.1.1.1.1.1.1.0;
     } in
-    so_more (opened c) more ran c.out-1.given.0.0 c.out-1.given.1
+    so_more (opened c) more ran c.in-Curves.k c.in-Curves.is
 
 pub overflow_sub-n-2 : goal.overflow_sub-n-2
 overflow_sub-n-2 c = omega (arith, numbers (head c))
@@ -408,7 +408,7 @@ returns-in_default-out c =
       lv = f.kept.1.1.1.1.1.1.1.1.0;
       lp = f.kept.1.1.1.1.1.1.1.1.1.0;
     } in
-    last_stops (closed c) stop some last c.enum_told-in_default-out-1.given.0.0 c.enum_told-in_default-out-1.given.1 _ _ _ _
+    last_stops (closed c) stop some last c.in_default-out.field-0 c.in_default-out.is _ _ _ _
 
 pub overflow_add-result : goal.overflow_add-result
 overflow_add-result c =
@@ -427,7 +427,7 @@ overflow_add-result c =
       lv = f.kept.1.1.1.1.1.1.1.1.0;
       lp = f.kept.1.1.1.1.1.1.1.1.1.0;
     } in
-    omega (arith, numbers (closed c), last_few (closed c) stop some last c.out-in-Curves-out-2-1.given.0.0 c.out-in-Curves-out-2-1.given.1)
+    omega (arith, numbers (closed c), last_few (closed c) stop some last c.in-Curves-out.k c.in-Curves-out.is)
 
 pub shape_of-curves : goal.shape_of-curves
 shape_of-curves c =
@@ -514,4 +514,4 @@ returns c =
       lv = f.kept.1.1.1.1.1.1.1.1.0;
       lp = f.kept.1.1.1.1.1.1.1.1.1.0;
     } in
-    last_done (closed c) stop some last c.out-in-Curves-out-2-1.given.0.0 c.out-in-Curves-out-2-1.given.1
+    last_done (closed c) stop some last c.in-Curves-out.k c.in-Curves-out.is

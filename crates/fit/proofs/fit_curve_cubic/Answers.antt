@@ -70,7 +70,7 @@ pub returns-in_default : goal.returns-in_default
 unfolding cubic_of
 returns-in_default c =
     let z = (zeros c).zero-all.ensures in
-    end_refused (entry (begun (back c)).before) (ran (back c)) c.enum_told-1.given.0.0 _ _ _ _ c.enum_told-1.given.1 z.0 z.1 z.2 z.3
+    end_refused (entry (begun (back c)).before) (ran (back c)) c.in_default.field-0 _ _ _ _ c.in_default.is z.0 z.1 z.2 z.3
 
 pub shape_of-curves : goal.shape_of-curves
 shape_of-curves c =
@@ -166,4 +166,4 @@ returns c =
       lw = f.kept.1.1.1.1.1.1.1.0;
       lp = f.kept.1.1.1.1.1.1.1.1.0;
     } in
-    end_done (entry (begun c).before) ran c.out-1.given.0.0 c.out-1.given.1
+    end_done (entry (begun c).before) ran c.in-Curves.made c.in-Curves.is

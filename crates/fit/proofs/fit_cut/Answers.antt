@@ -102,7 +102,7 @@ pub returns-in_default : goal.returns-in_default
 unfolding fit_of
 returns-in_default c =
     let z = (zeros c).zero-all.ensures in
-    end_refused (called (back c)) (ran (back c)) c.enum_told-1.given.0.0 _ _ _ _ c.enum_told-1.given.1 z.0 z.1 z.2 z.3
+    end_refused (called (back c)) (ran (back c)) c.in_default.field-0 _ _ _ _ c.in_default.is z.0 z.1 z.2 z.3
 
 pub shape_of-curves : goal.shape_of-curves
 shape_of-curves c =
@@ -208,4 +208,4 @@ returns c =
       lw = f.kept.1.1.1.1.1.1.0;
       lp = f.kept.1.1.1.1.1.1.1.0;
     } in
-    end_done (called c) ran c.out-1.given.0.0 c.out-1.given.1
+    end_done (called c) ran c.in-Curves.total c.in-Curves.is

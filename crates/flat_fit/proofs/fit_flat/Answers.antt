@@ -43,7 +43,7 @@ called c = entry (many c) c
 
 -- the slice of open parts as the run leaves it, as long as it was
 abbrev used : goal.After-slice_known-11-1 → List ℕ
-used c = c.fit_waiting-out.new.1.1.1.1.1.1.1.1.0
+used c = c.fit_waiting-out.new.open
 
 pub returns-then-refusal-ne0 : goal.returns-then-refusal-ne0
 unfolding fitted_answer flat_of
@@ -114,7 +114,7 @@ shape_of-curves-in_default c =
       lw = f.auto.1.1.1.1.1.1.0;
       lp = f.auto.1.1.1.1.1.1.1.0;
     } in
-    c.zero_all.auto.0 ∙ ran.lc
+    c.zero_all.auto.curves ∙ ran.lc
 
 pub shape_of-firsts-in_default : goal.shape_of-firsts-in_default
 shape_of-firsts-in_default c =
@@ -139,7 +139,7 @@ shape_of-firsts-in_default c =
       lw = f.auto.1.1.1.1.1.1.0;
       lp = f.auto.1.1.1.1.1.1.1.0;
     } in
-    c.zero_all.auto.1.0 ∙ ran.lf
+    c.zero_all.auto.firsts ∙ ran.lf
 
 pub shape_of-worsts-in_default : goal.shape_of-worsts-in_default
 shape_of-worsts-in_default c =
@@ -164,7 +164,7 @@ shape_of-worsts-in_default c =
       lw = f.auto.1.1.1.1.1.1.0;
       lp = f.auto.1.1.1.1.1.1.1.0;
     } in
-    c.zero_all.auto.1.1.0 ∙ ran.lw
+    c.zero_all.auto.worsts ∙ ran.lw
 
 pub shape_of-params-in_default : goal.shape_of-params-in_default
 shape_of-params-in_default c =
@@ -189,12 +189,12 @@ shape_of-params-in_default c =
       lw = f.auto.1.1.1.1.1.1.0;
       lp = f.auto.1.1.1.1.1.1.1.0;
     } in
-    c.zero_all.auto.1.1.1.0 ∙ as_long (called c) ran
+    c.zero_all.auto.params ∙ as_long (called c) ran
 
 pub shape_of-open-in_default : goal.shape_of-open-in_default
 shape_of-open-in_default c =
-    let lent : length (used c) ≡ length c.args.«open».now = c.fit_waiting-out.auto.1.1.1.1.1.1.1.1.0 in
-    c.zero_numbers.auto.0 ∙ lent
+    let lent : length (used c) ≡ length c.args.«open».now = c.fit_waiting-out.auto.open in
+    c.zero_numbers.auto.s ∙ lent
 
 pub returns-in_default : goal.returns-in_default
 unfolding flat_of
@@ -220,10 +220,10 @@ returns-in_default c =
       lw = f.auto.1.1.1.1.1.1.0;
       lp = f.auto.1.1.1.1.1.1.1.0;
     } in
-    let lent : length (used c) ≡ length c.args.«open».now = c.fit_waiting-out.auto.1.1.1.1.1.1.1.1.0 in
+    let lent : length (used c) ≡ length c.args.«open».now = c.fit_waiting-out.auto.open in
     let k = called c in
     let z = c.zero_all.ensures in
-    through k.g k.q k.R k.C k.F k.W k.P c.args.«open».now k.tested (end_refused k ran c.enum_told-1.given.0.0 _ _ _ _ c.enum_told-1.given.1 z.0 z.1 z.2 z.3) c.if-refusal-ne0.false (used c) _ c.zero_numbers.ensures lent
+    through k.g k.q k.R k.C k.F k.W k.P c.args.«open».now k.tested (end_refused k ran c.in_default.field-0 _ _ _ _ c.in_default.is z.0 z.1 z.2 z.3) c.if-refusal-ne0.false (used c) _ c.zero_numbers.ensures lent
 
 pub shape_of-curves : goal.shape_of-curves
 shape_of-curves c =
@@ -327,8 +327,8 @@ shape_of-params c =
 
 pub shape_of-open : goal.shape_of-open
 shape_of-open c =
-    let lent : length (used c) ≡ length c.args.«open».now = c.fit_waiting-out.auto.1.1.1.1.1.1.1.1.0 in
-    c.zero_numbers.auto.0 ∙ lent
+    let lent : length (used c) ≡ length c.args.«open».now = c.fit_waiting-out.auto.open in
+    c.zero_numbers.auto.s ∙ lent
 
 pub returns : goal.returns
 unfolding fitted_answer flat_of
@@ -354,6 +354,6 @@ returns c =
       lw = f.auto.1.1.1.1.1.1.0;
       lp = f.auto.1.1.1.1.1.1.1.0;
     } in
-    let lent : length (used c) ≡ length c.args.«open».now = c.fit_waiting-out.auto.1.1.1.1.1.1.1.1.0 in
+    let lent : length (used c) ≡ length c.args.«open».now = c.fit_waiting-out.auto.open in
     let k = called c in
-    through k.g k.q k.R k.C k.F k.W k.P c.args.«open».now k.tested (end_done k ran c.out-1.given.0.0 c.out-1.given.1) c.if-refusal-ne0.false (used c) _ c.zero_numbers.ensures lent
+    through k.g k.q k.R k.C k.F k.W k.P c.args.«open».now k.tested (end_done k ran c.in-Curves.total c.in-Curves.is) c.if-refusal-ne0.false (used c) _ c.zero_numbers.ensures lent

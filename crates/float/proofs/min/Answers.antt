@@ -1,5 +1,4 @@
 -- `float::min` meets its contract.
-use borrow.Author.Rules.{rules}
 use mathlib.Core.Path.{◌∙◌}
 use Rattle.float.specs.Number.{min_of}
 use Rattle.float.proofs.Truth.{picked, passed}

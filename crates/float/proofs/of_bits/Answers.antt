@@ -1,5 +1,4 @@
 -- `float::of_bits` meets its contract.
-use borrow.Author.Rules.{rules}
 use mathlib.Core.Path.{sym}
 use lib.Ieee.{div, of_bits}
 use Rattle.float.proofs.Bits.{nan_pattern, no_nan_pattern}

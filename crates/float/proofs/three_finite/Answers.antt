@@ -1,5 +1,4 @@
 -- `float::three_finite` meets its contract.
-use borrow.Author.Rules.{rules}
 use mathlib.Core.Path.{◌∙◌}
 use Rattle.float.proofs.Zeros.{three}
 use Rattle.float.proofs.three_finite.Goals as goal

@@ -1,5 +1,4 @@
 -- `float::to_bits` meets its contract.
-use borrow.Author.Rules.{rules}
 use mathlib.Core.Path.{sym, ap}
 use lib.Ieee.{binary64, to_bits}
 use Rattle.float.proofs.Bits.{number, no_number}

@@ -1,5 +1,4 @@
 -- `float::two_finite` meets its contract.
-use borrow.Author.Rules.{rules}
 use mathlib.Core.Path.{◌∙◌}
 use Rattle.float.proofs.Zeros.{two}
 use Rattle.float.proofs.two_finite.Goals as goal

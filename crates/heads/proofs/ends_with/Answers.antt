@@ -8,7 +8,6 @@ use Rattle.house.specs.Limits.{field_for, curve_kind, body_bytes, curve_bytes}
 use Rattle.house.proofs.Forms.{body-few}
 use Rattle.grammar.proofs.Laid.{ended}
 use Rattle.heads.proofs.Ways.{ends_by, leads_by}
-use borrow.Author.Rules.{rules}
 use Rattle.heads.proofs.ends_with.Goals as goal
 
 pub overflow_add-last : goal.overflow_add-last

@@ -13,7 +13,6 @@ use Rattle.house.proofs.Forms.{body-few, records_under}
 use Rattle.house.proofs.Numbers.{fit-each}
 use Rattle.grammar.proofs.Laid.{Started, plain, full, started, starting, ended, ending, laid_started, laid-ended}
 use Rattle.heads.proofs.Ways.{counted, broken, form_by}
-use borrow.Author.Rules.{rules}
 use Rattle.heads.proofs.find_layout.Goals as goal
 
 pub returns-then-len-lt-MARKS_AT : goal.returns-then-len-lt-MARKS_AT

@@ -1,6 +1,5 @@
 -- `heads::has_head` meets its contract.
 use mathlib.Core.Path.{◌≡◌, ◌∙◌}
-use borrow.Author.Rules.{rules}
 use borrow.Author.Tests.{eq-eqb, ne_eqb}
 use Rattle.house.specs.Bytes.{num}
 use Rattle.house.specs.Layout.{head_at}

@@ -3,7 +3,6 @@ use mathlib.Core.Path.{◌≡◌, sym, ◌∙◌}
 use Prim.Native.Nat.{◌+◌, ◌-◌, ◌*◌, ◌≤◌}
 use native.Mathlib.Nat.{add-zero, mul-zero, sub-zero}
 use native.Mathlib.Omega.{arith}
-use lib.ListN.{drop}
 use Rattle.house.specs.Layout.{records_lead}
 use Rattle.house.proofs.Forms.{within}
 use Rattle.heads.proofs.Turns.{lead_more, lead_stop}

@@ -1,12 +1,8 @@
 -- What the loops of `heads::records_lead` keep.
-use mathlib.Core.Path.{◌≡◌, sym, ◌∙◌}
+use mathlib.Core.Path.{◌≡◌}
 use Prim.Native.Nat.{◌+◌, ◌-◌, ◌*◌, ◌≤◌}
-use native.Mathlib.Nat.{add-zero, mul-zero, sub-zero}
-use native.Mathlib.Omega.{arith}
 use lib.ListN.{drop}
 use Rattle.house.specs.Layout.{records_lead}
-use Rattle.house.proofs.Forms.{within}
-use Rattle.heads.proofs.Turns.{lead_more, lead_stop}
 use Rattle.heads.proofs.records_lead.Given as goal
 
 abbrev pub invariant-loop-i : goal.invariant-loop-i

@@ -1,5 +1,4 @@
 -- `heads::starts_with` meets its contract.
-use borrow.Author.Rules.{rules}
 use mathlib.Core.Path.{sym, ◌∙◌}
 use Rattle.house.specs.Layout.{starts_with}
 use Rattle.heads.proofs.starts_with.Goals as goal

@@ -1,5 +1,4 @@
 -- `newton::newton_raphson_root_find` meets its contract.
-use borrow.Author.Rules.{rules}
 use mathlib.Core.Path.{ap, ◌∙◌}
 use Rattle.plane.specs.declared.Point.{Point}
 use Rattle.newton.specs.Newton.{ratio_of}

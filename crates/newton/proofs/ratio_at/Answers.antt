@@ -1,6 +1,5 @@
 -- `newton::ratio_at` meets its contract.
 use Rattle.newton.specs.Newton.{ratio_of}
-use borrow.Author.Rules.{rules}
 use Rattle.newton.proofs.ratio_at.Goals as goal
 
 pub returns : goal.returns

@@ -1,11 +1,7 @@
 -- What the loops of `newton::refine_rounds` keep.
-use borrow.Author.Rules.{rules}
-use mathlib.Core.Path.{◌≡◌, refl}
-use native.Mathlib.Omega.{arith}
+use mathlib.Core.Path.{◌≡◌}
 use Rattle.float.specs.Answer.{outcome}
 use Rattle.newton.specs.Newton.{refine_by}
-use Rattle.newton.specs.Tests.{refined_answer}
-use Rattle.newton.proofs.Rounds.{goes_next, goes_stop, goes_lost, at_end}
 use Rattle.newton.proofs.refine_rounds.Given as goal
 
 abbrev pub invariant-loop-left : goal.invariant-loop-left

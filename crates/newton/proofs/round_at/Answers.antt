@@ -1,5 +1,4 @@
 -- `newton::round_at` meets its contract.
-use borrow.Author.Rules.{rules}
 use mathlib.Core.Path.{sym, ◌∙◌}
 use Rattle.newton.proofs.Rounds.{round_lost, round-small, round-flat, round_next, round_flown}
 use Rattle.newton.proofs.round_at.Goals as goal

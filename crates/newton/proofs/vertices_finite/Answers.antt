@@ -1,6 +1,5 @@
 -- `newton::vertices_finite` meets its contract.
 use Rattle.newton.specs.Tests.{vertices_finite}
-use borrow.Author.Rules.{rules}
 use Rattle.newton.proofs.vertices_finite.Goals as goal
 
 pub returns : goal.returns

@@ -1,6 +1,5 @@
 -- `newton::vertices_of` meets its contract.
 use Rattle.newton.specs.Newton.{vertices_of}
-use borrow.Author.Rules.{rules}
 use Rattle.newton.proofs.vertices_of.Goals as goal
 
 pub returns : goal.returns

@@ -2,7 +2,6 @@
 use native.Mathlib.Omega.{arith}
 use Rattle.house.proofs.Forms.{worsts-few}
 use Rattle.packed.proofs.Sizes.{rest-few}
-use borrow.Author.Rules.{rules}
 use Rattle.packed.proofs.entry_bytes.Goals as goal
 
 pub overflow_mul-result : goal.overflow_mul-result

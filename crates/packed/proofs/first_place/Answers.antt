@@ -2,7 +2,6 @@
 use mathlib.Core.Path.{sym, ◌∙◌}
 use native.Mathlib.Omega.{arith}
 use Rattle.packed.proofs.Places.{first_none, first_some, entry_before}
-use borrow.Author.Rules.{rules}
 use Rattle.packed.proofs.first_place.Goals as goal
 
 pub returns-then-i-eq0 : goal.returns-then-i-eq0

@@ -2,7 +2,6 @@
 use native.Mathlib.Omega.{arith}
 use Rattle.packed.proofs.Sizes.{entry_some}
 use Rattle.packed.proofs.Places.{start_none, start_some, entry_before}
-use borrow.Author.Rules.{rules}
 use Rattle.packed.proofs.start_place.Goals as goal
 
 pub returns-then-i-eq0 : goal.returns-then-i-eq0

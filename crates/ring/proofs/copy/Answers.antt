@@ -1,10 +1,9 @@
 -- `ring::copy`: what is copied stands at the front.
 use native.Mathlib.Omega.{arith}
-use Prim.Native.Nat.{◌-◌}
-use mathlib.Core.Path.{◌≡◌, refl, ◌∙◌}
-use lib.ListN.{length, length-set}
+use mathlib.Core.Path.{refl, ◌∙◌}
+use lib.ListN.{length-set}
 use lib.Ieee.{nan}
-use Rattle.ring.proofs.Copies.{Copied, more, all}
+use Rattle.ring.proofs.Copies.{more, all}
 use Rattle.ring.proofs.copy.Goals as goal
 
 pub loop-i-init : goal.loop-i-init

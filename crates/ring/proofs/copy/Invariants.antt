@@ -1,10 +1,8 @@
 -- What the loops of `ring::copy` keep.
-use native.Mathlib.Omega.{arith}
 use Prim.Native.Nat.{◌-◌}
-use mathlib.Core.Path.{◌≡◌, refl, ◌∙◌}
-use lib.ListN.{length, length-set}
-use lib.Ieee.{nan}
-use Rattle.ring.proofs.Copies.{Copied, more, all}
+use mathlib.Core.Path.{◌≡◌}
+use lib.ListN.{length}
+use Rattle.ring.proofs.Copies.{Copied}
 use Rattle.ring.proofs.copy.Given as goal
 
 abbrev pub invariant-loop-i : goal.invariant-loop-i

@@ -1,5 +1,4 @@
 -- `ring::lay_round`: the marks from one on, and mark 0 behind them.
-use borrow.Author.Rules.{rules}
 use native.Mathlib.Omega.{arith}
 use Prim.Native.Nat.{◌-◌, ◌*◌}
 use mathlib.Core.Path.{refl, ap, ◌∙◌}

@@ -1,5 +1,4 @@
 -- `root::digits_of` meets its contract.
-use borrow.Author.Rules.{rules}
 use Rattle.float.proofs.Bits.{number}
 use Rattle.root.proofs.digits_of.Goals as goal
 

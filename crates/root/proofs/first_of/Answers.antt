@@ -1,5 +1,4 @@
 -- `root::first_of` meets its contract.
-use borrow.Author.Rules.{rules}
 use Prim.Native.Nat.{ℕ, ◌-◌, ◌/◌, ◌%◌, ◌^◌}
 use mathlib.Core.Path.{ap}
 use native.Mathlib.Omega.{arith}

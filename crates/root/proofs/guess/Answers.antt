@@ -1,5 +1,4 @@
 -- `root::guess` meets its contract.
-use borrow.Author.Rules.{rules}
 use mathlib.Core.Path.{◌≡◌, ap, ◌∙◌}
 use lib.Ieee.{Float}
 use Rattle.root.specs.Guess.{◌⊗◌, half, nearer, inverse_of, high_of, rest_of, step_of, guess}

@@ -1,5 +1,4 @@
 -- `root::is_root` meets its contract, by `checked` of `proofs/Near.antt`.
-use borrow.Author.Rules.{rules}
 use Prim.Native.Nat.{◌-◌, ◌*◌, ◌/◌, ◌%◌, ◌^◌, ◌≤◌}
 use mathlib.Core.Path.{sym, subst}
 use mathlib.Core.Bool.{false≢true}

@@ -1,5 +1,4 @@
 -- `root::of_digits` meets its contract: a candidate that passed its test by `of_near`, and any other by `of_root`.
-use borrow.Author.Rules.{rules}
 use Prim.Native.Nat.{ℕ, ◌*◌, ◌%◌, ◌^◌, ◌≤◌, ◌-◌}
 use mathlib.Core.Path.{subst}
 use native.Mathlib.Omega.{arith}

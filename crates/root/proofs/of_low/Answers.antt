@@ -1,5 +1,4 @@
 -- `root::of_low` meets its contract.
-use borrow.Author.Rules.{rules}
 use Prim.Native.Nat.{ℕ, ◌*◌, ◌%◌, ◌^◌, ◌≤◌, ◌<◌, ◌-◌}
 use mathlib.Core.Path.{subst, sym}
 use native.Mathlib.Omega.{arith}

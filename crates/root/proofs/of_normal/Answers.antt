@@ -1,5 +1,4 @@
 -- `root::of_normal` meets its contract.
-use borrow.Author.Rules.{rules}
 use Prim.Native.Nat.{◌+◌, ◌*◌, ◌/◌, ◌%◌, ◌^◌, ◌-◌}
 use lib.Ieee.{binary64, of_bits}
 use Rattle.root.proofs.Low.{normal_places}

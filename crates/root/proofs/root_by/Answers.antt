@@ -1,5 +1,4 @@
 -- `root::root_by` meets its contract.
-use borrow.Author.Rules.{rules}
 use mathlib.Core.Path.{sym, ap, ◌∙◌, subst}
 use lib.Dec.{T}
 use lib.Ieee.{binary64, fits, of_bits, div}

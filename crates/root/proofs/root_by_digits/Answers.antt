@@ -1,7 +1,7 @@
 -- `root::root_by_digits` meets its contract: the loop's invariant is `Digits`.
-use Prim.Native.Nat.{◌-◌, ◌^◌, ◌<◌}
+use Prim.Native.Nat.{◌^◌, ◌<◌}
 use native.Mathlib.Omega.{arith}
-use Rattle.root.proofs.Digits.{Digits, top, start, turn_one, turn-zero, done, moved}
+use Rattle.root.proofs.Digits.{top, start, turn_one, turn-zero, done, moved}
 use Rattle.root.proofs.root_by_digits.Goals as goal
 use Rattle.root.proofs.root_by_digits.Goals.{then-trial-next, else-trial-next}
 
@@ -64,8 +64,9 @@ loop-i-preserved c =
     let a = c.args.a in
     let l = c.loop-i in
     elim c.if-trial-next.branch [
-    | then-trial-next w ↦ moved w.root-is w.rest-is (turn_one a l.root l.rest l.left l.i l.invariant c.loop-i-test.true w.if-trial-next.true)
-    | else-trial-next w ↦ moved w.root-is w.rest-is (turn-zero a l.root l.rest l.left l.i l.invariant c.loop-i-test.true w.if-trial-next.false) ]
+      | then-trial-next w ↦ moved w.root-is w.rest-is (turn_one a l.root l.rest l.left l.i l.invariant c.loop-i-test.true w.if-trial-next.true)
+      | else-trial-next w ↦ moved w.root-is w.rest-is (turn-zero a l.root l.rest l.left l.i l.invariant c.loop-i-test.true w.if-trial-next.false)
+    ]
 
 pub returns : goal.returns
 returns c =

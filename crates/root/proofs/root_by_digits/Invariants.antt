@@ -1,8 +1,6 @@
 -- What the loops of `root::root_by_digits` keep.
-use Prim.Native.Nat.{◌-◌, ◌^◌, ◌<◌}
-use native.Mathlib.Omega.{arith}
-use mathlib.Core.Logic.{⊎_elim}
-use Rattle.root.proofs.Digits.{Digits, top, start, turn_one, turn-zero, done, moved}
+use Prim.Native.Nat.{◌-◌}
+use Rattle.root.proofs.Digits.{Digits}
 use Rattle.root.proofs.root_by_digits.Given as goal
 
 abbrev pub invariant-loop-i : goal.invariant-loop-i

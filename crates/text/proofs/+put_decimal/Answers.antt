@@ -1,9 +1,9 @@
 -- `text::put_decimal` meets its contract.
 use mathlib.Core.Path.{◌≡◌, refl, ap}
 use mathlib.Core.List.{[], ◌∷◌}
-use Prim.Native.Nat.{ℕ, ◌<◌, ◌+◌, ◌/◌}
+use Prim.Native.Nat.{◌+◌, ◌/◌}
 use native.Mathlib.Omega.{arith}
-use lib.ListN.{length, length-set}
+use lib.ListN.{length}
 use Rattle.text.specs.Text.{digit_char, decimal}
 use Rattle.text.proofs.Digits.{decimal_one, length_more, put-more}
 use Rattle.text.proofs.+put_decimal.Goals as goal

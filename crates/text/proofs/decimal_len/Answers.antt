@@ -1,9 +1,7 @@
 -- `text::decimal_len` meets its contract. The digits that are counted and those of what is left are those of the number.
-use mathlib.Core.Path.{◌≡◌, ap}
-use Prim.Native.Nat.{◌+◌, ◌≤◌}
+use mathlib.Core.Path.{ap}
 use native.Mathlib.Omega.{arith}
 use lib.ListN.{length}
-use Rattle.text.specs.Text.{decimal}
 use Rattle.text.proofs.Digits.{decimal_one, length_more, decimal_u64}
 use Rattle.text.proofs.decimal_len.Goals as goal
 

@@ -1,10 +1,8 @@
 -- What the loops of `text::decimal_len` keep.
-use mathlib.Core.Path.{◌≡◌, ap}
+use mathlib.Core.Path.{◌≡◌}
 use Prim.Native.Nat.{◌+◌, ◌≤◌}
-use native.Mathlib.Omega.{arith}
 use lib.ListN.{length}
 use Rattle.text.specs.Text.{decimal}
-use Rattle.text.proofs.Digits.{decimal_one, length_more, decimal_u64}
 use Rattle.text.proofs.decimal_len.Given as goal
 
 abbrev pub invariant-loop-rest : goal.invariant-loop-rest

@@ -1,6 +1,5 @@
 -- `text::digit` meets its contract.
 use native.Mathlib.Omega.{arith}
-use borrow.Author.Rules.{rules}
 use borrow.Author.Tests.{lt-ltb, le-ltb}
 use Rattle.text.specs.Text.{digit_char}
 use Rattle.text.proofs.digit.Goals as goal

@@ -1,9 +1,9 @@
 -- `text::put_bytes` meets its contract. After i turns the first i bytes are there.
-use mathlib.Core.Path.{◌≡◌, refl}
-use Prim.Native.Nat.{◌-◌, ◌<◌, ◌≤◌}
+use mathlib.Core.Path.{refl}
+use Prim.Native.Nat.{◌<◌}
 use native.Mathlib.Omega.{arith}
-use lib.ListN.{length, take, length-set}
-use lib.Seq.{sets, take_all}
+use lib.ListN.{length, length-set}
+use lib.Seq.{take_all}
 use Rattle.text.proofs.Stores.{sets-suc}
 use Rattle.text.proofs.put_bytes.Goals as goal
 

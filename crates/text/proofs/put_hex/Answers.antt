@@ -1,9 +1,8 @@
 -- `text::put_hex` meets its contract. Before the digit at i is put, those behind it are there.
 use mathlib.Core.Path.{◌≡◌, refl}
-use Prim.Native.Nat.{◌+◌, ◌-◌, ◌/◌, ◌^◌, ◌<◌, ◌≤◌}
+use Prim.Native.Nat.{◌+◌, ◌<◌, ◌≤◌}
 use native.Mathlib.Omega.{arith}
-use lib.ListN.{length, length-set}
-use lib.Seq.{sets}
+use lib.ListN.{length-set}
 use Rattle.text.specs.Text.{hex}
 use Rattle.text.proofs.Digits.{hex-turn, rest-turn}
 use Rattle.text.proofs.put_hex.Goals as goal

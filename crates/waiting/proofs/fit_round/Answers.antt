@@ -22,10 +22,10 @@ pub overflow_mul-many : goal.overflow_mul-many
 overflow_mul-many c = omega (arith, c.Tail-of.ensures, c.requires.0)
 
 pub slice_bounds-round-end : goal.slice_bounds-round-end
-slice_bounds-round-end c = omega (arith, c.Tail-of.ensures, c.requires.0, c.lay_round.auto.1.1.0, c.block_room-round.ensures)
+slice_bounds-round-end c = omega (arith, c.Tail-of.ensures, c.requires.0, c.lay_round.auto.out, c.block_room-round.ensures)
 
 pub slice_bounds-work_off-end : goal.slice_bounds-work_off-end
-slice_bounds-work_off-end c = sym (length-take-le _ _ (omega (arith, c.Tail-of.ensures, c.requires.0, c.lay_round.auto.1.1.0, c.block_room-round.ensures)))
+slice_bounds-work_off-end c = sym (length-take-le _ _ (omega (arith, c.Tail-of.ensures, c.requires.0, c.lay_round.auto.out, c.block_room-round.ensures)))
 
 pub work_off-requires : goal.work_off-requires
 work_off-requires c =

@@ -9,7 +9,7 @@ use Rattle.waiting.proofs.fit_waiting.Goals as goal
 
 pub fit_round-requires : goal.fit_round-requires
 fit_round-requires c =
-    let closed : outline_in c.args.heading ≡ Closed = sym c.outline_in.ensures ∙ c.enum_told-1.given.1 in
+    let closed : outline_in c.args.heading ≡ Closed = sym c.outline_in.ensures ∙ c.in-Closed.is in
     let p = c.requires in let e = closed in ((e, (p.0.0, (p.0.1.1 e, p.0.1.0))), p.1)
 
 pub work_off-requires : goal.work_off-requires
@@ -17,6 +17,6 @@ work_off-requires c =
     let a = c.args in
     let p = c.requires in (
       ready_outlined a.heading a.marks.now a.marks.now 0 a.size a.tolerance a.curves.now a.firsts.now a.worsts.now a.params.now p.1.0 p.0.0 p.0.1.0
-          (laid-open a.heading a.marks.now a.marks.now 0 (sym c.outline_in.ensures ∙ c.enum_told-in-Open-1.given.1)) (omega arith),
+          (laid-open a.heading a.marks.now a.marks.now 0 (sym c.outline_in.ensures ∙ c.in-Open.is)) (omega arith),
       ready_room p.1.0 p.1.1,
     )

@@ -13,13 +13,13 @@ pub returns-in_default : goal.returns-in_default
 returns-in_default c =
     let a = c.args in
     let ms = marks_in a.heading a.marks.now in
-    no_start (start_in a.heading ms a.n a.size a.from) (end_in a.heading ms a.n a.size a.to) (λ s e. part_of (part_at ms a.from a.to) s e a.tolerance) _ c.start_in.ensures _ c.enum_told-1.given.1
+    no_start (start_in a.heading ms a.n a.size a.from) (end_in a.heading ms a.n a.size a.to) (λ s e. part_of (part_at ms a.from a.to) s e a.tolerance) _ c.start_in.ensures _ c.in_default.is
 
 pub returns-in_default-end_in : goal.returns-in_default-end_in
 returns-in_default-end_in c =
     let a = c.args in
     let ms = marks_in a.heading a.marks.now in
-    no_end (start_in a.heading ms a.n a.size a.from) (end_in a.heading ms a.n a.size a.to) (λ s e. part_of (part_at ms a.from a.to) s e a.tolerance) _ c.start_in.ensures _ _ c.start-1.given.1 _ c.end_in.ensures c.enum_told-in_default-end_in-1.given.1
+    no_end (start_in a.heading ms a.n a.size a.from) (end_in a.heading ms a.n a.size a.to) (λ s e. part_of (part_at ms a.from a.to) s e a.tolerance) _ c.start_in.ensures _ _ c.in-Toward.is _ c.end_in.ensures c.in_default-end_in.is
 
 pub try_marks-requires : goal.try_marks-requires
 try_marks-requires c =
@@ -33,5 +33,5 @@ returns c =
     let a = c.args in
     let p = c.requires in
     let ms = marks_in a.heading a.marks.now in
-    both_ways (start_in a.heading ms a.n a.size a.from) (end_in a.heading ms a.n a.size a.to) (λ s e. part_of (part_at ms a.from a.to) s e a.tolerance) _ c.start_in.ensures _ _ c.start-1.given.1 _ c.end_in.ensures _ c.end-1.given.1 _
-    (same_part _ _ c.start-1.given.0.0 c.end-1.given.0.0 a.tolerance _ _ (part_read a.heading a.marks.now a.round.now a.tail a.n a.size a.tolerance p.0 a.from a.to (length a.params.now) p.1) c.try_marks.ensures)
+    both_ways (start_in a.heading ms a.n a.size a.from) (end_in a.heading ms a.n a.size a.to) (λ s e. part_of (part_at ms a.from a.to) s e a.tolerance) _ c.start_in.ensures _ _ c.in-Toward.is _ c.end_in.ensures _ c.in-Toward-end_in.is _
+    (same_part _ _ c.in-Toward.start c.in-Toward-end_in.end a.tolerance _ _ (part_read a.heading a.marks.now a.round.now a.tail a.n a.size a.tolerance p.0 a.from a.to (length a.params.now) p.1) c.try_marks.ensures)

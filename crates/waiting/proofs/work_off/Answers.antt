@@ -9,7 +9,7 @@ use Rattle.waiting.proofs.work_off.Goals as goal
 -- ---- what is known at each place
 
 abbrev entry : goal.After-slice_known-6-1 → Call
-entry c = let a = c.args in call a.heading a.marks.now a.round.now a.tail a.size a.tolerance a.curves.now a.firsts.now a.worsts.now a.params.now c.wait_blocks-first.new.1.1.0
+entry c = let a = c.args in call a.heading a.marks.now a.round.now a.tail a.size a.tolerance a.curves.now a.firsts.now a.worsts.now a.params.now c.wait_blocks-first.new.open
 
 abbrev head : goal.At-loop-s → Head
 head c = record { K = entry c; A = asks c; from = c.loop-s.from; to = c.loop-s.to; depth = c.loop-s.depth; made = c.loop-s.made; C₁ = c.loop-s.curves; F₁ = c.loop-s.firsts; W₁ = c.loop-s.worsts; P₁ = c.loop-s.params; O₁ = c.loop-s.«open»; so = c.loop-s.invariant }
@@ -26,7 +26,7 @@ wait_blocks-first-requires c = let p = c.requires in (omega (arith, p.0.two), (p
 
 pub loop-s-init : goal.loop-s-init
 loop-s-init c =
-    let asks : Asked (entry c) = let p = c.requires in record { outlined = p.0; room = (p.1.0, (p.1.1.0, (p.1.1.1.0, omega (arith, p.1, c.wait_blocks-first.auto.1.1.0)))) } in
+    let asks : Asked (entry c) = let p = c.requires in record { outlined = p.0; room = (p.1.0, (p.1.1.0, (p.1.1.1.0, omega (arith, p.1, c.wait_blocks-first.auto.open)))) } in
     so_first (entry c) asks _ _ _ c.wait_blocks-first.ensures refl
 
 pub overflow_add-past : goal.overflow_add-past
@@ -51,19 +51,19 @@ pub put_curve-requires : goal.put_curve-requires
 put_curve-requires c =
     let ran : Ran (opened c) = let f = c.try_between-tried in record { r = f.result; p = f.new.1.1.1.1.1.1.1.1.1.0; did = f.ensures; lp = f.auto.1.1.1.1.1.1.1.1.1.0 } in
     let z = numbers (opened c) in
-    ((omega (arith, z), (omega (arith, z), omega (arith, z))), omega (arith, z, good_among (opened c) ran c.tried-1.given.0.0 c.tried-1.given.1))
+    ((omega (arith, z), (omega (arith, z), omega (arith, z))), omega (arith, z, good_among (opened c) ran c.in-Good.s c.in-Good.is))
 
 pub overflow_add-made : goal.overflow_add-made
 overflow_add-made c = omega (arith, numbers (opened c))
 
 pub shape_of-curves-then-depth-eq0 : goal.shape_of-curves-then-depth-eq0
-shape_of-curves-then-depth-eq0 c = c.put_curve.auto.0 ∙ c.loop-s.invariant.lc
+shape_of-curves-then-depth-eq0 c = c.put_curve.auto.curves ∙ c.loop-s.invariant.lc
 
 pub shape_of-firsts-then-depth-eq0 : goal.shape_of-firsts-then-depth-eq0
-shape_of-firsts-then-depth-eq0 c = c.put_curve.auto.1.0 ∙ c.loop-s.invariant.lf
+shape_of-firsts-then-depth-eq0 c = c.put_curve.auto.firsts ∙ c.loop-s.invariant.lf
 
 pub shape_of-worsts-then-depth-eq0 : goal.shape_of-worsts-then-depth-eq0
-shape_of-worsts-then-depth-eq0 c = c.put_curve.auto.1.1.0 ∙ c.loop-s.invariant.lw
+shape_of-worsts-then-depth-eq0 c = c.put_curve.auto.worsts ∙ c.loop-s.invariant.lw
 
 pub shape_of-params-then-depth-eq0 : goal.shape_of-params-then-depth-eq0
 shape_of-params-then-depth-eq0 c =
@@ -71,12 +71,12 @@ shape_of-params-then-depth-eq0 c =
     as_long (opened c) ran
 
 pub shape_of-open-then-depth-eq0 : goal.shape_of-open-then-depth-eq0
-shape_of-open-then-depth-eq0 c = c.loop-s.invariant.lo ∙ c.wait_blocks-first.auto.1.1.0
+shape_of-open-then-depth-eq0 c = c.loop-s.invariant.lo ∙ c.wait_blocks-first.auto.open
 
 pub returns-then-depth-eq0 : goal.returns-then-depth-eq0
 returns-then-depth-eq0 c =
     let ran : Ran (opened c) = let f = c.try_between-tried in record { r = f.result; p = f.new.1.1.1.1.1.1.1.1.1.0; did = f.ensures; lp = f.auto.1.1.1.1.1.1.1.1.1.0 } in
-    so_done (opened c) ran c.tried-1.given.0.0 c.tried-1.given.1 _ _ _ c.put_curve.ensures c.if-depth-eq0.true
+    so_done (opened c) ran c.in-Good.s c.in-Good.is _ _ _ c.put_curve.ensures c.if-depth-eq0.true
 
 pub overflow_sub-depth : goal.overflow_sub-depth
 overflow_sub-depth c = omega (arith, c.if-depth-eq0)
@@ -96,17 +96,17 @@ loop-s-smaller-in-Good c = omega (arith, numbers (opened c), c.if-depth-eq0)
 pub loop-s-preserved-in-Good : goal.loop-s-preserved-in-Good
 loop-s-preserved-in-Good c =
     let ran : Ran (opened c) = let f = c.try_between-tried in record { r = f.result; p = f.new.1.1.1.1.1.1.1.1.1.0; did = f.ensures; lp = f.auto.1.1.1.1.1.1.1.1.1.0 } in
-    so_next (opened c) ran c.tried-1.given.0.0 c.tried-1.given.1 _ _ _ c.put_curve.ensures (c.loop-s.depth - 1) (omega (arith, c.if-depth-eq0)) c.put_curve.auto.0 c.put_curve.auto.1.0 c.put_curve.auto.1.1.0
+    so_next (opened c) ran c.in-Good.s c.in-Good.is _ _ _ c.put_curve.ensures (c.loop-s.depth - 1) (omega (arith, c.if-depth-eq0)) c.put_curve.auto.curves c.put_curve.auto.firsts c.put_curve.auto.worsts
 
 pub overflow_add-cut : goal.overflow_add-cut
 overflow_add-cut c =
     let ran : Ran (opened c) = let f = c.try_between-tried in record { r = f.result; p = f.new.1.1.1.1.1.1.1.1.1.0; did = f.ensures; lp = f.auto.1.1.1.1.1.1.1.1.1.0 } in
-    omega (arith, numbers (opened c), cut_inside (opened c) ran c.tried-in-Cut-1.given.0.0 c.tried-in-Cut-1.given.1)
+    omega (arith, numbers (opened c), cut_inside (opened c) ran c.in-Cut.at c.in-Cut.is)
 
 pub overflow_cast-open : goal.overflow_cast-open
 overflow_cast-open c =
     let ran : Ran (opened c) = let f = c.try_between-tried in record { r = f.result; p = f.new.1.1.1.1.1.1.1.1.1.0; did = f.ensures; lp = f.auto.1.1.1.1.1.1.1.1.1.0 } in
-    omega (arith, numbers (opened c), cut_inside (opened c) ran c.tried-in-Cut-1.given.0.0 c.tried-in-Cut-1.given.1)
+    omega (arith, numbers (opened c), cut_inside (opened c) ran c.in-Cut.at c.in-Cut.is)
 
 pub offset_bounds-open-depth-in-Cut : goal.offset_bounds-open-depth-in-Cut
 offset_bounds-open-depth-in-Cut c = omega (arith, numbers (opened c))
@@ -123,7 +123,7 @@ loop-s-smaller c = omega (arith, numbers (opened c))
 pub loop-s-preserved : goal.loop-s-preserved
 loop-s-preserved c =
     let ran : Ran (opened c) = let f = c.try_between-tried in record { r = f.result; p = f.new.1.1.1.1.1.1.1.1.1.0; did = f.ensures; lp = f.auto.1.1.1.1.1.1.1.1.1.0 } in
-    so_cut (opened c) ran c.tried-in-Cut-1.given.0.0 c.tried-in-Cut-1.given.1
+    so_cut (opened c) ran c.in-Cut.at c.in-Cut.is
 
 pub shape_of-curves-in-Refused : goal.shape_of-curves-in-Refused
 shape_of-curves-in-Refused c = c.loop-s.invariant.lc
@@ -140,9 +140,9 @@ shape_of-params-in-Refused c =
     as_long (opened c) ran
 
 pub shape_of-open-in-Refused : goal.shape_of-open-in-Refused
-shape_of-open-in-Refused c = c.loop-s.invariant.lo ∙ c.wait_blocks-first.auto.1.1.0
+shape_of-open-in-Refused c = c.loop-s.invariant.lo ∙ c.wait_blocks-first.auto.open
 
 pub returns-in-Refused : goal.returns-in-Refused
 returns-in-Refused c =
     let ran : Ran (opened c) = let f = c.try_between-tried in record { r = f.result; p = f.new.1.1.1.1.1.1.1.1.1.0; did = f.ensures; lp = f.auto.1.1.1.1.1.1.1.1.1.0 } in
-    so_refused (opened c) ran c.tried-in-Refused-1.given.0.0 c.tried-in-Refused-1.given.1 _ _ _ _
+    so_refused (opened c) ran c.in-Refused.q c.in-Refused.is _ _ _ _

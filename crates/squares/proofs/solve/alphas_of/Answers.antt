@@ -2,7 +2,6 @@
 use mathlib.Core.Path.{sym, ◌∙◌}
 use Rattle.squares.proofs.Controls.{alphas_zero, alphas_on, alphas_lost, alphas_off}
 use Rattle.squares.specs.Tests.{solved_answer}
-use borrow.Author.Rules.{rules}
 use Rattle.squares.proofs.solve.alphas_of.Goals as goal
 
 pub returns-then-abs : goal.returns-then-abs

@@ -2,7 +2,6 @@
 use Rattle.squares.proofs.Controls.{curve_made, curve_lost}
 use Rattle.squares.specs.Solve.{curve_of}
 use Rattle.marks.specs.Answers.{made_answer}
-use borrow.Author.Rules.{rules}
 use Rattle.squares.proofs.solve.curve_of.Goals as goal
 
 pub returns-then-point_finite : goal.returns-then-point_finite

@@ -2,7 +2,6 @@
 use mathlib.Core.Path.{sym, ◌∙◌}
 use Rattle.marks.specs.Answers.{made_answer}
 use Rattle.squares.proofs.Controls.{place_third, place_alphas, place_off}
-use borrow.Author.Rules.{rules}
 use Rattle.squares.proofs.solve.place.Goals as goal
 
 pub returns-then-a-epsilon : goal.returns-then-a-epsilon

@@ -1,6 +1,5 @@
 -- `squares::sums::gather` meets its contract.
 use Rattle.squares.specs.Sums.{gather_of}
-use borrow.Author.Rules.{rules}
 use Rattle.squares.proofs.sums.gather.Goals as goal
 
 pub returns : goal.returns

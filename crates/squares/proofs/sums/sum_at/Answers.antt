@@ -1,6 +1,5 @@
 -- `squares::sums::sum_at` meets its contract.
 use Rattle.squares.specs.Sums.{sum_at}
-use borrow.Author.Rules.{rules}
 use Rattle.squares.proofs.sums.sum_at.Goals as goal
 
 pub returns : goal.returns

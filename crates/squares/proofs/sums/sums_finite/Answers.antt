@@ -1,6 +1,5 @@
 -- `squares::sums::sums_finite` meets its contract.
 use Rattle.squares.specs.Tests.{sums_finite}
-use borrow.Author.Rules.{rules}
 use Rattle.squares.proofs.sums.sums_finite.Goals as goal
 
 pub returns : goal.returns

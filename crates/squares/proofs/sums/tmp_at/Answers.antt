@@ -1,6 +1,5 @@
 -- `squares::sums::tmp_at` meets its contract.
 use Rattle.squares.specs.Sums.{tmp_of}
-use borrow.Author.Rules.{rules}
 use Rattle.squares.proofs.sums.tmp_at.Goals as goal
 
 pub returns : goal.returns

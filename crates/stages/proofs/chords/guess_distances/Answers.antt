@@ -1,9 +1,7 @@
 -- `stages::chords::guess_distances` meets its contract: it ends, and stays inside its slices.
 use borrow.Author.Rules.{rules}
-use mathlib.Core.Path.{◌≡◌}
-use Prim.Native.Nat.{◌-◌, ◌≤◌}
 use native.Mathlib.Omega.{arith}
-use lib.ListN.{length, length-set}
+use lib.ListN.{length-set}
 use Rattle.stages.proofs.chords.guess_distances.Goals as goal
 
 pub loop-k-init : goal.loop-k-init

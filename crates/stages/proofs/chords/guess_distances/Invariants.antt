@@ -1,9 +1,7 @@
 -- What the loops of `stages::chords::guess_distances` keep.
-use borrow.Author.Rules.{rules}
 use mathlib.Core.Path.{◌≡◌}
 use Prim.Native.Nat.{◌-◌, ◌≤◌}
-use native.Mathlib.Omega.{arith}
-use lib.ListN.{length, length-set}
+use lib.ListN.{length}
 use Rattle.stages.proofs.chords.guess_distances.Given as goal
 
 abbrev pub invariant-loop-k : goal.invariant-loop-k

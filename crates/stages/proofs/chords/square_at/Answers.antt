@@ -1,6 +1,5 @@
 -- `stages::chords::square_at` meets its contract.
 use Rattle.stages.specs.Chords.{square_at}
-use borrow.Author.Rules.{rules}
 use Rattle.stages.proofs.chords.square_at.Goals as goal
 
 pub returns : goal.returns

@@ -1,12 +1,11 @@
 -- `stages::chords::sum_distances` meets its contract: the lengths stand up to the mark before k.
-use borrow.Author.Rules.{rules}
 use mathlib.Core.Path.{◌≡◌, ap, ◌∙◌}
 use Prim.Native.Nat.{ℕ, ◌-◌}
 use native.Mathlib.Omega.{arith}
 use lib.ListN.{length, set, length-set}
 use Rattle.float.specs.Number.{f0}
 use Rattle.stages.specs.Chords.{along, lengths}
-use Rattle.stages.proofs.Lengths.{Summed, first, count, next, summed}
+use Rattle.stages.proofs.Lengths.{first, count, next, summed}
 use Rattle.stages.proofs.chords.sum_distances.Goals as goal
 
 pub loop-k-init : goal.loop-k-init

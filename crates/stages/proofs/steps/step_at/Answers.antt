@@ -1,5 +1,4 @@
 -- `stages::steps::step_at` meets its contract.
-use borrow.Author.Rules.{rules}
 use Rattle.stages.proofs.steps.step_at.Goals as goal
 
 pub returns : goal.returns

@@ -1,6 +1,5 @@
 -- `stages::worst::error_at` meets its contract.
 use Rattle.stages.specs.Worst.{error_of}
-use borrow.Author.Rules.{rules}
 use Rattle.stages.proofs.worst.error_at.Goals as goal
 
 pub returns : goal.returns

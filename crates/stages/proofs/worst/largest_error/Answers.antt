@@ -1,11 +1,9 @@
 -- `stages::worst::largest_error` meets its contract: w is the worst of the first i marks, each of their distances was fine, and the worst is
 -- a finite number.
-use borrow.Author.Rules.{rules}
-use borrow.Author.Tests.{not-true, not-false}
 use mathlib.Core.Path.{◌≡◌, refl, sym, ap, ◌∙◌}
 use mathlib.Core.Bool.{Bool, true, false, cond}
 use mathlib.Core.List.{List}
-use Prim.Native.Nat.{ℕ, ◌≤◌, ◌<◌, ◌-◌, ◌+◌, zero-le}
+use Prim.Native.Nat.{ℕ, ◌≤◌, ◌<◌, ◌+◌, zero-le}
 use native.Mathlib.Omega.{arith}
 use lib.ListN.{length, get_or}
 use lib.Ieee.{Float, nan, lt, le, of_bits}
@@ -15,17 +13,14 @@ use Rattle.float.specs.Folds.{upto}
 use Rattle.float.proofs.Truth.{both}
 use Rattle.float.proofs.Strict.{Fin}
 use Rattle.float.proofs.Signs.{negative, held}
-use Rattle.float.proofs.Answers.{Fine}
 use Rattle.float.proofs.Folds.{upto_next, upto_both, upto_bad}
 use Rattle.plane.specs.declared.Curve.{Curve}
 use Rattle.marks.specs.Marks.{mark_at}
 use Rattle.stages.specs.Worst.{worst_at, worst, no_worst, error_of, larger, far_answer}
 use Rattle.stages.specs.declared.worst.Worst.{Worst}
 use Rattle.stages.proofs.Errors.{error_fine, error_bad, error_sign}
+use Rattle.stages.proofs.worst.largest_error.Invariants.{Sofar}
 use Rattle.stages.proofs.worst.largest_error.Goals as goal
-
-abbrev Sofar : List Float → Curve → List Float → Worst → ℕ → Type 0
-Sofar ms c ts w i = (i ≤ length ts) × Fine (upto i no_worst (worst_at ms c ts)) × (w ≡ (upto i no_worst (worst_at ms c ts)).val) × Fin w.err
 
 larger-fin : (w : Worst) (e : Float) (k : ℕ) → Fin w.err → Fin e → Fin (larger w e k).err
 unfolding larger
@@ -77,13 +72,13 @@ loop-i-preserved-then-e-w c = skip _ _ _ _ _ c.loop-i.invariant c.loop-i-test.tr
 
 pub returns-then-not-finite : goal.returns-then-not-finite
 unfolding far_answer
-returns-then-not-finite c = halt _ _ _ _ _ c.loop-i.invariant c.loop-i-test.true _ c.error_at-e.ensures (sym c.finite.ensures ∙ not-true _ c.if-not-finite.true)
+returns-then-not-finite c = halt _ _ _ _ _ c.loop-i.invariant c.loop-i-test.true _ c.error_at-e.ensures (sym c.finite.ensures ∙ c.if-not-finite.true)
 
 pub loop-i-smaller : goal.loop-i-smaller
 loop-i-smaller c = omega arith
 
 pub loop-i-preserved : goal.loop-i-preserved
-loop-i-preserved c = more _ _ _ _ _ c.loop-i.invariant c.loop-i-test.true _ c.error_at-e.ensures (sym c.finite.ensures ∙ not-false _ c.if-not-finite.false) _ c.larger-w.ensures
+loop-i-preserved c = more _ _ _ _ _ c.loop-i.invariant c.loop-i-test.true _ c.error_at-e.ensures (sym c.finite.ensures ∙ c.if-not-finite.false) _ c.larger-w.ensures
 
 pub returns : goal.returns
 unfolding far_answer

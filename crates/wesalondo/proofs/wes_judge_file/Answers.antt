@@ -1,0 +1,8 @@
+-- `wesalondo::wes_judge_file` meets its contract.
+use borrow.Author.Rules.{rules}
+use mathlib.Core.Path.{ap}
+use Rattle.wesalondo.specs.Left.{left_with_text}
+use Rattle.wesalondo.proofs.wes_judge_file.Goals as goal
+
+pub returns : goal.returns
+returns c = rw c.put_listed.ensures (ap left_with_text c.judge_file-answer.ensures)

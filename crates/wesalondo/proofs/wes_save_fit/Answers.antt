@@ -1,0 +1,8 @@
+-- `wesalondo::wes_save_fit` meets its contract.
+use borrow.Author.Rules.{rules}
+use mathlib.Core.Path.{ap}
+use Rattle.wesalondo.specs.Left.{left_with_text}
+use Rattle.wesalondo.proofs.wes_save_fit.Goals as goal
+
+pub returns : goal.returns
+returns c = rw c.put_listed.ensures (ap left_with_text c.save_fit-answer.ensures)
