@@ -1,5 +1,4 @@
 -- `joints::joint_at` meets its contract.
-use borrow.Author.Rules.{rules}
 use native.Mathlib.Omega.{arith}
 use mathlib.Core.Path.{sym, ◌∙◌}
 use Rattle.ring.specs.declared.Outline.TheVariants.{Closed}

@@ -1,5 +1,4 @@
 -- `joints::left_end`: the refusal is taken out first, and then whether there is a direction.
-use borrow.Author.Rules.{rules}
 use mathlib.Core.Path.{refl, sym}
 use Rattle.float.specs.Calc.{give}
 use Rattle.float.proofs.Answers.{outcome_ok}
@@ -11,12 +10,12 @@ use Rattle.joints.proofs.left_end.Goals as goal
 
 pub returns-in_default : goal.returns-in_default
 unfolding way_answer left_end
-returns-in_default c = let j = c.args.joint in no_bearing j (end_by j) _ c.direction_between.ensures c.enum_told-1.given.1
+returns-in_default c = let j = c.args.joint in no_bearing j (end_by j) _ c.direction_between.ensures c.in_default.is
 
 pub returns-in_default-direction : goal.returns-in_default-direction
 unfolding end_by left_end
-returns-in_default-direction c = let j = c.args.joint in by_bearing j (end_by j) _ c.direction_between.ensures Nowhere c.direction-1.given.1 c.enum_told-in_default-direction-1.given.1 c.along.ensures
+returns-in_default-direction c = let j = c.args.joint in by_bearing j (end_by j) _ c.direction_between.ensures Nowhere c.in-Of.is c.in_default-direction.is c.along.ensures
 
 pub returns : goal.returns
 unfolding way_answer end_by left_end
-returns c = let j = c.args.joint in by_bearing j (end_by j) _ c.direction_between.ensures (Toward _) c.direction-1.given.1 c.direction-in-Toward-1.given.1 (sym (outcome_ok (give _) refl))
+returns c = let j = c.args.joint in by_bearing j (end_by j) _ c.direction_between.ensures (Toward _) c.in-Of.is c.in-Toward.is (sym (outcome_ok (give _) refl))

@@ -1,5 +1,4 @@
 -- `joints::opposite` meets its contract.
-use borrow.Author.Rules.{rules}
 use mathlib.Core.Path.{sym, ◌∙◌}
 use Rattle.marks.specs.Answers.{way_answer}
 use Rattle.joints.proofs.Joints.{about, too_far}

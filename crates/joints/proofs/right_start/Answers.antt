@@ -1,5 +1,4 @@
 -- `joints::right_start`: the refusal is taken out first, and then whether there is a direction.
-use borrow.Author.Rules.{rules}
 use Rattle.plane.specs.declared.Direction.TheVariants.{Toward, Nowhere}
 use Rattle.marks.specs.Answers.{way_answer}
 use Rattle.joints.specs.Joints.{start_by, right_start}
@@ -8,12 +7,12 @@ use Rattle.joints.proofs.right_start.Goals as goal
 
 pub returns-in_default : goal.returns-in_default
 unfolding way_answer right_start
-returns-in_default c = let j = c.args.joint in no_bearing j (start_by j) _ c.direction_between.ensures c.enum_told-1.given.1
+returns-in_default c = let j = c.args.joint in no_bearing j (start_by j) _ c.direction_between.ensures c.in_default.is
 
 pub returns-in_default-direction : goal.returns-in_default-direction
 unfolding start_by right_start
-returns-in_default-direction c = let j = c.args.joint in by_bearing j (start_by j) _ c.direction_between.ensures Nowhere c.direction-1.given.1 c.enum_told-in_default-direction-1.given.1 c.along.ensures
+returns-in_default-direction c = let j = c.args.joint in by_bearing j (start_by j) _ c.direction_between.ensures Nowhere c.in-Of.is c.in_default-direction.is c.along.ensures
 
 pub returns : goal.returns
 unfolding start_by right_start
-returns c = let j = c.args.joint in by_bearing j (start_by j) _ c.direction_between.ensures (Toward _) c.direction-1.given.1 c.direction-in-Toward-1.given.1 c.opposite.ensures
+returns c = let j = c.args.joint in by_bearing j (start_by j) _ c.direction_between.ensures (Toward _) c.in-Of.is c.in-Toward.is c.opposite.ensures

@@ -22,4 +22,4 @@ pub copy_words-requires-2 : goal.copy_words-requires-2
 copy_words-requires-2 c = let a = c.args in (omega (arith, c.entry_at-at.ensures, c.rest_numbers.ensures, rest_within a.form), simp (length-take, length-drop) (omega (arith, c.rest_numbers.ensures, rest_is a.form)))
 
 pub returns : goal.returns
-returns c = let a = c.args in curve_is a.b.now a.form a.n a.out.now _ c.copy_words-2.new.1.1.1.0 a.i c.copy_words.ensures c.copy_words-2.ensures c.start_place.ensures (ap (λ (x : ℕ). x + 4) c.entry_at-at.ensures) c.rest_numbers.ensures (omega (arith, rest_is a.form))
+returns c = let a = c.args in curve_is a.b.now a.form a.n a.out.now _ c.copy_words-2.new.out a.i c.copy_words.ensures c.copy_words-2.ensures c.start_place.ensures (ap (λ (x : ℕ). x + 4) c.entry_at-at.ensures) c.rest_numbers.ensures (omega (arith, rest_is a.form))

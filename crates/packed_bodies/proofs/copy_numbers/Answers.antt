@@ -58,7 +58,7 @@ loop-i-smaller c = omega arith
 pub loop-i-preserved : goal.loop-i-preserved
 loop-i-preserved c =
     let under : let a = c.args in width a.form * c.loop-i.i + width a.form ≤ width a.form * a.k = let a = c.args in within (width a.form) a.k c.loop-i.i (omega arith) in
-    let a = c.args in (omega arith, numbers-turn a.b.now a.form a.n a.curves.now c.loop-i.curves c.copy_curve.new.1.1.1.1.0 c.loop-i.i c.width-step.ensures (omega (arith, under)) c.loop-i.invariant.1 c.copy_curve.ensures)
+    let a = c.args in (omega arith, numbers-turn a.b.now a.form a.n a.curves.now c.loop-i.curves c.copy_curve.new.out c.loop-i.i c.width-step.ensures (omega (arith, under)) c.loop-i.invariant.1 c.copy_curve.ensures)
 
 pub shape_of-curves : goal.shape_of-curves
 shape_of-curves c = c.loop-i.invariant.1.same

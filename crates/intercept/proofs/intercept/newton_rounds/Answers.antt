@@ -14,19 +14,19 @@ loop-left-init c = refl
 pub returns-in-Stop : goal.returns-in-Stop
 unfolding root_answer
 returns-in-Stop c =
-    goes_stop _ _ _ _ _ _ c.loop-left.invariant c.loop-left-test.true c.newton_round.ensures c.enum_told-1.given.1
+    goes_stop _ _ _ _ _ _ c.loop-left.invariant c.loop-left-test.true c.newton_round.ensures c.in-Stop.is
 
 pub returns-in-Lost : goal.returns-in-Lost
 unfolding root_answer
 returns-in-Lost c =
-    goes_lost _ _ _ _ _ _ c.loop-left.invariant c.loop-left-test.true c.newton_round.ensures c.enum_told-in-Lost-1.given.1
+    goes_lost _ _ _ _ _ _ c.loop-left.invariant c.loop-left-test.true c.newton_round.ensures c.in-Lost.is
 
 pub loop-left-smaller : goal.loop-left-smaller
 loop-left-smaller c = omega arith
 
 pub loop-left-preserved : goal.loop-left-preserved
 loop-left-preserved c =
-    goes_next _ _ _ _ _ _ c.loop-left.invariant c.loop-left-test.true c.newton_round.ensures _ c.v-1.given.1
+    goes_next _ _ _ _ _ _ c.loop-left.invariant c.loop-left-test.true c.newton_round.ensures _ c.in-Next.is
 
 pub returns : goal.returns
 unfolding root_answer

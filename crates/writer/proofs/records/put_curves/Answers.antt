@@ -54,7 +54,7 @@ loop-i-preserved c =
     let h : l.i < length a.firsts.now = omega (arith, c.requires.1.0) in
     let w : worsts_for a.form (l.i + 1) ≤ length a.worsts.now = omega (arith, worsts_within a.form a.k l.i (omega arith), c.requires.1.1.0) in
     let n : width a.form * (l.i + 1) ≤ length a.curves.now = omega (arith, within (width a.form) a.k l.i (omega arith), c.requires.1.1.1) in
-    let e : c.put_curve.new.0 ≡ sets a.out.now a.at rs =
+    let e : c.put_curve.new.out ≡ sets a.out.now a.at rs =
     c.put_curve.ensures ∙ rw (l.invariant.1.0, c.body_bytes-step.ensures) (curves-put a.form a.field a.out.now a.firsts.now a.worsts.now a.curves.now a.at l.i h w n) in
     (omega arith, (e, ap length e ∙ length-sets a.out.now a.at rs))
 
