@@ -10,8 +10,8 @@ returns-then-refusal-ne0 c = rw (← c.gate-refusal.ensures, ne_eqb c.gate-refus
 
 pub returns-then-not-are_tangents : goal.returns-then-not-are_tangents
 unfolding cubic_gate
-returns-then-not-are_tangents c = rw (← c.gate-refusal.ensures, eq-eqb c.gate-refusal.result 0 c.if-refusal-ne0.false, ← c.are_tangents.ensures, not-true c.are_tangents.result c.if-not-are_tangents.true)
+returns-then-not-are_tangents c = rw (← c.gate-refusal.ensures, eq-eqb c.gate-refusal.result 0 c.if-refusal-ne0.false, ← c.are_tangents.ensures, c.if-not-are_tangents.true)
 
 pub returns : goal.returns
 unfolding cubic_gate
-returns c = rw (← c.gate-refusal.ensures, eq-eqb c.gate-refusal.result 0 c.if-refusal-ne0.false, ← c.are_tangents.ensures, not-false c.are_tangents.result c.if-not-are_tangents.false)
+returns c = rw (← c.gate-refusal.ensures, eq-eqb c.gate-refusal.result 0 c.if-refusal-ne0.false, ← c.are_tangents.ensures, c.if-not-are_tangents.false)

@@ -3,7 +3,6 @@ use mathlib.Core.Path.{◌≡◌}
 use native.Mathlib.Omega.{arith}
 use lib.ListN.{length}
 use Rattle.part.proofs.Trials.{made_of, made_lost, far-mark, far_lost, solves_no, solves_ok, attempt_off, attempt_unmade, attempt-unmeasured, attempt-done}
-use borrow.Author.Rules.{rules}
 use Rattle.part.proofs.attempt.Goals as goal
 
 pub generate_bezier-requires : goal.generate_bezier-requires

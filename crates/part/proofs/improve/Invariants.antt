@@ -1,13 +1,9 @@
 -- What the loops of `part::improve` keep.
-use borrow.Author.Rules.{rules}
-use borrow.Author.Tests.{not-true, not-false}
-use mathlib.Core.Path.{◌≡◌, refl, sym, ◌∙◌}
-use native.Mathlib.Omega.{arith}
+use mathlib.Core.Path.{◌≡◌}
 use lib.ListN.{length}
 use Rattle.float.specs.Answer.{outcome}
 use Rattle.part.specs.Trial.{improve}
 use Rattle.part.specs.Answers.{trial_of}
-use Rattle.part.proofs.Trials.{found, lost, solves_no, solves_ok, improve_end, go_lost, go_off, go_last, go_more}
 use Rattle.part.proofs.improve.Given as goal
 
 abbrev pub invariant-loop-left : goal.invariant-loop-left

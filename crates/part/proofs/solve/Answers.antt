@@ -3,7 +3,6 @@ use mathlib.Core.Path.{◌≡◌, ◌∙◌}
 use native.Mathlib.Omega.{arith}
 use lib.ListN.{length}
 use Rattle.part.proofs.Trials.{made_of, made_lost, found, lost, solves_no, solves_ok, solves_same, tried_off, tried_unmade, tried_lost, tried-over, tried-near}
-use borrow.Author.Rules.{rules}
 use Rattle.part.proofs.solve.Goals as goal
 
 pub generate_bezier-requires : goal.generate_bezier-requires

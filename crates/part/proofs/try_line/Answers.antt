@@ -2,7 +2,6 @@
 use native.Mathlib.Omega.{arith}
 use lib.ListN.{length-set}
 use Rattle.part.proofs.Trials.{made_of, made_lost, line_lost, line-done, two_set}
-use borrow.Author.Rules.{rules}
 use Rattle.part.proofs.try_line.Goals as goal
 
 pub bounds-params-1 : goal.bounds-params-1

@@ -1,7 +1,6 @@
 -- `part::try_part` meets its contract.
 use native.Mathlib.Omega.{arith}
 use Rattle.part.proofs.Trials.{found, lost, part_line, part_lost, part_judged}
-use borrow.Author.Rules.{rules}
 use Rattle.part.proofs.try_part.Goals as goal
 
 pub try_line-requires : goal.try_line-requires

@@ -43,7 +43,7 @@ loop-i-preserved c =
     let l = c.loop-i in
     let a = c.args in
     let rs = each (l.i + 1) (record_here a.file.now a.form a.field a.n) in
-    let e : c.put_curve.new.1.1.1.1.1.0 ≡ sets a.out.now a.at rs =
+    let e : c.put_curve.new.out ≡ sets a.out.now a.at rs =
     c.put_curve.ensures ∙ rw (l.invariant.1.0, c.body_bytes-step.ensures) (records_put a.file.now a.form a.field a.n a.out.now a.at l.i) in
     (omega arith, (e, ap length e ∙ length-sets a.out.now a.at rs))
 
