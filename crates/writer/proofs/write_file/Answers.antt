@@ -6,7 +6,6 @@ use lib.ListN.{length}
 use Rattle.house.proofs.Forms.{size_few}
 use Rattle.grammar.proofs.Rooms.{Places, places}
 use Rattle.writer.proofs.Ways.{Call, write_odd, write_many, write_short, write_small, write_unfit, write_done}
-use borrow.Author.Rules.{rules}
 use Rattle.writer.proofs.write_file.Goals as goal
 
 pub returns-then-marks-ne0 : goal.returns-then-marks-ne0

@@ -6,7 +6,6 @@ use lib.ListN.{length}
 use Rattle.house.specs.Limits.{mark_field}
 use Rattle.house.proofs.Forms.{field_within}
 use Rattle.writer.proofs.Turns.{beside_one, beside_two}
-use borrow.Author.Rules.{rules}
 use Rattle.writer.proofs.records.put_beside.Goals as goal
 
 pub overflow_cast-firsts : goal.overflow_cast-firsts

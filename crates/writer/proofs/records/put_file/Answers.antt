@@ -8,11 +8,10 @@ use Rattle.house.specs.Limits.{field_for, body_bytes, curve_bytes}
 use Rattle.house.proofs.Forms.{body-few}
 use Rattle.grammar.proofs.Rooms.{room_start, room_whole, room-params}
 use Rattle.writer.proofs.Puts.{put-plain, put_whole}
-use borrow.Author.Rules.{rules}
 use Rattle.writer.proofs.records.put_file.Goals as goal
 
 pub put_marks-requires : goal.put_marks-requires
-put_marks-requires c = let s = c.requires in omega (arith, s.0, room_start s.1)
+put_marks-requires c = omega (arith, c.requires.mark_numbers_len, room_start c.requires.room)
 
 pub returns-then-k-eq0 : goal.returns-then-k-eq0
 returns-then-k-eq0 c = c.put_marks.ensures ∙ put-plain c.args.tolerance c.requires.mark_numbers_len c.requires.room c.if-k-eq0.true

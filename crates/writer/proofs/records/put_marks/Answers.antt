@@ -1,6 +1,5 @@
 -- `writer::records::put_marks` meets its contract.
 use mathlib.Core.Path.{◌∙◌}
-use borrow.Author.Rules.{rules}
 use Rattle.writer.proofs.Turns.{marks-put}
 use Rattle.writer.proofs.records.put_marks.Goals as goal
 
