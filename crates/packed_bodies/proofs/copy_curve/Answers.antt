@@ -6,7 +6,6 @@ use lib.ListN.{length-take, length-drop}
 use Rattle.packed.proofs.Places.{start_before}
 use Rattle.packed.proofs.Sizes.{rest_is, rest_within}
 use Rattle.packed_bodies.proofs.Turns.{curve_is}
-use borrow.Author.Rules.{rules}
 use Rattle.packed_bodies.proofs.copy_curve.Goals as goal
 
 pub copy_words-requires : goal.copy_words-requires

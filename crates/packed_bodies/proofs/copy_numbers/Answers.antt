@@ -1,15 +1,13 @@
 -- `packed_bodies::copy_numbers` meets its contract. After i turns the numbers of the first i curves stand in front.
 use mathlib.Core.Path.{◌≡◌, ap}
-use Prim.Native.Nat.{ℕ, ◌+◌, ◌-◌, ◌*◌, ◌≤◌}
+use Prim.Native.Nat.{ℕ, ◌+◌, ◌*◌, ◌≤◌}
 use native.Mathlib.Omega.{arith}
 use lib.ListN.{length-take, length-drop}
 use Rattle.form.specs.Form.{width}
 use Rattle.house.proofs.Forms.{within}
-use Rattle.house.proofs.Turns.{Front}
 use Rattle.packed.specs.Packed.{entry_bytes}
-use Rattle.packed.specs.Unpacked.{entry_at, numbers_in}
+use Rattle.packed.specs.Unpacked.{entry_at}
 use Rattle.packed_bodies.proofs.Turns.{inside, numbers_none, numbers-turn, numbers_all}
-use borrow.Author.Rules.{rules}
 use Rattle.packed_bodies.proofs.copy_numbers.Goals as goal
 
 pub loop-i-init : goal.loop-i-init

@@ -1,9 +1,6 @@
 -- `roots::intercept::newton_rounds` meets its contract: what is left to answer stays the same.
-use borrow.Author.Rules.{rules}
-use mathlib.Core.Path.{◌≡◌, refl}
+use mathlib.Core.Path.{refl}
 use native.Mathlib.Omega.{arith}
-use Rattle.float.specs.Answer.{outcome}
-use Rattle.intercept.specs.Intercept.{newton_by}
 use Rattle.intercept.specs.Tests.{root_answer}
 use Rattle.intercept.proofs.Rounds.{goes_next, goes_stop, goes_lost, at_end}
 use Rattle.intercept.proofs.intercept.newton_rounds.Goals as goal

@@ -1,5 +1,4 @@
 -- `roots::intercept::root_of` meets its contract.
-use borrow.Author.Rules.{rules}
 use mathlib.Core.Path.{sym, ap, ◌∙◌}
 use Rattle.plane.specs.Range.{point_finite}
 use Rattle.intercept.specs.Tests.{root_answer}

@@ -1,6 +1,6 @@
 -- `writer::records::put_curves` meets its contract. After i turns the records of the first i curves are put.
 use mathlib.Core.Path.{◌≡◌, refl, ap, ◌∙◌}
-use Prim.Native.Nat.{ℕ, ◌+◌, ◌-◌, ◌*◌, ◌<◌, ◌≤◌}
+use Prim.Native.Nat.{ℕ, ◌+◌, ◌*◌, ◌<◌, ◌≤◌}
 use native.Mathlib.Omega.{arith}
 use lib.ListN.{length, take}
 use lib.Seq.{sets, length-sets}
@@ -9,7 +9,6 @@ use Rattle.house.specs.Limits.{curve_bytes}
 use Rattle.house.specs.File.{flat, curve_records}
 use Rattle.house.proofs.Forms.{body-few, within, worsts_within}
 use Rattle.writer.proofs.Turns.{curves-put}
-use borrow.Author.Rules.{rules}
 use Rattle.writer.proofs.records.put_curves.Goals as goal
 
 pub overflow_add-step : goal.overflow_add-step
