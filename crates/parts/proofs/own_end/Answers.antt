@@ -1,5 +1,4 @@
 -- `parts::own_end` meets its contract.
-use borrow.Author.Rules.{rules}
 use native.Mathlib.Omega.{arith}
 use Rattle.marks.specs.Answers.{way_answer}
 use Rattle.parts.proofs.Headings.{by_length, given_end, by_end}
@@ -9,7 +8,7 @@ pub end_of-requires : goal.end_of-requires
 end_of-requires c =
     let a = c.args in
     let p = c.requires in
-    (by_length a.heading a.marks.now a.n c.in-By.cutting c.in-By.is p.marks_len, (omega (arith, p), omega (arith, p), omega (arith, p)))
+    record { marks_len = by_length a.heading a.marks.now a.n c.in-By.cutting c.in-By.is p.marks_len; le_to = (omega (arith, p), omega (arith, p), omega (arith, p)) }
 
 pub returns-in-Given : goal.returns-in-Given
 unfolding way_answer

@@ -1,5 +1,4 @@
 -- `parts::own_start` meets its contract.
-use borrow.Author.Rules.{rules}
 use Rattle.marks.specs.Answers.{way_answer}
 use Rattle.parts.proofs.Headings.{by_length, given_start, by_start}
 use Rattle.parts.proofs.own_start.Goals as goal
@@ -8,7 +7,7 @@ pub start_of-requires : goal.start_of-requires
 start_of-requires c =
     let a = c.args in
     let p = c.requires in
-    (by_length a.heading a.marks.now a.n c.in-By.cutting c.in-By.is p.marks_len, p.at_bound)
+    record { marks_len = by_length a.heading a.marks.now a.n c.in-By.cutting c.in-By.is p.marks_len; from_bound = p.at_bound }
 
 pub returns-in-Given : goal.returns-in-Given
 unfolding way_answer
