@@ -19,7 +19,7 @@ check_curve-one-requires c = (c.loop-j-test.true, c.requires)
 pub returns-in_default : goal.returns-in_default
 returns-in_default c =
     let a = c.args in
-    halt a.form (whole a.outline a.marks.now) a.tolerance a.count a.curves.now a.firsts.now a.worsts.now a.params.now c.loop-j.j c.loop-j.invariant c.loop-j-test.true c.check_curve-one.result c.check_curve-one.ensures c.in-Passed.keys2
+    halt a.form (whole a.outline a.marks.now) a.tolerance a.count a.curves.now a.firsts.now a.worsts.now a.params.now c.loop-j.j c.loop-j.invariant c.loop-j-test.true c.check_curve-one.result c.check_curve-one.ensures c.in_default.not-Passed
 
 pub loop-j-smaller : goal.loop-j-smaller
 loop-j-smaller c = omega arith
@@ -27,7 +27,7 @@ loop-j-smaller c = omega arith
 pub loop-j-preserved : goal.loop-j-preserved
 loop-j-preserved c =
     let a = c.args in
-    faultless a.form (whole a.outline a.marks.now) a.tolerance a.count a.curves.now a.firsts.now a.worsts.now a.params.now c.loop-j.j c.loop-j.invariant c.loop-j-test.true c.check_curve-one.result c.check_curve-one.ensures c.enum_told-1.given.1
+    faultless a.form (whole a.outline a.marks.now) a.tolerance a.count a.curves.now a.firsts.now a.worsts.now a.params.now c.loop-j.j c.loop-j.invariant c.loop-j-test.true c.check_curve-one.result c.check_curve-one.ensures c.in-Passed.is
 
 pub returns : goal.returns
 unfolding checked_answer

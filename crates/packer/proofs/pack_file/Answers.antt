@@ -19,16 +19,16 @@ use Rattle.packer.proofs.pack_file.Goals as goal
 
 -- how the file is laid out
 abbrev form : goal.In-Counts-2 → Form
-form c = c.found-1.given.0.0
+form c = c.in-Counts.form
 
 abbrev n : goal.In-Counts-2 → ℕ
-n c = c.found-1.given.0.1.0
+n c = c.in-Counts.n
 
 abbrev k : goal.In-Counts-2 → ℕ
-k c = c.found-1.given.0.1.1.0
+k c = c.in-Counts.k
 
 pub returns-in_default : goal.returns-in_default
-returns-in_default c = let a = c.args in pack_broken a.file.now a.out.now (untold a.file.now (sym c.find_layout-found.ensures ∙ c.enum_told-1.given.1))
+returns-in_default c = let a = c.args in pack_broken a.file.now a.out.now (untold a.file.now (sym c.find_layout-found.ensures ∙ c.in_default.is))
 
 pub returns-then-k-eq0 : goal.returns-then-k-eq0
 returns-then-k-eq0 c = let a = c.args in pack-plain a.file.now a.out.now (found (c)) (bytes (c)) (omega arith) c.hand_over.ensures
@@ -55,7 +55,7 @@ pub returns-then-out-size : goal.returns-then-out-size
 returns-then-out-size c = let a = c.args in pack-small a.file.now a.out.now (found (c)) (omega arith) c.packed_length.ensures (sym c.length_fits.ensures ∙ c.if-length_fits.true) (sym c.curves_meet.ensures ∙ c.if-curves_meet.true) (omega (arith, size (c)))
 
 pub put_packed-requires : goal.put_packed-requires
-put_packed-requires c = (sym c.find_layout-found.ensures ∙ c.found-1.given.1, (omega arith, omega (arith, size (c))))
+put_packed-requires c = (sym c.find_layout-found.ensures ∙ c.in-Counts.is, (omega arith, omega (arith, size (c))))
 
 pub returns-then-curves_meet : goal.returns-then-curves_meet
 returns-then-curves_meet c = let a = c.args in pack-done a.file.now a.out.now (found (c)) (omega arith) c.packed_length.ensures (sym c.length_fits.ensures ∙ c.if-length_fits.true) (sym c.curves_meet.ensures ∙ c.if-curves_meet.true) (omega (arith, size (c))) (sym (size (c))) c.put_packed.ensures

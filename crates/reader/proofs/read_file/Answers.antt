@@ -5,7 +5,6 @@ use Rattle.packed_heads.specs.declared.Held.TheVariants as held
 use Rattle.packed_heads.specs.Layout.{held_layout_of}
 use Rattle.packed_heads.proofs.Told.{HeldTold, held_told}
 use Rattle.reader.proofs.Ways.{held-room, read_broken, read_many, read-few, read_short, read-given}
-use borrow.Author.Rules.{rules}
 use Rattle.reader.proofs.read_file.Goals as goal
 
 pub returns-in_default : goal.returns-in_default

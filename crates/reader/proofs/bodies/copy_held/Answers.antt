@@ -1,5 +1,4 @@
 -- `reader::bodies::copy_held` meets its contract.
-use borrow.Author.Rules.{rules}
 use Rattle.reader.proofs.bodies.copy_held.Goals as goal
 
 pub copy_file-requires : goal.copy_file-requires

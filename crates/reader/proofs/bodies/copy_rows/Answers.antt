@@ -1,13 +1,13 @@
 -- `reader::bodies::copy_rows` meets its contract. After i turns the numbers of the first i records stand in front.
 use mathlib.Core.Path.{◌≡◌, refl}
-use Prim.Native.Nat.{◌+◌, ◌-◌, ◌*◌, ◌≤◌}
+use Prim.Native.Nat.{◌+◌, ◌*◌, ◌≤◌}
 use native.Mathlib.Nat.{mul-zero}
 use native.Mathlib.Omega.{arith}
 use lib.ListN.{length, drop, length-take, length-drop}
 use Rattle.house.specs.Held.{in_each}
 use Rattle.house.proofs.Forms.{within}
 use Rattle.grammar.proofs.Curves.{length-each}
-use Rattle.house.proofs.Turns.{Front, same_front}
+use Rattle.house.proofs.Turns.{same_front}
 use Rattle.reader.proofs.Turns.{rows_put}
 use Rattle.reader.proofs.bodies.copy_rows.Goals as goal
 

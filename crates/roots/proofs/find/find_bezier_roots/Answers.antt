@@ -1,12 +1,10 @@
 -- `roots::find::find_bezier_roots` meets its contract: what is left to answer stays the same.
-use borrow.Author.Rules.{rules}
 use mathlib.Core.Path.{refl, sym, ap}
-use Prim.Native.Nat.{◌<◌, ◌-◌, zero-le}
+use Prim.Native.Nat.{zero-le}
 use native.Mathlib.Omega.{arith}
-use lib.ListN.{length, get_or}
-use Rattle.roots.specs.Find.{find, find_roots}
+use Rattle.roots.specs.Find.{find_roots}
 use Rattle.roots.specs.Tests.{seen_answer, roots_answer, count_of}
-use Rattle.roots.proofs.Stack.{blank, stack_of, Going, start, full, done, stops, passes, finds, low, fits, splits}
+use Rattle.roots.proofs.Stack.{stack_of, start, full, done, stops, passes, finds, low, fits, splits}
 use Rattle.roots.proofs.find.find_bezier_roots.Goals as goal
 
 pub loop-waiting-init : goal.loop-waiting-init
@@ -53,9 +51,9 @@ unfolding seen_answer
 loop-waiting-preserved-in-Root c =
     finds _ _ _ _ _ _ _ c.loop-waiting.invariant c.loop-waiting-test.true c.if-left-eq0.false _ c.look_at.ensures _ (sym (ap seen_answer c.in-Root.is))
 
-pub overflow-add-t23 : goal.overflow-add-t23
+pub overflow_add-sections : goal.overflow_add-sections
 unfolding seen_answer
-overflow-add-t23 c =
+overflow_add-sections c =
     let e = sym (ap seen_answer c.in-Halved.is) in
     let below = low _ _ _ _ _ _ _ c.loop-waiting.invariant c.loop-waiting-test.true c.if-left-eq0.false _ c.look_at.ensures _ e in
     omega (arith, below)
@@ -74,9 +72,9 @@ bounds-sections-waiting-in-Halved c =
     let room = fits _ _ _ _ _ _ _ c.loop-waiting.invariant c.loop-waiting-test.true c.if-left-eq0.false _ c.look_at.ensures _ e in
     omega (arith, room)
 
-pub overflow-add-t23-2 : goal.overflow-add-t23-2
+pub overflow_add-sections-in-Halved : goal.overflow_add-sections-in-Halved
 unfolding seen_answer
-overflow-add-t23-2 c =
+overflow_add-sections-in-Halved c =
     let e = sym (ap seen_answer c.in-Halved.is) in
     let below = low _ _ _ _ _ _ _ c.loop-waiting.invariant c.loop-waiting-test.true c.if-left-eq0.false _ c.look_at.ensures _ e in
     omega (arith, below)

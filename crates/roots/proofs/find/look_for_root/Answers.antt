@@ -1,5 +1,4 @@
 -- `roots::find::look_for_root` meets its contract.
-use borrow.Author.Rules.{rules}
 use mathlib.Core.Path.{sym, ap, ◌∙◌}
 use Rattle.intercept.specs.Tests.{root_answer}
 use Rattle.roots.specs.Tests.{seen_answer}
