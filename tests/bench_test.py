@@ -203,7 +203,7 @@ class Run(support.Case):
         self.stops(2, 'cargo is not on the path', flo, path=in_copy('docs'))
         os.rename(in_copy('target/staticlib'), in_copy('target/away'))
         try:
-            self.stops(2, 'rt staticlib wesalondo', flo)
+            self.stops(2, 'tools/build wesalondo', flo)
         finally:
             os.rename(in_copy('target/away'), in_copy('target/staticlib'))
 

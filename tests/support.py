@@ -21,19 +21,20 @@ where = None  # the folder of the copy
 
 
 def make_copy(programs):
-    """Copies what the commands need; the programs stay where `rt check` has built them."""
+    """Copies what the commands need, and the programs that `tools/build` has built: what a test builds stays in the copy."""
     global where
     for name in programs:
         if not os.path.isfile(os.path.join(ROOT, 'target', 'bin', name)):
-            raise AssertionError(f'there is no target/bin/{name}; build it with: rt check {name}')
+            raise AssertionError(f'there is no target/bin/{name}; build it with: tools/build {name}')
     where = os.path.join(tempfile.mkdtemp(), 'a copy')
     os.mkdir(where)
     for name in ('compare', 'crates', 'docs', 'examples', 'tools'):
-        shutil.copytree(os.path.join(ROOT, name), in_copy(name), ignore=shutil.ignore_patterns('proofs', 'must-fail'))
+        shutil.copytree(os.path.join(ROOT, name), in_copy(name), ignore=shutil.ignore_patterns('proofs', 'must-fail', 'out'))
     for name in ('wesalondo', 'crates.txt'):
         shutil.copy2(os.path.join(ROOT, name), where)
-    os.mkdir(in_copy('target'))
-    os.symlink(os.path.join(ROOT, 'target', 'bin'), in_copy('target/bin'))
+    os.makedirs(in_copy('target/bin'))
+    for name in programs:
+        shutil.copy2(os.path.join(ROOT, 'target', 'bin', name), in_copy('target/bin'))
 
 
 def remove_copy():

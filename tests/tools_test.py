@@ -1,7 +1,7 @@
 #!/usr/bin/env python3
 """tools_test.py: tests compare and the tools, above all where something is wrong with their words or files.
 
-They run on what `rt check` has built (target/bin/listing and target/bin/replay), in a copy of the repository whose path has a blank in it, with a
+They run on what `tools/build` has built (target/bin/listing and target/bin/replay), in a copy of the repository whose path has a blank in it, with a
 stand-in for cargo whose Rust side is the port itself: so neither Rust nor a network is wanted. The last line is `N passed, M failed`.
 """
 import filecmp
@@ -107,7 +107,7 @@ class Compare(Case):
     def test_port_not_built(self):
         os.rename(in_copy('target/bin'), in_copy('target/away'))
         try:
-            self.compare(2, 'rt check replay', in_copy('flo curves'))
+            self.compare(2, 'tools/build replay', in_copy('flo curves'))
         finally:
             os.rename(in_copy('target/away'), in_copy('target/bin'))
 
@@ -789,9 +789,26 @@ class Other(Case):
     def test_table_of_the_gate(self):
         self.says(2, 'usage: tools/gate_table.py', 'tools/gate_table.py')
         self.says(2, 'no line of a crate', 'tools/gate_table.py', in_copy('crates.txt'))
-        log = write('gate.log', 'rt: loft proved (4 s)\nrt: must-fail loft/gap: refused, as it must be (first at proofs/a.antt:1:2; 3 s)\nrt: sail proved (2 s)\n')
+        log = write('gate.log', '''rt: mast is kept: an earlier run on this machine proved the same files over the same libraries
+== loft
+fn loft::one: proved
+logic=proved functions=4 sum=dac8208d650f15bf native=nat,char,string logic-built=trusted libraries-built=trusted statements=trusted
+rt: loft proved
+== loft: its tests
+logic=proved tests=2 functions=6 sum=dac8208d650f15bf native=nat,char,string
+rt: loft: its tests are proved
+== sail
+logic=proved target=x86_64-unknown-linux-gnu functions=12 axioms=8 sum=dac8208d650f15bf
+rt: sail proved
+rt: loft: trying its must-fail edits (3)
+rt: must-fail loft/gap.edit: refused, as it must be: proofs/a.antt:1:2: error
+rt: must-fail loft/turn.edit: BAD EDIT: it changes nothing
+rt: must-fail loft/wide.edit: refused, as it must be
+rt: must-fail mast/step.edit: refused, as it must be
+rt: loft: its tests passed
+''')
         got, out, _ = self.call('tools/gate_table.py', log)
-        self.assertEqual((got, out.splitlines()[2:]), (0, ['| loft | 4 | 1 | 3 |', '| sail | 2 | 0 | 0 |', '| all | 6 | 1 | 3 |']))
+        self.assertEqual((got, out.splitlines()[2:]), (0, ['| sail | now | 12 | 0 | 0 |', '| loft | now | 4 | 2 | 1 |', '| mast | kept | - | 1 | 0 |', '| all | 2 now, 1 kept | 16 | 3 | 1 |']))
 
     def test_map(self):
         self.says(2, 'usage: tools/draw_map.py', 'tools/draw_map.py', 'x')
@@ -809,7 +826,7 @@ class Other(Case):
             write('crates.txt', b'junk\n' + crates)
             self.says(2, 'line 1 is no crate', 'tools/draw_map.py')
             write('crates.txt', crates)
-            write('docs/MAP.md', page.replace(b'`Block.blockSize`', b'`Block.blockSizes`').replace(b'`Fit.cubicOf`', b'`Fits.cubicOf`'))
+            write('docs/MAP.md', page.replace(b'`Block.block_size`', b'`Block.block_sizes`').replace(b'`Fit.cubic_of`', b'`Fits.cubic_of`'))
             got, out, _ = self.call('tools/draw_map.py')
             self.assertEqual((got, out.count('\n')), (1, 2), out)
             write('docs/MAP.md', 'no map\n')

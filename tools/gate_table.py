@@ -1,33 +1,42 @@
 #!/usr/bin/env python3
-"""gate_table.py LOG: the table of docs/PROVING.md, from a file of what .ci/run printed: for each crate the seconds of its proof, its edits, and the seconds of all of them."""
+"""gate_table.py LOG: what the gate did, from a file of what .ci/run printed: for each crate whether it was proved in that run or kept from an earlier one, its functions, its edits that were refused, and the others.
+
+rt ci prints no seconds. It prints the functions of a crate where it proves it; of one that is kept they are not known, and `-` stands for them.
+"""
 import re
 
 from shared.command import Stop, run
 
-PROVED = re.compile(r'rt: (\w+) proved \((\d+) s\)$')
-EDIT = re.compile(r'rt: must-fail (\w+)/\w+: refused, as it must be \(.*?(\d+) s\)$')
+BEGUN = re.compile(r'== (\w+)$')
+COUNTED = re.compile(r'logic=proved (?:\S+ )*?functions=(\d+) ')
+PROVED = re.compile(r'rt: (\w+) (proved$|is kept: )')
+EDIT = re.compile(r'rt: must-fail (\w+)/\S+: (refused, as it must be|\S+)')
 
 
 def crates_of(lines):
-    """The crates, each with its three numbers."""
-    crates = {}
+    """The crates, each with how it was proved, its functions or None, how many edits were refused, and how many not."""
+    crates, counts, at = {}, {}, None
     for line in lines:
-        proved = PROVED.match(line)
-        if proved:
-            crates[proved[1]] = [int(proved[2]), 0, 0]
-        edit = EDIT.match(line)
-        if edit and edit[1] in crates:
-            crates[edit[1]][1] += 1
-            crates[edit[1]][2] += int(edit[2])
+        begun, counted, proved, edit = (pattern.match(line) for pattern in (BEGUN, COUNTED, PROVED, EDIT))
+        if begun:
+            at = begun[1]
+        elif counted and at:
+            counts[at] = int(counted[1])
+        elif proved:
+            crates[proved[1]] = ['now' if proved[2] == 'proved' else 'kept', counts.get(proved[1]) if proved[2] == 'proved' else None, 0, 0]
+        elif edit and edit[1] in crates:
+            crates[edit[1]][2 if edit[2].startswith('refused') else 3] += 1
     return crates
 
 
 def table(crates):
-    """The rows, longest first, and the sums."""
-    rows = sorted(crates.items(), key=lambda row: -(row[1][0] + row[1][2]))
-    rows.append(('all', [sum(column) for column in zip(*crates.values())]))
-    lines = [f'| {name} | {proof} | {edits} | {spent} |' for name, (proof, edits, spent) in rows]
-    return '\n'.join(['| crate | proof, s | edits | edits, s |', '|---|---|---|---|'] + lines)
+    """The rows, the crates with the most functions first, and the sums."""
+    rows = sorted(crates.items(), key=lambda row: (-(row[1][1] or 0), -row[1][2], row[0]))
+    now = sum(how == 'now' for how, *_ in crates.values())
+    sums = [sum(number or 0 for number in column) for column in list(zip(*crates.values()))[1:]]
+    rows.append(('all', [f'{now} now, {len(crates) - now} kept', *sums]))
+    lines = [f'| {name} | {how} | {"-" if functions is None else functions} | {refused} | {others} |' for name, (how, functions, refused, others) in rows]
+    return '\n'.join(['| crate | proved | functions | edits refused | other edits |', '|---|---|---|---|---|'] + lines)
 
 
 def main(words):

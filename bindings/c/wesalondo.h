@@ -1,4 +1,4 @@
-/* Wesalondo for C and C++: the proved library libwesalondo.a, which `rt staticlib wesalondo` makes, for x86-64 Linux.
+/* Wesalondo for C and C++: the proved library libwesalondo.a, which `tools/build wesalondo` makes, for x86-64 Linux.
 
    ANSWERS. A call answers 0, or the number of a refusal (WES_TOO_FEW and so on; README.md has them all). The checkers also answer a fault, which is
    its letter: 'A' to 'E'. Where a call refuses, every single value and every array of fixed length that it hands back is zeros (`made`, `point`, ..).

@@ -17,7 +17,7 @@ fn main() {
     println!("cargo:rerun-if-changed={}", archive.display());
     if !archive.is_file() {
         eprintln!(
-            "{} is not there: run `rt staticlib wesalondo` in the repository, or set WESALONDO_LIB to the folder that has libwesalondo.a.",
+            "{} is not there: run `tools/build wesalondo` in the repository, or set WESALONDO_LIB to the folder that has libwesalondo.a.",
             archive.display()
         );
         exit(1);

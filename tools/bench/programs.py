@@ -7,6 +7,7 @@ import re
 import shutil
 import signal
 import subprocess
+import sys
 
 from bench.progress import Line
 from shared.command import Stop, say
@@ -14,7 +15,7 @@ from shared.crates import CRATES, reach, read_crates
 from shared.kept import ROOT, replace
 
 NAMES = ('judge', 'save', 'replay', 'salvage')
-RUNNER = os.path.join(ROOT, 'tools', 'run_program')
+RUNNER, BUILDER = (os.path.join(ROOT, 'tools', name) for name in ('run_program', 'build'))
 TARGET = os.path.join(ROOT, 'target')
 STAMP, LOCK, LOG = (os.path.join(TARGET, f'wesalondo.{part}') for part in ('stamp', 'lock', 'log'))
 
@@ -84,9 +85,8 @@ def wait_for(lock):
 
 
 def build(names, lock):
-    """Proves and builds the programs; what rt prints goes to the log."""
-    rt = shutil.which('rt')
-    if rt is None:
+    """Proves and builds the programs by tools/build; what it and rt print goes to the log."""
+    if shutil.which('rt') is None:
         raise Stop('rt is not on the path, and the programs are proved and built by it on first use: install the Rattle kit, put its bin folder on the path, and try again')
     with contextlib.suppress(FileNotFoundError):
         os.remove(STAMP)
@@ -94,8 +94,8 @@ def build(names, lock):
         if not line.on:
             say('wesalondo', f'building the programs, {len(names)} crates; this is done once')
         signal.pthread_sigmask(signal.SIG_BLOCK, {signal.SIGINT})  # an interrupt waits until there is a process to end
-        # rt has the lock too, so that the next command waits for it even if this one is killed
-        with subprocess.Popen([rt, 'check', *NAMES], cwd=ROOT, stdin=subprocess.DEVNULL, stdout=subprocess.PIPE, stderr=subprocess.STDOUT,
+        # tools/build has the lock too, so that the next command waits for it even if this one is killed
+        with subprocess.Popen([sys.executable, BUILDER, *NAMES], cwd=ROOT, stdin=subprocess.DEVNULL, stdout=subprocess.PIPE, stderr=subprocess.STDOUT,
                               start_new_session=True, pass_fds=[lock.fileno()], preexec_fn=take_interrupts) as process:
             try:
                 take_interrupts()
@@ -104,8 +104,8 @@ def build(names, lock):
                 os.killpg(process.pid, signal.SIGTERM)
                 raise
     if process.returncode or not all(os.path.isfile(os.path.join(TARGET, 'bin', name)) for name in NAMES):
-        raise Stop(f'the programs were not built: rt ended with status {process.returncode}, saying {last!r}. '
-                   f'All that it said is in {LOG}; mend that, and try again')
+        raise Stop(f'the programs were not built: tools/build ended with status {process.returncode}, saying {last!r}. '
+                   f'All that it and rt said is in {LOG}; mend that, and try again')
 
 
 def take_interrupts():
@@ -113,14 +113,14 @@ def take_interrupts():
 
 
 def follow(lines, log, count, line):
-    """Keeps what rt prints, and counts the crates that it calls proved, also those that it had proved before. The last line."""
+    """Keeps what is printed, and counts the crates that are called proved, also those that were proved before. The last line."""
     proved, last = set(), b''
     line.show(f'wesalondo: building, crate 1 of {count}')
     for text in lines:
         log.write(text)
         last = text
-        found = re.match(rb'rt: (\w+) proved \(', text)
+        found = re.match(rb'build: (\w+) (?:was )?proved ', text)
         if found:
             proved.add(found[1])
             line.show(f'wesalondo: building, crate {min(len(proved) + 1, count)} of {count}')
-    return last.decode('utf-8', 'replace').strip()[:200]
+    return last.decode('utf-8', 'replace').strip()[:300]

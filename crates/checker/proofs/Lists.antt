@@ -2,10 +2,8 @@
 use Prim.Native.Nat.{ℕ, ◌+◌, ◌≤◌, ◌<◌}
 use native.Mathlib.Omega.{arith}
 use mathlib.Core.Path.{◌≡◌, sym, ap, ◌∙◌}
-use mathlib.Core.List.{List, [], ◌∷◌}
+use mathlib.Core.List.{List}
 use lib.ListN.{length}
-use types.Run.{OneOf}
-use denote.Enum.Declared.{tag_of}
 use lib.Ieee.{Float}
 use borrow.Author.Tests.{eq-eqb, ne_eqb}
 use Rattle.float.specs.Answer.{Answer, ok, refused}
@@ -21,7 +19,6 @@ use Rattle.checker.specs.declared.Checked.{Checked}
 use Rattle.checker.specs.declared.Checked.TheVariants.{Passed}
 use Rattle.checker.specs.Check.{Verdict, passed, checked_answer, in_turn, listed, curve_checked, list_checked, check_of}
 use Rattle.checker.specs.Inner.{Listed}
-use Rattle.checker.specs.contracts.Checked.{the_type}
 use Rattle.checker.proofs.Turns.{passed_is, other_is, turn_next, turn_stop}
 
 module _ (form : Form) (ms : List Float) (tol : Float) (k : ℕ) (cs : List Float) (fs ws : List ℕ) (ps : List Float) where
@@ -37,7 +34,7 @@ module _ (form : Form) (ms : List Float) (tol : Float) (k : ℕ) (cs : List Floa
       pub faultless : r ≡ Passed → Faultless (j + 1)
       faultless p = (omega arith, turn_next steps j inv.1 (passed_is e p))
 
-      pub halt : OneOf (1 ∷ 2 ∷ []) (tag_of the_type r) → checked_answer r ≡ ok (in_turn k steps)
+      pub halt : (r ≡ Passed → ⊥) → checked_answer r ≡ ok (in_turn k steps)
       halt o =
           let f = other_is r e o in
           e ∙ ap ok (f.1 ∙ sym (turn_stop steps k j f.0 l inv.1 f.1))
@@ -68,7 +65,7 @@ module _ (o : Outline) (form : Form) (ms : List Float) (tol : Float) (k : ℕ) (
       firsts : checked_answer r ≡ ok (listed (count (whole o ms)) k fs)
       firsts = a ∙ ap (λ (m : ℕ). ok (listed m k fs)) (all ∙ sym (whole-count o ms even))
 
-      pub by_firsts : OneOf (1 ∷ 2 ∷ []) (tag_of the_type r) → checked_answer r ≡ check_of o form ms tol k cs fs ws ps
+      pub by_firsts : (r ≡ Passed → ⊥) → checked_answer r ≡ check_of o form ms tol k cs fs ws ps
       unfolding list_checked
       by_firsts other =
           let f = other_is r firsts other in

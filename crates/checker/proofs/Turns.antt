@@ -6,14 +6,10 @@ use native.Mathlib.Omega.{arith}
 use mathlib.Core.Path.{◌≡◌, refl, ap, ◌∙◌}
 use mathlib.Core.Logic.{◌⊎◌, inl, inr}
 use mathlib.Core.Bool.{Bool, true, false}
-use mathlib.Core.List.{[], ◌∷◌}
-use types.Run.{OneOf}
-use denote.Enum.Declared.{tag_of}
 use Rattle.float.specs.Answer.{ok}
 use Rattle.checker.specs.declared.Fault.{Fault}
 use Rattle.checker.specs.declared.Checked.{Checked}
 use Rattle.checker.specs.declared.Checked.TheVariants.{Passed, Faulty, Refused}
-use Rattle.checker.specs.contracts.Checked.{the_type}
 use Rattle.checker.specs.Check.{Verdict, checked_answer, passed, fault, must, ◌then◌, in_turn}
 
 never_fault : {f : Fault} {A : Type 0} → fault f ≡ passed → A
@@ -30,12 +26,11 @@ unfolding checked_answer
 passed_is {r} {v} h e = let g : checked_answer r ≡ ok passed = ap checked_answer e in cc
 
 -- the arm of an answer that is not Passed
-pub other_is : (r : Checked) {v : Verdict} → checked_answer r ≡ ok v → OneOf (1 ∷ 2 ∷ []) (tag_of the_type r) → (f : Fault) × (v ≡ fault f)
+pub other_is : (r : Checked) {v : Verdict} → checked_answer r ≡ ok v → (r ≡ Passed → ⊥) → (f : Fault) × (v ≡ fault f)
 unfolding checked_answer
-other_is Passed h (inl e) = absurd (omega arith)
-other_is Passed h (inr e) = absurd (omega arith)
-other_is (Faulty f) h o = (f, cc)
-other_is (Refused q) h o = let z : ◌≡◌ {A = ℕ} 0 1 = cc in absurd (omega arith)
+other_is Passed h n = absurd (n refl)
+other_is (Faulty f) h n = (f, cc)
+other_is (Refused q) h n = let z : ◌≡◌ {A = ℕ} 0 1 = cc in absurd (omega arith)
 
 pub must-true : (f : Fault) (b : Bool) → must f b ≡ passed → b ≡ true
 must-true f true h = refl

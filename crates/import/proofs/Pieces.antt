@@ -15,7 +15,7 @@ use Rattle.marks.specs.Line.{line_of}
 use Rattle.path.specs.Decimals.{most, small, nearest_to}
 use Rattle.path.specs.Range.{no_path}
 use Rattle.path.specs.Numbers.{Taken, taken, number}
-use Rattle.path.specs.Grammar.{Place, curve, apart, pair, arguments}
+use Rattle.path.specs.Grammar.{Place, apart, pair, arguments}
 use Rattle.path.specs.Curves.{place_small, segment_small, point_at, curve_from}
 use Rattle.path.specs.declared.Decimal.{Decimal}
 use Rattle.path.specs.declared.Letter.TheVariants as letters

@@ -9,7 +9,6 @@ use Rattle.float.specs.Answer.{ok, refused}
 use Rattle.form.specs.declared.Form.{Form}
 use Rattle.house.specs.File.{well_formed}
 use Rattle.house.specs.Held.{marks_held}
-use Rattle.grammar.proofs.Formed.{formed}
 use Rattle.grammar.proofs.Laid.{Laid, Started, laid_started, laid-candidate, marks_in_is}
 use Rattle.grammar.proofs.Candidate.{holds_candidate}
 use Rattle.heads.specs.declared.Layout.{Layout}

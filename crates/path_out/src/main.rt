@@ -28,7 +28,7 @@ fn front(word: &[u8], n: usize) -> &[u8] {
 fn is_ring(rt: &HostRuntime) -> bool {
     let mut word = [0u8; 8];
     let n = rt.arg(1, &mut word).unwrap_or(0);
-    front(&word, n) == b"--ring"
+    front(&word, n) == b"--ring".as_slice()
 }
 
 // One byte more is read than is taken, so that too long a file is seen.

@@ -17,13 +17,13 @@ struct Course {
 
 // What a word means.
 fn course_of(word: &[u8], end: usize) -> Course {
-    if word == b"RING" {
+    if word == b"RING".as_slice() {
         return Course {
             ring: true,
             then: end,
         };
     }
-    if word == b"OPEN" {
+    if word == b"OPEN".as_slice() {
         return Course {
             ring: false,
             then: end,

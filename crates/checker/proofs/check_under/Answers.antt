@@ -1,15 +1,10 @@
 -- `checker::check_under` meets its contract.
-use borrow.Author.Rules.{rules}
 use native.Mathlib.Omega.{arith}
 use mathlib.Core.Path.{◌≡◌, refl, sym, ◌∙◌}
 use Prim.Native.Nat.{◌-◌}
 use Rattle.marks.specs.Marks.{count}
 use Rattle.checker.proofs.Walks.{over, walk_asks, walk-given, walk_halted, walk-again}
 use Rattle.checker.proofs.check_under.Goals as goal
-
--- the walk over the marks given, where mark 0 counts again
-abbrev entry : goal.After-check_marks-walked → goal.Start
-entry s = s.before.before.before.before.before.before
 
 pub check_marks-requires : goal.check_marks-requires
 check_marks-requires c =
@@ -31,12 +26,12 @@ check_marks-walked-requires c =
 
 pub returns-in_default : goal.returns-in_default
 returns-in_default c =
-    let most : let a = (entry c).args in c.check_marks-walked.result ≡ over a.tolerance a.n a.j a.first a.c a.marks.now a.params.now (count a.marks.now - a.first) = let a = (entry c).args in
-    let h = (entry c).requires in
+    let most : let a = c.args in c.check_marks-walked.result ≡ over a.tolerance a.n a.j a.first a.c a.marks.now a.params.now (count a.marks.now - a.first) = let a = c.args in
+    let h = c.requires in
     walk-given a.tolerance a.n a.j a.first a.c a.marks.now a.params.now (count a.marks.now) _ _ c.marks_under-most.ensures refl (omega arith) (omega arith) c.check_marks-walked.ensures in
-    let a = (entry c).args in
-    let h = (entry c).requires in
-    c.enum_told-1.given.1 ∙ walk_halted a.tolerance a.n a.j a.first a.c a.marks.now a.params.now a.stop h.given (omega arith) most c.enum_told-1.given.1
+    let a = c.args in
+    let h = c.requires in
+    c.in_default.is ∙ walk_halted a.tolerance a.n a.j a.first a.c a.marks.now a.params.now a.stop h.given (omega arith) most c.in_default.is
 
 pub check_marks-requires-2 : goal.check_marks-requires-2
 check_marks-requires-2 c =
@@ -46,9 +41,9 @@ check_marks-requires-2 c =
 
 pub returns : goal.returns
 returns c =
-    let most : let a = (entry c).args in c.check_marks-walked.result ≡ over a.tolerance a.n a.j a.first a.c a.marks.now a.params.now (count a.marks.now - a.first) = let a = (entry c).args in
-    let h = (entry c).requires in
+    let most : let a = c.args in c.check_marks-walked.result ≡ over a.tolerance a.n a.j a.first a.c a.marks.now a.params.now (count a.marks.now - a.first) = let a = c.args in
+    let h = c.requires in
     walk-given a.tolerance a.n a.j a.first a.c a.marks.now a.params.now (count a.marks.now) _ _ c.marks_under-most.ensures refl (omega arith) (omega arith) c.check_marks-walked.ensures in
-    let a = (entry c).args in
-    let h = (entry c).requires in
-    walk-again a.tolerance a.n a.j a.first a.c a.marks.now a.params.now a.stop h.given (omega arith) h.even _ _ _ (omega arith) c.marks_under-again.ensures refl h.params (sym most ∙ c.walked-1.given.1) c.check_marks-2.ensures
+    let a = c.args in
+    let h = c.requires in
+    walk-again a.tolerance a.n a.j a.first a.c a.marks.now a.params.now a.stop h.given (omega arith) h.even _ _ _ (omega arith) c.marks_under-again.ensures refl h.params (sym most ∙ c.in-Far.is) c.check_marks-2.ensures

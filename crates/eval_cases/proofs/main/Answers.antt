@@ -1,6 +1,4 @@
 -- `eval_cases::main` meets its contract: it ends.
-use borrow.Author.Rules.{rules}
-use Prim.Native.Nat.{◌-◌, ◌≤◌}
 use native.Mathlib.Omega.{arith}
 use Rattle.eval_cases.proofs.main.Goals as goal
 

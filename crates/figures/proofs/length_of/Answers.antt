@@ -1,6 +1,5 @@
 -- `figures::length_of` meets its contract.
 use native.Mathlib.Omega.{arith}
-use borrow.Author.Rules.{rules}
 use Rattle.figures.proofs.Places.{length-text}
 use Rattle.figures.proofs.length_of.Goals as goal
 

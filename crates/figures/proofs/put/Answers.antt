@@ -1,7 +1,6 @@
 -- `figures::put` meets its contract.
 use Prim.Native.Nat.{◌/◌}
 use native.Mathlib.Omega.{arith}
-use borrow.Author.Rules.{rules}
 use Rattle.text.specs.Text.{decimal}
 use Rattle.text.proofs.Stores.{one}
 use Rattle.figures.proofs.Places.{length-text, put-parts}

@@ -1,11 +1,8 @@
 -- `gate::all_in_range`: what is left decides.
-use borrow.Author.Rules.{rules}
 use native.Mathlib.Omega.{arith}
-use Prim.Native.Nat.{◌≤◌, ◌-◌}
-use mathlib.Core.Path.{◌≡◌, refl}
-use lib.ListN.{length, drop}
+use mathlib.Core.Path.{refl}
+use lib.ListN.{length}
 use borrow.Author.Rules.{scaled_Fits}
-use Rattle.gate.specs.Gate.{in_range}
 use Rattle.gate.proofs.Tests.{range-more, range_stop, range_end}
 use Rattle.gate.proofs.all_in_range.Goals as goal
 

@@ -1,12 +1,8 @@
 -- What the loops of `gate::all_in_range` keep.
-use borrow.Author.Rules.{rules}
-use native.Mathlib.Omega.{arith}
 use Prim.Native.Nat.{◌≤◌, ◌-◌}
-use mathlib.Core.Path.{◌≡◌, refl}
+use mathlib.Core.Path.{◌≡◌}
 use lib.ListN.{length, drop}
-use borrow.Author.Rules.{scaled_Fits}
 use Rattle.gate.specs.Gate.{in_range}
-use Rattle.gate.proofs.Tests.{range-more, range_stop, range_end}
 use Rattle.gate.proofs.all_in_range.Given as goal
 
 abbrev pub invariant-loop-i : goal.invariant-loop-i

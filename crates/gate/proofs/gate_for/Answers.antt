@@ -1,7 +1,5 @@
 -- `gate::gate_for`: each return is decided by the tests before it.
-use borrow.Author.Rules.{rules}
 use native.Mathlib.Omega.{arith}
-use borrow.Author.Tests.{not-true, not-false}
 use Rattle.ring.proofs.Whole.{again-small}
 use Rattle.gate.proofs.Tests.{half-marks, too_few, too_many, no_room, no_params, not_near, not_usable, lets_pass}
 use Rattle.gate.proofs.gate_for.Goals as goal
@@ -19,16 +17,16 @@ pub returns-then-n-top : goal.returns-then-n-top
 returns-then-n-top c = too_many _ _ _ _ _ _ _ _ _ _ (omega arith) (omega (arith, c.again-more.ensures)) (omega arith)
 
 pub returns-then-not-has_room : goal.returns-then-not-has_room
-returns-then-not-has_room c = no_room _ _ _ _ _ _ _ _ _ _ (omega arith) (omega (arith, c.again-more.ensures)) (omega arith) c.has_room.ensures (not-true c.has_room.result c.if-not-has_room.true)
+returns-then-not-has_room c = no_room _ _ _ _ _ _ _ _ _ _ (omega arith) (omega (arith, c.again-more.ensures)) (omega arith) c.has_room.ensures c.if-not-has_room.true
 
 pub returns-then-params-more : goal.returns-then-params-more
-returns-then-params-more c = no_params _ _ _ _ _ _ _ _ _ _ (omega arith) (omega (arith, c.again-more.ensures)) (omega arith) c.has_room.ensures (not-false c.has_room.result c.if-not-has_room.false) (omega (arith, c.again-more.ensures))
+returns-then-params-more c = no_params _ _ _ _ _ _ _ _ _ _ (omega arith) (omega (arith, c.again-more.ensures)) (omega arith) c.has_room.ensures c.if-not-has_room.false (omega (arith, c.again-more.ensures))
 
 pub returns-then-not-all_in_range : goal.returns-then-not-all_in_range
-returns-then-not-all_in_range c = not_near _ _ _ _ _ _ _ _ _ _ (omega arith) (omega (arith, c.again-more.ensures)) (omega arith) c.has_room.ensures (not-false c.has_room.result c.if-not-has_room.false) (omega (arith, c.again-more.ensures)) c.all_in_range.ensures (not-true c.all_in_range.result c.if-not-all_in_range.true)
+returns-then-not-all_in_range c = not_near _ _ _ _ _ _ _ _ _ _ (omega arith) (omega (arith, c.again-more.ensures)) (omega arith) c.has_room.ensures c.if-not-has_room.false (omega (arith, c.again-more.ensures)) c.all_in_range.ensures c.if-not-all_in_range.true
 
 pub returns-then-not-is_tolerable : goal.returns-then-not-is_tolerable
-returns-then-not-is_tolerable c = not_usable _ _ _ _ _ _ _ _ _ _ (omega arith) (omega (arith, c.again-more.ensures)) (omega arith) c.has_room.ensures (not-false c.has_room.result c.if-not-has_room.false) (omega (arith, c.again-more.ensures)) c.all_in_range.ensures (not-false c.all_in_range.result c.if-not-all_in_range.false) c.is_tolerable.ensures (not-true c.is_tolerable.result c.if-not-is_tolerable.true)
+returns-then-not-is_tolerable c = not_usable _ _ _ _ _ _ _ _ _ _ (omega arith) (omega (arith, c.again-more.ensures)) (omega arith) c.has_room.ensures c.if-not-has_room.false (omega (arith, c.again-more.ensures)) c.all_in_range.ensures c.if-not-all_in_range.false c.is_tolerable.ensures c.if-not-is_tolerable.true
 
 pub returns : goal.returns
-returns c = lets_pass _ _ _ _ _ _ _ _ _ _ (omega arith) (omega (arith, c.again-more.ensures)) (omega arith) c.has_room.ensures (not-false c.has_room.result c.if-not-has_room.false) (omega (arith, c.again-more.ensures)) c.all_in_range.ensures (not-false c.all_in_range.result c.if-not-all_in_range.false) c.is_tolerable.ensures (not-false c.is_tolerable.result c.if-not-is_tolerable.false)
+returns c = lets_pass _ _ _ _ _ _ _ _ _ _ (omega arith) (omega (arith, c.again-more.ensures)) (omega arith) c.has_room.ensures c.if-not-has_room.false (omega (arith, c.again-more.ensures)) c.all_in_range.ensures c.if-not-all_in_range.false c.is_tolerable.ensures c.if-not-is_tolerable.false

@@ -1,5 +1,4 @@
 -- `gate::has_room`: the room is divided.
-use borrow.Author.Rules.{rules}
 use native.Mathlib.Omega.{arith}
 use Rattle.gate.specs.Gate.{room_for}
 use Rattle.gate.proofs.Tests.{room_by, has_width}

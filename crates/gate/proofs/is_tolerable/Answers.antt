@@ -1,5 +1,4 @@
 -- `gate::is_tolerable` meets its contract.
-use borrow.Author.Rules.{rules}
 use Rattle.gate.specs.Gate.{tolerable}
 use Rattle.gate.proofs.is_tolerable.Goals as goal
 

@@ -1,11 +1,10 @@
 -- `gate::zero_floats`: what is filled stands at the front.
 use native.Mathlib.Omega.{arith}
-use Prim.Native.Nat.{◌-◌}
 use mathlib.Core.Path.{refl}
 use lib.ListN.{length}
 use borrow.Author.Rules.{scaled_Fits}
 use Rattle.float.specs.Number.{f0}
-use Rattle.gate.proofs.Fills.{Filled, same, more, all}
+use Rattle.gate.proofs.Fills.{same, more, all}
 use Rattle.gate.proofs.zero_floats.Goals as goal
 
 pub loop-k-init : goal.loop-k-init

@@ -1,11 +1,8 @@
 -- What the loops of `gate::zero_floats` keep.
-use native.Mathlib.Omega.{arith}
 use Prim.Native.Nat.{◌-◌}
-use mathlib.Core.Path.{refl}
 use lib.ListN.{length}
-use borrow.Author.Rules.{scaled_Fits}
 use Rattle.float.specs.Number.{f0}
-use Rattle.gate.proofs.Fills.{Filled, same, more, all}
+use Rattle.gate.proofs.Fills.{Filled}
 use Rattle.gate.proofs.zero_floats.Given as goal
 
 abbrev pub invariant-loop-k : goal.invariant-loop-k

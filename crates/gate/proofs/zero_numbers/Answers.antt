@@ -1,10 +1,9 @@
 -- `gate::zero_numbers`: what is filled stands at the front.
 use native.Mathlib.Omega.{arith}
-use Prim.Native.Nat.{◌-◌}
 use mathlib.Core.Path.{refl}
 use lib.ListN.{length}
 use borrow.Author.Rules.{scaled_Fits}
-use Rattle.gate.proofs.Fills.{Filled, same, more, all}
+use Rattle.gate.proofs.Fills.{same, more, all}
 use Rattle.gate.proofs.zero_numbers.Goals as goal
 
 pub loop-j-init : goal.loop-j-init

@@ -1,10 +1,7 @@
 -- What the loops of `gate::zero_numbers` keep.
-use native.Mathlib.Omega.{arith}
 use Prim.Native.Nat.{◌-◌}
-use mathlib.Core.Path.{refl}
 use lib.ListN.{length}
-use borrow.Author.Rules.{scaled_Fits}
-use Rattle.gate.proofs.Fills.{Filled, same, more, all}
+use Rattle.gate.proofs.Fills.{Filled}
 use Rattle.gate.proofs.zero_numbers.Given as goal
 
 abbrev pub invariant-loop-j : goal.invariant-loop-j

@@ -1,5 +1,4 @@
 -- `import::close` meets its contract.
-use borrow.Author.Rules.{rules}
 use mathlib.Core.Path.{sym, ◌∙◌}
 use Rattle.import.proofs.Walks.{closes_there, closes_line}
 use Rattle.import.proofs.close.Goals as goal

@@ -1,5 +1,4 @@
 -- `import::closed_at` meets its contract.
-use borrow.Author.Rules.{rules}
 use Rattle.import.proofs.Steps.{closed_not, closed_so}
 use Rattle.import.proofs.closed_at.Goals as goal
 

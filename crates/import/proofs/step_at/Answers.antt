@@ -1,5 +1,4 @@
 -- `import::step_at` meets its contract.
-use borrow.Author.Rules.{rules}
 use Rattle.import.proofs.Steps.{step-ended, step-closed, step_line, step-curve, step-again}
 use Rattle.import.proofs.step_at.Goals as goal
 
@@ -11,7 +10,7 @@ returns-then-next-text c =
 pub returns-then-b-eq90 : goal.returns-then-b-eq90
 returns-then-b-eq90 c =
     let a = c.args in
-    step-closed a.text.now a.at a.letter a.p c.past_space-next.ensures c.if-next-text.false c.byte_at-b.ensures c.if-b-eq90.true c.Closed-at.ensures
+    step-closed a.text.now a.at a.letter a.p c.past_space-next.ensures c.if-next-text.false c.byte_at-b.ensures c.if-b-eq90.true c.closed_at.ensures
 
 pub returns-then-b-eq76 : goal.returns-then-b-eq76
 returns-then-b-eq76 c =

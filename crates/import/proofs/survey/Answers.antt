@@ -1,5 +1,4 @@
 -- `import::survey` meets its contract.
-use borrow.Author.Rules.{rules}
 use Rattle.path.specs.Grammar.{path_of}
 use Rattle.import.proofs.Paths.{surveyed}
 use Rattle.import.proofs.survey.Goals as goal

@@ -1,13 +1,10 @@
 -- What the loops of `import::walk_on` keep.
-use borrow.Author.Rules.{rules}
 use Prim.Native.Nat.{◌+◌, ◌≤◌}
-use mathlib.Core.Path.{◌≡◌, refl, ◌∙◌}
-use native.Mathlib.Omega.{arith}
-use lib.ListN.{length, drop, length-drop}
+use mathlib.Core.Path.{◌≡◌}
+use lib.ListN.{length, drop}
 use Rattle.path.specs.declared.Letter.TheVariants as letters
 use Rattle.import.specs.Drawn.{Marked}
 use Rattle.import.specs.Walk.{draws_of, left_answer}
-use Rattle.import.proofs.Walks.{turn_marked, turn_shorter, turn, turn-closed, turn-ended, turn-refused}
 use Rattle.import.proofs.walk_on.Given as goal
 
 abbrev pub invariant-loop-by : goal.invariant-loop-by

@@ -1,6 +1,5 @@
 -- `nearest::heights_finite` meets its contract.
 use Rattle.quintic.specs.Tests.{heights_finite}
-use borrow.Author.Rules.{rules}
 use Rattle.nearest.proofs.heights_finite.Goals as goal
 
 pub returns : goal.returns

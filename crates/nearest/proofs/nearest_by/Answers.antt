@@ -1,5 +1,4 @@
 -- `nearest::nearest_by` meets its contract.
-use borrow.Author.Rules.{rules}
 use mathlib.Core.Path.{ap}
 use native.Mathlib.Omega.{arith}
 use Prim.Native.Nat.{◌≤◌}
@@ -12,26 +11,25 @@ use Rattle.nearest.proofs.nearest_by.Goals as goal
 
 pub returns-in_default : goal.returns-in_default
 unfolding nearest_answer
-returns-in_default c = none_found _ _ _ _ _ c.find_bezier_roots-found.ensures.0 _ c.enum_told-1.given.1 _ c.refusal_of.ensures
+returns-in_default c = none_found _ _ _ _ _ c.find_bezier_roots-found.ensures.0 _ c.in_default.is _ c.refusal_of.ensures
 
 pub slice_bounds-roots-end : goal.slice_bounds-roots-end
 unfolding count_of
 slice_bounds-roots-end c =
-    let prefix : c.found-1.given.0.0 ≤ length c.find_bezier_roots-found.new.1.0 = omega (arith, c.roots-2-1.given, c.find_bezier_roots-found.ensures.1, ap count_of c.found-1.given.1) in
-    prefix
+    omega (arith, c.find_bezier_roots-found.ensures.1, ap count_of c.in-Found.is)
 
 pub slice_bounds-choose-end : goal.slice_bounds-choose-end
 unfolding count_of
 slice_bounds-choose-end c =
-    let prefix : c.found-1.given.0.0 ≤ length c.find_bezier_roots-found.new.1.0 = omega (arith, c.roots-2-1.given, c.find_bezier_roots-found.ensures.1, ap count_of c.found-1.given.1) in
+    let prefix : c.in-Found.n ≤ length c.find_bezier_roots-found.new.roots = omega (arith, c.find_bezier_roots-found.ensures.1, ap count_of c.in-Found.is) in
     simp length-take (omega (arith, prefix))
 
 pub returns-then-best : goal.returns-then-best
 unfolding nearest_answer run_of
 returns-then-best c =
-    chosen _ _ _ _ _ c.find_bezier_roots-found.ensures.0 _ c.found-1.given.1 _ c.choose-best.ensures c.if-best.true
+    chosen _ _ _ _ _ c.find_bezier_roots-found.ensures.0 _ c.in-Found.is _ c.choose-best.ensures c.if-best.true
 
 pub returns : goal.returns
 unfolding nearest_answer
 returns c =
-    unchosen _ _ _ _ _ c.find_bezier_roots-found.ensures.0 _ c.found-1.given.1 _ c.choose-best.ensures c.if-best.false
+    unchosen _ _ _ _ _ c.find_bezier_roots-found.ensures.0 _ c.in-Found.is _ c.choose-best.ensures c.if-best.false

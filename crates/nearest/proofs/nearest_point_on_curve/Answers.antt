@@ -1,5 +1,4 @@
 -- `nearest::nearest_point_on_curve` meets its promise.
-use borrow.Author.Rules.{rules}
 use mathlib.Core.Path.{sym, ◌∙◌}
 use Rattle.float.proofs.Answers.{denied}
 use Rattle.nearest.specs.Nearest.{nearest_answer, nearest_call}

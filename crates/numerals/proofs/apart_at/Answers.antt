@@ -1,19 +1,18 @@
 -- `numerals::apart_at` meets its contract.
-use borrow.Author.Rules.{rules}
 use native.Mathlib.Omega.{arith}
 use Rattle.numerals.proofs.Leading.{byte_here, comma, no_comma}
 use Rattle.numerals.proofs.apart_at.Goals as goal
 
 pub overflow_add-comma : goal.overflow_add-comma
 overflow_add-comma c =
-    omega (arith, byte_here c.args.text.now c.«past-space».result c.«byte_at».ensures (omega arith))
+    omega (arith, byte_here c.args.text.now c.past_space-comma.result c.byte_at.ensures (omega arith))
 
 pub returns-then-byte_at-eq44 : goal.returns-then-byte_at-eq44
 returns-then-byte_at-eq44 c =
-    comma c.args.text.now c.args.at c.«past-space».result c.«past-space».ensures
-    c.«byte_at».ensures c.if-byte_at-eq44.true c.«past-space2».ensures
+    comma c.args.text.now c.args.at c.past_space-comma.result c.past_space-comma.ensures
+    c.byte_at.ensures c.if-byte_at-eq44.true c.past_space.ensures
 
 pub returns : goal.returns
 returns c =
-    no_comma c.args.text.now c.args.at c.«past-space».result c.«past-space».ensures
-    c.«byte_at».ensures c.if-byte_at-eq44.false
+    no_comma c.args.text.now c.args.at c.past_space-comma.result c.past_space-comma.ensures
+    c.byte_at.ensures c.if-byte_at-eq44.false

@@ -1,15 +1,9 @@
 -- What the loops of `numerals::digits_from` keep.
-use borrow.Author.Rules.{rules}
-use Prim.Native.Nat.{ℕ, suc, ◌+◌, ◌-◌, ◌*◌, ◌≤◌, ◌<◌}
-use mathlib.Core.Path.{◌≡◌, sym, ap, ◌∙◌}
-use mathlib.Core.Bool.{true}
-use mathlib.Core.List.{List}
-use native.Mathlib.Omega.{arith}
-use lib.ListN.{length, get_or}
+use Prim.Native.Nat.{suc, ◌-◌, ◌≤◌}
+use mathlib.Core.Path.{◌≡◌}
+use lib.ListN.{length}
 use Rattle.path.specs.Decimals.{most}
-use Rattle.path.specs.Numbers.{is_digit}
-use Rattle.numerals.specs.Numerals.{cap, digits_of}
-use Rattle.numerals.proofs.Leading as leading
+use Rattle.numerals.specs.Numerals.{digits_of}
 use Rattle.numerals.proofs.digits_from.Given as goal
 
 abbrev pub invariant-loop-v : goal.invariant-loop-v

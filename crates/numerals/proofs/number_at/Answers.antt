@@ -1,25 +1,24 @@
 -- `numerals::number_at` meets its contract.
-use borrow.Author.Rules.{rules}
 use native.Mathlib.Omega.{arith}
 use Rattle.numerals.proofs.Leading.{byte_here}
 use Rattle.numerals.proofs.Spelling.{plus, minus, bare}
 use Rattle.numerals.proofs.number_at.Goals as goal
 
 pub overflow_add-at : goal.overflow_add-at
-overflow_add-at c = omega (arith, byte_here c.args.text.now c.args.at c.«byte_at».ensures (omega arith))
+overflow_add-at c = omega (arith, byte_here c.args.text.now c.args.at c.byte_at-sign.ensures (omega arith))
 
 pub returns-then-sign-eq43 : goal.returns-then-sign-eq43
 returns-then-sign-eq43 c =
-    plus c.args.text.now c.args.at c.«byte_at».ensures c.if-sign-eq43.true c.«unsigned-at».ensures
+    plus c.args.text.now c.args.at c.byte_at-sign.ensures c.if-sign-eq43.true c.unsigned_at.ensures
 
 pub overflow_add-at-then-sign-eq45 : goal.overflow_add-at-then-sign-eq45
 overflow_add-at-then-sign-eq45 c =
-    omega (arith, byte_here c.args.text.now c.args.at c.«byte_at».ensures (omega arith))
+    omega (arith, byte_here c.args.text.now c.args.at c.byte_at-sign.ensures (omega arith))
 
 pub returns-then-sign-eq45 : goal.returns-then-sign-eq45
 returns-then-sign-eq45 c =
-    minus c.args.text.now c.args.at c.«byte_at».ensures c.if-sign-eq43.false c.if-sign-eq45.true c.«unsigned-at2».ensures
+    minus c.args.text.now c.args.at c.byte_at-sign.ensures c.if-sign-eq43.false c.if-sign-eq45.true c.unsigned_at-then-sign-eq45.ensures
 
 pub returns : goal.returns
 returns c =
-    bare c.args.text.now c.args.at c.«byte_at».ensures c.if-sign-eq43.false c.if-sign-eq45.false c.«unsigned-at3».ensures
+    bare c.args.text.now c.args.at c.byte_at-sign.ensures c.if-sign-eq43.false c.if-sign-eq45.false c.unsigned_at-2.ensures

@@ -1,5 +1,4 @@
 -- `numerals::numeral_of` meets its contract.
-use borrow.Author.Rules.{rules}
 use mathlib.Core.Path.{refl}
 use native.Mathlib.Omega.{arith}
 use Rattle.numerals.specs.Numerals.{numeral_of}
@@ -16,7 +15,7 @@ overflow_mul-value c =
 
 pub returns-then-whole-places : goal.returns-then-whole-places
 unfolding numeral_of
-returns-then-whole-places c = rw (c.if-whole-places.true, c.«no_more».ensures, c.scale.ensures) refl
+returns-then-whole-places c = rw (c.if-whole-places.true, c.no_more-thousandths.ensures, c.scale.ensures) refl
 
 pub returns : goal.returns
 unfolding numeral_of

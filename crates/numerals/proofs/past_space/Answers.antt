@@ -1,11 +1,10 @@
 -- `numerals::past_space` meets its contract.
-use borrow.Author.Rules.{rules}
-use Prim.Native.Nat.{◌+◌, ◌-◌, ◌<◌}
+use Prim.Native.Nat.{◌<◌}
 use mathlib.Core.Path.{◌≡◌, sym, ap, ◌∙◌}
 use mathlib.Core.Bool.{true}
 use native.Mathlib.Omega.{arith}
-use lib.ListN.{length, drop, get_or}
-use Rattle.path.specs.Numbers.{is_space, leading}
+use lib.ListN.{length, get_or}
+use Rattle.path.specs.Numbers.{is_space}
 use Rattle.numerals.proofs.Leading as leading
 use Rattle.numerals.proofs.past_space.Goals as goal
 

@@ -1,12 +1,8 @@
 -- What the loops of `numerals::past_space` keep.
-use borrow.Author.Rules.{rules}
-use Prim.Native.Nat.{◌+◌, ◌-◌, ◌<◌}
-use mathlib.Core.Path.{◌≡◌, sym, ap, ◌∙◌}
-use mathlib.Core.Bool.{true}
-use native.Mathlib.Omega.{arith}
-use lib.ListN.{length, drop, get_or}
+use Prim.Native.Nat.{◌+◌, ◌-◌}
+use mathlib.Core.Path.{◌≡◌}
+use lib.ListN.{length, drop}
 use Rattle.path.specs.Numbers.{is_space, leading}
-use Rattle.numerals.proofs.Leading as leading
 use Rattle.numerals.proofs.past_space.Given as goal
 
 abbrev pub invariant-loop-i : goal.invariant-loop-i

@@ -6,7 +6,6 @@ use lib.ListN.{length-take, length-drop}
 use Rattle.packed.proofs.Places.{start_before}
 use Rattle.packed.proofs.Sizes.{rest_is, rest_within}
 use Rattle.packed_bodies.proofs.Turns.{curve_is}
-use borrow.Author.Rules.{rules}
 use Rattle.packed_bodies.proofs.copy_curve.Goals as goal
 
 pub copy_words-requires : goal.copy_words-requires
@@ -22,4 +21,4 @@ pub copy_words-requires-2 : goal.copy_words-requires-2
 copy_words-requires-2 c = let a = c.args in (omega (arith, c.entry_at-at.ensures, c.rest_numbers.ensures, rest_within a.form), simp (length-take, length-drop) (omega (arith, c.rest_numbers.ensures, rest_is a.form)))
 
 pub returns : goal.returns
-returns c = let a = c.args in curve_is a.b.now a.form a.n a.out.now _ c.copy_words-2.new.1.1.1.0 a.i c.copy_words.ensures c.copy_words-2.ensures c.start_place.ensures (ap (λ (x : ℕ). x + 4) c.entry_at-at.ensures) c.rest_numbers.ensures (omega (arith, rest_is a.form))
+returns c = let a = c.args in curve_is a.b.now a.form a.n a.out.now _ c.copy_words-2.new.out a.i c.copy_words.ensures c.copy_words-2.ensures c.start_place.ensures (ap (λ (x : ℕ). x + 4) c.entry_at-at.ensures) c.rest_numbers.ensures (omega (arith, rest_is a.form))

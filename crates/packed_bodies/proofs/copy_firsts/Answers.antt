@@ -1,9 +1,8 @@
 -- `packed_bodies::copy_firsts` meets its contract. After i turns the first marks of the first i curves stand in front.
-use Prim.Native.Nat.{◌+◌, ◌-◌, ◌≤◌}
+use Prim.Native.Nat.{◌+◌, ◌≤◌}
 use native.Mathlib.Omega.{arith}
-use Rattle.house.proofs.Turns.{Front}
 use Rattle.packed.specs.Packed.{entry_bytes}
-use Rattle.packed.specs.Unpacked.{entry_at, first_place, firsts_in}
+use Rattle.packed.specs.Unpacked.{entry_at, first_place}
 use Rattle.packed.proofs.Places.{first_before}
 use Rattle.packed_bodies.proofs.Turns.{inside, front_none, marks-turn, marks_all}
 use Rattle.packed_bodies.proofs.copy_firsts.Goals as goal

@@ -1,11 +1,7 @@
 -- What the loops of `packed_bodies::copy_firsts` keep.
-use Prim.Native.Nat.{◌+◌, ◌-◌, ◌≤◌}
-use native.Mathlib.Omega.{arith}
+use Prim.Native.Nat.{◌-◌, ◌≤◌}
 use Rattle.house.proofs.Turns.{Front}
-use Rattle.packed.specs.Packed.{entry_bytes}
-use Rattle.packed.specs.Unpacked.{entry_at, first_place, firsts_in}
-use Rattle.packed.proofs.Places.{first_before}
-use Rattle.packed_bodies.proofs.Turns.{inside, front_none, marks-turn, marks_all}
+use Rattle.packed.specs.Unpacked.{firsts_in}
 use Rattle.packed_bodies.proofs.copy_firsts.Given as goal
 
 abbrev pub invariant-loop-i : goal.invariant-loop-i

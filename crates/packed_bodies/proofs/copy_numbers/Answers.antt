@@ -1,15 +1,13 @@
 -- `packed_bodies::copy_numbers` meets its contract. After i turns the numbers of the first i curves stand in front.
 use mathlib.Core.Path.{◌≡◌, ap}
-use Prim.Native.Nat.{ℕ, ◌+◌, ◌-◌, ◌*◌, ◌≤◌}
+use Prim.Native.Nat.{ℕ, ◌+◌, ◌*◌, ◌≤◌}
 use native.Mathlib.Omega.{arith}
 use lib.ListN.{length-take, length-drop}
 use Rattle.form.specs.Form.{width}
 use Rattle.house.proofs.Forms.{within}
-use Rattle.house.proofs.Turns.{Front}
 use Rattle.packed.specs.Packed.{entry_bytes}
-use Rattle.packed.specs.Unpacked.{entry_at, numbers_in}
+use Rattle.packed.specs.Unpacked.{entry_at}
 use Rattle.packed_bodies.proofs.Turns.{inside, numbers_none, numbers-turn, numbers_all}
-use borrow.Author.Rules.{rules}
 use Rattle.packed_bodies.proofs.copy_numbers.Goals as goal
 
 pub loop-i-init : goal.loop-i-init
@@ -58,7 +56,7 @@ loop-i-smaller c = omega arith
 pub loop-i-preserved : goal.loop-i-preserved
 loop-i-preserved c =
     let under : let a = c.args in width a.form * c.loop-i.i + width a.form ≤ width a.form * a.k = let a = c.args in within (width a.form) a.k c.loop-i.i (omega arith) in
-    let a = c.args in (omega arith, numbers-turn a.b.now a.form a.n a.curves.now c.loop-i.curves c.copy_curve.new.1.1.1.1.0 c.loop-i.i c.width-step.ensures (omega (arith, under)) c.loop-i.invariant.1 c.copy_curve.ensures)
+    let a = c.args in (omega arith, numbers-turn a.b.now a.form a.n a.curves.now c.loop-i.curves c.copy_curve.new.out c.loop-i.i c.width-step.ensures (omega (arith, under)) c.loop-i.invariant.1 c.copy_curve.ensures)
 
 pub shape_of-curves : goal.shape_of-curves
 shape_of-curves c = c.loop-i.invariant.1.same

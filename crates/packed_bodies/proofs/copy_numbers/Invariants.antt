@@ -1,15 +1,8 @@
 -- What the loops of `packed_bodies::copy_numbers` keep.
-use mathlib.Core.Path.{◌≡◌, ap}
-use Prim.Native.Nat.{ℕ, ◌+◌, ◌-◌, ◌*◌, ◌≤◌}
-use native.Mathlib.Omega.{arith}
-use lib.ListN.{length-take, length-drop}
+use Prim.Native.Nat.{◌-◌, ◌*◌, ◌≤◌}
 use Rattle.form.specs.Form.{width}
-use Rattle.house.proofs.Forms.{within}
 use Rattle.house.proofs.Turns.{Front}
-use Rattle.packed.specs.Packed.{entry_bytes}
-use Rattle.packed.specs.Unpacked.{entry_at, numbers_in}
-use Rattle.packed_bodies.proofs.Turns.{inside, numbers_none, numbers-turn, numbers_all}
-use borrow.Author.Rules.{rules}
+use Rattle.packed.specs.Unpacked.{numbers_in}
 use Rattle.packed_bodies.proofs.copy_numbers.Given as goal
 
 abbrev pub invariant-loop-i : goal.invariant-loop-i

@@ -1,6 +1,5 @@
 -- `packed_bodies::copy_packed` meets its contract.
 use Rattle.packed_bodies.proofs.Turns.{params_by}
-use borrow.Author.Rules.{rules}
 use Rattle.packed_bodies.proofs.copy_packed.Goals as goal
 
 pub returns : goal.returns

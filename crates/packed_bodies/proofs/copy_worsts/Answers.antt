@@ -1,16 +1,12 @@
 -- `packed_bodies::copy_worsts` meets its contract. After i turns the worst marks of the first i curves stand in front.
-use Prim.Native.Nat.{◌+◌, ◌-◌, ◌*◌, ◌<◌, ◌≤◌}
+use Prim.Native.Nat.{◌+◌, ◌*◌, ◌<◌, ◌≤◌}
 use native.Mathlib.Omega.{arith}
 use Rattle.form.specs.Form.{worsts_for}
 use Rattle.house.proofs.Forms.{worsts-few}
-use Rattle.house.proofs.Turns.{Front}
-use Rattle.packed.specs.Each.{each}
 use Rattle.packed.specs.Packed.{rest_numbers}
 use Rattle.packed.specs.Unpacked.{entry_at, worst_place}
 use Rattle.packed.proofs.Sizes.{rest-few}
-use Rattle.packed.proofs.Pieces.{mark}
 use Rattle.packed_bodies.proofs.Turns.{inside, front_none, marks-turn, worst_at_is, worst_within, worsts_all}
-use borrow.Author.Rules.{rules}
 use Rattle.packed_bodies.proofs.copy_worsts.Goals as goal
 
 pub overflow_mul-behind : goal.overflow_mul-behind

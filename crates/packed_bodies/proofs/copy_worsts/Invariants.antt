@@ -1,16 +1,9 @@
 -- What the loops of `packed_bodies::copy_worsts` keep.
-use Prim.Native.Nat.{◌+◌, ◌-◌, ◌*◌, ◌<◌, ◌≤◌}
-use native.Mathlib.Omega.{arith}
-use Rattle.form.specs.Form.{worsts_for}
-use Rattle.house.proofs.Forms.{worsts-few}
+use Prim.Native.Nat.{◌-◌, ◌≤◌}
 use Rattle.house.proofs.Turns.{Front}
 use Rattle.packed.specs.Each.{each}
-use Rattle.packed.specs.Packed.{rest_numbers}
-use Rattle.packed.specs.Unpacked.{entry_at, worst_place}
-use Rattle.packed.proofs.Sizes.{rest-few}
+use Rattle.packed.specs.Unpacked.{worst_place}
 use Rattle.packed.proofs.Pieces.{mark}
-use Rattle.packed_bodies.proofs.Turns.{inside, front_none, marks-turn, worst_at_is, worst_within, worsts_all}
-use borrow.Author.Rules.{rules}
 use Rattle.packed_bodies.proofs.copy_worsts.Given as goal
 
 abbrev pub invariant-loop-i : goal.invariant-loop-i

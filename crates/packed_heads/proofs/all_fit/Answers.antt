@@ -1,16 +1,13 @@
 -- `packed_heads::all_fit` meets its contract. After i turns the first i mark numbers fit.
 use mathlib.Core.Path.{◌≡◌, refl, sym, ◌∙◌}
-use mathlib.Core.Bool.{true}
-use Prim.Native.Nat.{ℕ, ◌+◌, ◌-◌, ◌*◌, ◌≤◌}
+use Prim.Native.Nat.{◌+◌, ◌*◌, ◌≤◌}
 use native.Mathlib.Omega.{arith}
-use lib.ListN.{drop}
 use Rattle.float.proofs.Truth.{not_so}
 use Rattle.house.specs.Limits.{mark_field}
-use Rattle.house.specs.Bytes.{row, all_fit}
+use Rattle.house.specs.Bytes.{all_fit}
 use Rattle.house.proofs.Forms.{within}
 use Rattle.packed.specs.Each.{each}
 use Rattle.packed_heads.proofs.Turns.{fits_more, fits_stop}
-use borrow.Author.Rules.{rules}
 use Rattle.packed_heads.proofs.all_fit.Goals as goal
 
 pub loop-i-init : goal.loop-i-init

@@ -4,7 +4,6 @@ use native.Mathlib.Omega.{arith}
 use Rattle.float.proofs.Truth.{not_so, true-false}
 use Rattle.packed.proofs.Laid.{joined}
 use Rattle.packed_heads.proofs.Ways.{ends_by, ends_leads, ends-marks}
-use borrow.Author.Rules.{rules}
 use Rattle.packed_heads.proofs.ends_packed.Goals as goal
 
 pub entry_at-last-requires : goal.entry_at-last-requires

@@ -14,7 +14,6 @@ use Rattle.packed.specs.Unpacked.{packed_curves}
 use Rattle.packed.proofs.Sizes.{entry_some, entries_under}
 use Rattle.packed.proofs.Laid.{plain, full, joined, joining, packed_started, packed_joined}
 use Rattle.packed_heads.proofs.Ways.{packed_counted, packed_broken, counted_by}
-use borrow.Author.Rules.{rules}
 use Rattle.packed_heads.proofs.find_packed.Goals as goal
 
 pub returns-then-len-lt-MARKS_AT : goal.returns-then-len-lt-MARKS_AT

@@ -1,6 +1,5 @@
 -- `packed_heads::form_at` meets its contract.
 use mathlib.Core.Path.{refl, sym, ◌∙◌}
-use borrow.Author.Rules.{rules}
 use Rattle.packed_heads.proofs.form_at.Goals as goal
 
 pub returns-then-has_flag : goal.returns-then-has_flag

@@ -1,7 +1,6 @@
 -- `packed_heads::has_flag` meets its contract.
 use mathlib.Core.Path.{refl}
 use Rattle.house.proofs.Numbers.{num_one}
-use borrow.Author.Rules.{rules}
 use Rattle.packed_heads.proofs.has_flag.Goals as goal
 
 pub returns : goal.returns

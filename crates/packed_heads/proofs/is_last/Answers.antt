@@ -1,6 +1,5 @@
 -- `packed_heads::is_last` meets its contract.
 use mathlib.Core.Path.{refl}
-use borrow.Author.Rules.{rules}
 use Rattle.packed_heads.proofs.is_last.Goals as goal
 
 pub returns : goal.returns

@@ -3,7 +3,6 @@ use mathlib.Core.Path.{◌≡◌, refl, sym, ap, ◌∙◌}
 use Prim.Native.Nat.{ℕ, ◌*◌}
 use native.Mathlib.Omega.{arith}
 use Rattle.packed.specs.Packed.{entry_bytes}
-use borrow.Author.Rules.{rules}
 use Rattle.packed_heads.proofs.leads_packed.Goals as goal
 
 pub overflow_mul-size : goal.overflow_mul-size

@@ -7,7 +7,6 @@ use Rattle.house.proofs.Forms.{within}
 use Rattle.packed.specs.Packed.{entry_bytes}
 use Rattle.packed.proofs.Sizes.{entry_some, rest-few, rest_within}
 use Rattle.packed_heads.proofs.Ways.{first_unfit, next_unfit, numbers_by, worsts-room}
-use borrow.Author.Rules.{rules}
 use Rattle.packed_heads.proofs.numbers_fit.Goals as goal
 
 pub first_place-first-requires : goal.first_place-first-requires

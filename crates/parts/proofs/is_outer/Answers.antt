@@ -1,5 +1,4 @@
 -- `parts::is_outer` meets its contract.
-use borrow.Author.Rules.{rules}
 use mathlib.Core.Path.{refl}
 use Rattle.parts.specs.Headings.{outer}
 use Rattle.parts.proofs.is_outer.Goals as goal

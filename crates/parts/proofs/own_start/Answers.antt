@@ -1,5 +1,4 @@
 -- `parts::own_start` meets its contract.
-use borrow.Author.Rules.{rules}
 use Rattle.marks.specs.Answers.{way_answer}
 use Rattle.parts.proofs.Headings.{by_length, given_start, by_start}
 use Rattle.parts.proofs.own_start.Goals as goal
@@ -8,11 +7,11 @@ pub start_of-requires : goal.start_of-requires
 start_of-requires c =
     let a = c.args in
     let p = c.requires in
-    (by_length a.heading a.marks.now a.n c.heading-in-By-1.given.0.0 c.heading-in-By-1.given.1 p.0, p.1)
+    record { marks_len = by_length a.heading a.marks.now a.n c.in-By.cutting c.in-By.is p.marks_len; from_bound = p.at_bound }
 
 pub returns-in-Given : goal.returns-in-Given
 unfolding way_answer
-returns-in-Given c = let a = c.args in given_start a.heading a.marks.now a.n c.heading-1.given.0.0 a.at c.heading-1.given.1
+returns-in-Given c = let a = c.args in given_start a.heading a.marks.now a.n c.in-Given.ways a.at c.in-Given.is
 
 pub returns-in-By : goal.returns-in-By
-returns-in-By c = let a = c.args in by_start a.heading a.marks.now a.n c.heading-in-By-1.given.0.0 a.at _ c.heading-in-By-1.given.1 c.start_of.ensures
+returns-in-By c = let a = c.args in by_start a.heading a.marks.now a.n c.in-By.cutting a.at _ c.in-By.is c.start_of.ensures

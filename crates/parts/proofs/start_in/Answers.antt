@@ -1,5 +1,4 @@
 -- `parts::start_in` meets its contract.
-use borrow.Author.Rules.{rules}
 use native.Mathlib.Omega.{arith}
 use mathlib.Core.Path.{◌≡◌, sym, ◌∙◌}
 use mathlib.Core.Bool.{false}
@@ -16,7 +15,7 @@ ways_round-requires c =
     let inner : outer c.args.n c.args.size c.args.at ≡ false = sym c.is_outer.ensures ∙ c.if-is_outer.false in
     let a = c.args in
     let p = c.requires in
-    cut_closed a.heading a.marks.now a.n a.size a.at p.0.0 p.0.1 (omega (arith, p)) inner
+    cut_closed a.heading a.marks.now a.n a.size a.at p.size_nonzero.0 p.size_nonzero.1 (omega (arith, p)) inner
 
 pub returns-in_default : goal.returns-in_default
 unfolding way_answer
@@ -24,7 +23,7 @@ returns-in_default c =
     let inner : outer c.args.n c.args.size c.args.at ≡ false = sym c.is_outer.ensures ∙ c.if-is_outer.false in
     let a = c.args in
     let p = c.requires in
-    cut_lost a.heading a.marks.now a.n a.size a.at p.0.0 p.0.1 (omega (arith, p)) inner (λ w. w.start) (own_start a.heading (marks_in a.heading a.marks.now) a.n a.at) _ c.ways_round.ensures c.enum_told-1.given.1
+    cut_lost a.heading a.marks.now a.n a.size a.at p.size_nonzero.0 p.size_nonzero.1 (omega (arith, p)) inner (λ w. w.start) (own_start a.heading (marks_in a.heading a.marks.now) a.n a.at) _ c.ways_round.ensures c.in_default.is
 
 pub returns : goal.returns
 unfolding way_answer
@@ -32,4 +31,4 @@ returns c =
     let inner : outer c.args.n c.args.size c.args.at ≡ false = sym c.is_outer.ensures ∙ c.if-is_outer.false in
     let a = c.args in
     let p = c.requires in
-    cut_found a.heading a.marks.now a.n a.size a.at p.0.0 p.0.1 (omega (arith, p)) inner (λ w. w.start) (own_start a.heading (marks_in a.heading a.marks.now) a.n a.at) _ c.ways_round.ensures _ c.ways-1.given.1
+    cut_found a.heading a.marks.now a.n a.size a.at p.size_nonzero.0 p.size_nonzero.1 (omega (arith, p)) inner (λ w. w.start) (own_start a.heading (marks_in a.heading a.marks.now) a.n a.at) _ c.ways_round.ensures _ c.in-At.is

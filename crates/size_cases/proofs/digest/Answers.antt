@@ -1,6 +1,4 @@
 -- `size_cases::digest` meets its contract: it ends.
-use borrow.Author.Rules.{rules}
-use Prim.Native.Nat.{◌-◌}
 use native.Mathlib.Omega.{arith}
 use Rattle.size_cases.proofs.digest.Goals as goal
 

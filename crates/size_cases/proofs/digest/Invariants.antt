@@ -1,7 +1,5 @@
 -- What the loops of `size_cases::digest` keep.
-use borrow.Author.Rules.{rules}
 use Prim.Native.Nat.{◌-◌}
-use native.Mathlib.Omega.{arith}
 use Rattle.size_cases.proofs.digest.Given as goal
 
 abbrev pub invariant-loop-n : goal.invariant-loop-n

@@ -1,7 +1,5 @@
 -- What the loops of `sqrt_cases::main` keep.
-use borrow.Author.Rules.{rules}
 use Prim.Native.Nat.{◌-◌, ◌≤◌}
-use native.Mathlib.Omega.{arith}
 use Rattle.sqrt_cases.proofs.main.Given as goal
 
 abbrev pub invariant-loop-k : goal.invariant-loop-k

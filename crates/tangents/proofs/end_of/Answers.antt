@@ -1,5 +1,4 @@
 -- `tangents::end_of` meets its contract.
-use borrow.Author.Rules.{rules}
 use native.Mathlib.Omega.{arith}
 use mathlib.Core.Path.{◌≡◌, sym, ap, ◌∙◌}
 use Prim.Native.Nat.{◌-◌, ◌*◌}
@@ -17,7 +16,7 @@ joint_at-requires c =
     let a = c.args in
     let p = c.requires in
     let m = met _ _ _ (sym c.meets.ensures ∙ c.if-meets.true) in
-    joint_closed a.cutting a.marks.now a.n p.0 (a.to - 1) (omega (arith, p)) (omega (arith, p, m))
+    joint_closed a.cutting a.marks.now a.n p.marks_len (a.to - 1) (omega (arith, p)) (omega (arith, p, m))
 
 pub returns-then-meets : goal.returns-then-meets
 returns-then-meets c =
@@ -26,45 +25,45 @@ returns-then-meets c =
     let t = sym c.meets.ensures ∙ c.if-meets.true in
     let m = met _ _ _ t in
     c.left_end.ensures
-    ∙ ap (λ (j : Joint). outcome (left_end j)) (c.joint_at.ensures ∙ joint_as-closed (outline_of a.cutting) a.marks.now (a.to - 1) (joint_inner a.cutting a.marks.now a.n p.0 (a.to - 1) (omega (arith, p)) (omega (arith, p, m))))
+    ∙ ap (λ (j : Joint). outcome (left_end j)) (c.joint_at.ensures ∙ joint_as-closed (outline_of a.cutting) a.marks.now (a.to - 1) (joint_inner a.cutting a.marks.now a.n p.marks_len (a.to - 1) (omega (arith, p)) (omega (arith, p, m))))
     ∙ ap outcome (sym (end_met a.cutting (marks_of a.cutting a.marks.now) a.n a.to t))
 
 pub seam_of-requires : goal.seam_of-requires
 seam_of-requires c =
     let a = c.args in
     let p = c.requires in
-    (marks_of_is a.cutting a.marks.now a.n p.0 (omega (arith, p))).0
+    (marks_of_is a.cutting a.marks.now a.n p.marks_len (omega (arith, p))).0
 
 pub overflow_mul-tail : goal.overflow_mul-tail
 overflow_mul-tail c =
     let alone : length c.args.marks.now ≡ 2 * c.args.n = let s = c in
-    open-length s.args.cutting s.args.marks.now s.args.n s.requires.0 (sym c.outline_of.ensures ∙ c.enum_told-in-Open-1.given.1) in
-    let p = c.requires in omega (arith, end_within _ _ _ _ p.1.0 p.1.1 c.end_at-tail.ensures, p, alone)
+    open-length s.args.cutting s.args.marks.now s.args.n s.requires.marks_len (sym c.outline_of.ensures ∙ c.in-Open.is) in
+    let p = c.requires in omega (arith, end_within _ _ _ _ p.le_to.0 p.le_to.1 c.end_at-tail.ensures, p, alone)
 
 pub slice_bounds-end_tangent-end : goal.slice_bounds-end_tangent-end
 slice_bounds-end_tangent-end c =
     let alone : length c.args.marks.now ≡ 2 * c.args.n = let s = c in
-    open-length s.args.cutting s.args.marks.now s.args.n s.requires.0 (sym c.outline_of.ensures ∙ c.enum_told-in-Open-1.given.1) in
-    let p = c.requires in simp length-take (omega (arith, end_within _ _ _ _ p.1.0 p.1.1 c.end_at-tail.ensures, p, alone))
+    open-length s.args.cutting s.args.marks.now s.args.n s.requires.marks_len (sym c.outline_of.ensures ∙ c.in-Open.is) in
+    let p = c.requires in simp length-take (omega (arith, end_within _ _ _ _ p.le_to.0 p.le_to.1 c.end_at-tail.ensures, p, alone))
 
 pub end_tangent-requires : goal.end_tangent-requires
 end_tangent-requires c =
     let alone : length c.args.marks.now ≡ 2 * c.args.n = let s = c in
-    open-length s.args.cutting s.args.marks.now s.args.n s.requires.0 (sym c.outline_of.ensures ∙ c.enum_told-in-Open-1.given.1) in
-    let p = c.requires in simp length-take (omega (arith, end_within _ _ _ _ p.1.0 p.1.1 c.end_at-tail.ensures, p, alone))
+    open-length s.args.cutting s.args.marks.now s.args.n s.requires.marks_len (sym c.outline_of.ensures ∙ c.in-Open.is) in
+    let p = c.requires in simp length-take (omega (arith, end_within _ _ _ _ p.le_to.0 p.le_to.1 c.end_at-tail.ensures, p, alone))
 
 pub returns-in-Closed : goal.returns-in-Closed
 returns-in-Closed c =
     let a = c.args in
     let p = c.requires in
-    let o = sym c.outline_of.ensures ∙ c.enum_told-1.given.1 in
+    let o = sym c.outline_of.ensures ∙ c.in-Closed.is in
     c.left_end-in-Closed.ensures
-    ∙ ap (λ (j : Joint). outcome (left_end j)) (c.seam_of.ensures ∙ seam_of_is a.cutting a.marks.now a.n p.0 (omega (arith, p)) o)
+    ∙ ap (λ (j : Joint). outcome (left_end j)) (c.seam_of.ensures ∙ seam_of_is a.cutting a.marks.now a.n p.marks_len (omega (arith, p)) o)
     ∙ ap outcome (sym (end_seam a.cutting (marks_of a.cutting a.marks.now) a.n a.to (sym c.meets.ensures ∙ c.if-meets.false) o))
 
 pub returns-in-Open : goal.returns-in-Open
 returns-in-Open c =
     let a = c.args in
-    let o : outline_of a.cutting ≡ Open = sym c.outline_of.ensures ∙ c.enum_told-in-Open-1.given.1 in
+    let o : outline_of a.cutting ≡ Open = sym c.outline_of.ensures ∙ c.in-Open.is in
     c.end_tangent.ensures
     ∙ rw (c.end_at-tail.ensures, open-marks a.cutting a.marks.now o) (ap outcome (sym (end_alone a.cutting a.marks.now a.n a.to (sym c.meets.ensures ∙ c.if-meets.false) o)))

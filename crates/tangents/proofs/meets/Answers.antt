@@ -1,5 +1,4 @@
 -- `tangents::meets` meets its contract.
-use borrow.Author.Rules.{rules}
 use borrow.Author.Tests.{lt-ltb, le-ltb}
 use Rattle.tangents.specs.Ways.{meets}
 use Rattle.tangents.proofs.meets.Goals as goal

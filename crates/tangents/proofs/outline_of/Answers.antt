@@ -1,15 +1,14 @@
 -- `tangents::outline_of` meets its contract.
-use borrow.Author.Rules.{rules}
 use Rattle.tangents.proofs.outline_of.Goals as goal
 
 pub returns-in-Source : goal.returns-in-Source
-returns-in-Source c = rw c.enum_told-1.given.1
+returns-in-Source c = rw c.in-Source.is
 
 pub returns-in-Loop : goal.returns-in-Loop
-returns-in-Loop c = rw c.enum_told-in-Loop-1.given.1
+returns-in-Loop c = rw c.in-Loop.is
 
 pub returns-in-Joined : goal.returns-in-Joined
-returns-in-Joined c = rw c.enum_told-in-Joined-1.given.1
+returns-in-Joined c = rw c.in-Joined.is
 
 pub returns-in-Ring : goal.returns-in-Ring
-returns-in-Ring c = rw c.enum_told-in-Ring-1.given.1
+returns-in-Ring c = rw c.in-Ring.is

@@ -1,5 +1,4 @@
 -- `tangents::start_of` meets its contract.
-use borrow.Author.Rules.{rules}
 use native.Mathlib.Omega.{arith}
 use mathlib.Core.Path.{◌≡◌, sym, ap, ◌∙◌}
 use Prim.Native.Nat.{◌-◌, ◌*◌}
@@ -17,7 +16,7 @@ pub joint_at-requires : goal.joint_at-requires
 joint_at-requires c =
     let a = c.args in
     let p = c.requires in
-    joint_closed a.cutting a.marks.now a.n p.0 a.from (met _ _ _ (sym c.meets.ensures ∙ c.if-meets.true)) (omega (arith, p))
+    joint_closed a.cutting a.marks.now a.n p.marks_len a.from (met _ _ _ (sym c.meets.ensures ∙ c.if-meets.true)) (omega (arith, p))
 
 pub returns-then-meets : goal.returns-then-meets
 returns-then-meets c =
@@ -25,58 +24,58 @@ returns-then-meets c =
     let p = c.requires in
     let t = sym c.meets.ensures ∙ c.if-meets.true in
     c.right_start.ensures
-    ∙ ap (λ (j : Joint). outcome (right_start j)) (c.joint_at.ensures ∙ joint_as-closed (outline_of a.cutting) a.marks.now a.from (joint_inner a.cutting a.marks.now a.n p.0 a.from (met _ _ _ t) (omega (arith, p))))
+    ∙ ap (λ (j : Joint). outcome (right_start j)) (c.joint_at.ensures ∙ joint_as-closed (outline_of a.cutting) a.marks.now a.from (joint_inner a.cutting a.marks.now a.n p.marks_len a.from (met _ _ _ t) (omega (arith, p))))
     ∙ ap outcome (sym (start_met a.cutting (marks_of a.cutting a.marks.now) a.n a.from t))
 
 pub seam_of-requires : goal.seam_of-requires
 seam_of-requires c =
     let a = c.args in
     let p = c.requires in
-    (marks_of_is a.cutting a.marks.now a.n p.0 (omega (arith, p))).0
+    (marks_of_is a.cutting a.marks.now a.n p.marks_len (omega (arith, p))).0
 
 pub overflow_mul-head : goal.overflow_mul-head
 overflow_mul-head c =
     let alone : length c.args.marks.now ≡ 2 * c.args.n = let s = c in
-    open-length s.args.cutting s.args.marks.now s.args.n s.requires.0 (sym c.outline_of.ensures ∙ c.enum_told-in-Open-1.given.1) in
-    let p = c.requires in omega (arith, start_within _ _ _ _ p.1.0 c.start_at-head.ensures, p, alone)
+    open-length s.args.cutting s.args.marks.now s.args.n s.requires.marks_len (sym c.outline_of.ensures ∙ c.in-Open.is) in
+    let p = c.requires in omega (arith, start_within _ _ _ _ p.from_bound.0 c.start_at-head.ensures, p, alone)
 
 pub offset_bounds-marks-head : goal.offset_bounds-marks-head
 offset_bounds-marks-head c =
     let alone : length c.args.marks.now ≡ 2 * c.args.n = let s = c in
-    open-length s.args.cutting s.args.marks.now s.args.n s.requires.0 (sym c.outline_of.ensures ∙ c.enum_told-in-Open-1.given.1) in
-    let p = c.requires in omega (arith, start_within _ _ _ _ p.1.0 c.start_at-head.ensures, p, alone)
+    open-length s.args.cutting s.args.marks.now s.args.n s.requires.marks_len (sym c.outline_of.ensures ∙ c.in-Open.is) in
+    let p = c.requires in omega (arith, start_within _ _ _ _ p.from_bound.0 c.start_at-head.ensures, p, alone)
 
 pub slice_bounds-start_tangent-count : goal.slice_bounds-start_tangent-count
 slice_bounds-start_tangent-count c =
     let alone : length c.args.marks.now ≡ 2 * c.args.n = let s = c in
-    open-length s.args.cutting s.args.marks.now s.args.n s.requires.0 (sym c.outline_of.ensures ∙ c.enum_told-in-Open-1.given.1) in
-    let p = c.requires in omega (arith, start_within _ _ _ _ p.1.0 c.start_at-head.ensures, p, alone)
+    open-length s.args.cutting s.args.marks.now s.args.n s.requires.marks_len (sym c.outline_of.ensures ∙ c.in-Open.is) in
+    let p = c.requires in omega (arith, start_within _ _ _ _ p.from_bound.0 c.start_at-head.ensures, p, alone)
 
 pub slice_bounds-start_tangent-start : goal.slice_bounds-start_tangent-start
 slice_bounds-start_tangent-start c =
     let alone : length c.args.marks.now ≡ 2 * c.args.n = let s = c in
-    open-length s.args.cutting s.args.marks.now s.args.n s.requires.0 (sym c.outline_of.ensures ∙ c.enum_told-in-Open-1.given.1) in
-    let p = c.requires in omega (arith, start_within _ _ _ _ p.1.0 c.start_at-head.ensures, p, alone)
+    open-length s.args.cutting s.args.marks.now s.args.n s.requires.marks_len (sym c.outline_of.ensures ∙ c.in-Open.is) in
+    let p = c.requires in omega (arith, start_within _ _ _ _ p.from_bound.0 c.start_at-head.ensures, p, alone)
 
 pub start_tangent-requires : goal.start_tangent-requires
 start_tangent-requires c =
     let alone : length c.args.marks.now ≡ 2 * c.args.n = let s = c in
-    open-length s.args.cutting s.args.marks.now s.args.n s.requires.0 (sym c.outline_of.ensures ∙ c.enum_told-in-Open-1.given.1) in
-    let p = c.requires in simp (length-take, length-drop) (omega (arith, start_within _ _ _ _ p.1.0 c.start_at-head.ensures, p, alone))
+    open-length s.args.cutting s.args.marks.now s.args.n s.requires.marks_len (sym c.outline_of.ensures ∙ c.in-Open.is) in
+    let p = c.requires in simp (length-take, length-drop) (omega (arith, start_within _ _ _ _ p.from_bound.0 c.start_at-head.ensures, p, alone))
 
 pub returns-in-Closed : goal.returns-in-Closed
 returns-in-Closed c =
     let a = c.args in
     let p = c.requires in
-    let o = sym c.outline_of.ensures ∙ c.enum_told-1.given.1 in
+    let o = sym c.outline_of.ensures ∙ c.in-Closed.is in
     c.right_start-in-Closed.ensures
-    ∙ ap (λ (j : Joint). outcome (right_start j)) (c.seam_of.ensures ∙ seam_of_is a.cutting a.marks.now a.n p.0 (omega (arith, p)) o)
+    ∙ ap (λ (j : Joint). outcome (right_start j)) (c.seam_of.ensures ∙ seam_of_is a.cutting a.marks.now a.n p.marks_len (omega (arith, p)) o)
     ∙ ap outcome (sym (start_seam a.cutting (marks_of a.cutting a.marks.now) a.n a.from (sym c.meets.ensures ∙ c.if-meets.false) o))
 
 pub returns-in-Open : goal.returns-in-Open
 returns-in-Open c =
     let a = c.args in
     let at = c.start_at-head.result in
-    let o : outline_of a.cutting ≡ Open = sym c.outline_of.ensures ∙ c.enum_told-in-Open-1.given.1 in
+    let o : outline_of a.cutting ≡ Open = sym c.outline_of.ensures ∙ c.in-Open.is in
     c.start_tangent.ensures
     ∙ rw (take_all (length a.marks.now - 2 * at) (drop (2 * at) a.marks.now) (simp length-drop (omega arith)), c.start_at-head.ensures, open-marks a.cutting a.marks.now o) (ap outcome (sym (start_alone a.cutting a.marks.now a.n a.from (sym c.meets.ensures ∙ c.if-meets.false) o)))

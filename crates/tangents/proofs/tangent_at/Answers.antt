@@ -1,5 +1,4 @@
 -- `tangents::tangent_at` meets its contract.
-use borrow.Author.Rules.{rules}
 use mathlib.Core.Path.{ap, ◌∙◌}
 use Rattle.float.specs.Answer.{outcome}
 use Rattle.marks.specs.Tangent.{tangent_between}

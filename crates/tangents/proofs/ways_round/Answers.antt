@@ -1,5 +1,4 @@
 -- `tangents::ways_round` meets its contract.
-use borrow.Author.Rules.{rules}
 use Rattle.plane.specs.declared.Point.{Point}
 use Rattle.tangents.specs.declared.Ways.{Ways}
 use Rattle.joints.specs.Joints.{opposite}
@@ -12,12 +11,12 @@ made t u = record { end = t; start = u }
 
 pub returns-in_default : goal.returns-in_default
 unfolding turn_answer ways_at
-returns-in_default c = no_first _ opposite made _ c.tangent_at.ensures c.enum_told-1.given.1
+returns-in_default c = no_first _ opposite made _ c.tangent_at.ensures c.in_default.is
 
 pub returns-in_default-opposite : goal.returns-in_default-opposite
 unfolding turn_answer ways_at
-returns-in_default-opposite c = no_second _ opposite made _ c.tangent_at.ensures _ c.end-1.given.1 _ c.opposite.ensures c.enum_told-in_default-opposite-1.given.1
+returns-in_default-opposite c = no_second _ opposite made _ c.tangent_at.ensures _ c.in-Toward.is _ c.opposite.ensures c.in_default-opposite.is
 
 pub returns : goal.returns
 unfolding turn_answer ways_at
-returns c = both _ opposite made _ c.tangent_at.ensures _ c.end-1.given.1 _ c.opposite.ensures _ c.start-1.given.1
+returns c = both _ opposite made _ c.tangent_at.ensures _ c.in-Toward.is _ c.opposite.ensures _ c.in-Toward-opposite.is

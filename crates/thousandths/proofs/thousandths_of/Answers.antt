@@ -1,5 +1,4 @@
 -- `thousandths::thousandths_of` meets its contract.
-use borrow.Author.Rules.{rules}
 use mathlib.Core.Path.{refl, ◌∙◌}
 use native.Mathlib.Omega.{arith}
 use Rattle.thousandths.proofs.Pattern.{none_in, some_in, divisor_is, divisor_even}

@@ -1,5 +1,4 @@
 -- `thousandths::whole` meets its contract.
-use borrow.Author.Rules.{rules}
 use native.Mathlib.Nat.{div-le_self}
 use native.Mathlib.Omega.{arith}
 use Rattle.thousandths.proofs.Halves.{down_to, up_to}

@@ -2,7 +2,6 @@
 use Rattle.flat.specs.Flat.{crossings}
 use native.Mathlib.Omega.{arith}
 use Rattle.flat.proofs.Baseline.{few}
-use borrow.Author.Rules.{rules}
 use Rattle.flat.proofs.flat.count_x_axis_crossings.Goals as goal
 
 pub overflow_add-result : goal.overflow_add-result

@@ -1,5 +1,4 @@
 -- `roots::flat::flat_enough` meets its contract.
-use borrow.Author.Rules.{rules}
 use Rattle.flat.specs.Flat.{flat_enough}
 use Rattle.flat.proofs.Baseline.{held, failed}
 use Rattle.flat.proofs.flat.flat_enough.Goals as goal

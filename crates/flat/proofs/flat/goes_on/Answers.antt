@@ -2,7 +2,6 @@
 use Rattle.float.proofs.Truth.{and-true}
 use Rattle.flat.specs.Flat.{goes_on}
 use Rattle.flat.specs.Tests.{as_test}
-use borrow.Author.Rules.{rules}
 use Rattle.flat.proofs.flat.goes_on.Goals as goal
 
 pub returns : goal.returns

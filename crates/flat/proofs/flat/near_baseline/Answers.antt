@@ -1,6 +1,5 @@
 -- `roots::flat::near_baseline` meets its contract.
 use Rattle.flat.proofs.Baseline.{near_is}
-use borrow.Author.Rules.{rules}
 use Rattle.flat.proofs.flat.near_baseline.Goals as goal
 
 pub returns : goal.returns

@@ -1,7 +1,6 @@
 -- `roots::flat::one_direction` meets its contract.
 use Rattle.flat.specs.Flat.{one_direction}
 use Rattle.flat.specs.Tests.{as_test, run_of}
-use borrow.Author.Rules.{rules}
 use Rattle.flat.proofs.flat.one_direction.Goals as goal
 
 pub returns : goal.returns

@@ -1,6 +1,5 @@
 -- `roots::line::distance_to` meets its contract.
 use Rattle.flat.specs.Line.{distance_to}
-use borrow.Author.Rules.{rules}
 use Rattle.flat.proofs.line.distance_to.Goals as goal
 
 pub returns : goal.returns

@@ -1,6 +1,5 @@
 -- `roots::line::factor` meets its contract.
 use Rattle.flat.specs.Line.{factor_of}
-use borrow.Author.Rules.{rules}
 use Rattle.flat.proofs.line.factor.Goals as goal
 
 pub returns : goal.returns

@@ -1,5 +1,4 @@
 -- `roots::intercept::find_x_intercept` meets its contract.
-use borrow.Author.Rules.{rules}
 use mathlib.Core.Path.{ap, ◌∙◌}
 use Rattle.float.specs.Answer.{outcome}
 use Rattle.quintic.specs.declared.numbers.Six.{Six}

@@ -1,5 +1,4 @@
 -- `roots::intercept::find_x_intercept_newton_raphson` meets its contract.
-use borrow.Author.Rules.{rules}
 use mathlib.Core.Path.{sym, ◌∙◌}
 use Rattle.intercept.specs.Tests.{root_answer}
 use Rattle.intercept.proofs.Steps.{newton_on, newton_off}

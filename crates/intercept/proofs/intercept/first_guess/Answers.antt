@@ -1,5 +1,4 @@
 -- `roots::intercept::first_guess` meets its contract.
-use borrow.Author.Rules.{rules}
 use Rattle.intercept.specs.Intercept.{guess_of}
 use Rattle.intercept.proofs.Guess.{guess_is}
 use Rattle.intercept.proofs.intercept.first_guess.Goals as goal

@@ -1,6 +1,5 @@
 -- `roots::intercept::five_finite` meets its contract.
 use Rattle.quintic.specs.Tests.{five_finite}
-use borrow.Author.Rules.{rules}
 use Rattle.intercept.proofs.intercept.five_finite.Goals as goal
 
 pub returns : goal.returns

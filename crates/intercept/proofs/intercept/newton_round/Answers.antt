@@ -1,5 +1,4 @@
 -- `roots::intercept::newton_round` meets its contract.
-use borrow.Author.Rules.{rules}
 use mathlib.Core.Path.{sym, ◌∙◌}
 use Rattle.intercept.proofs.Rounds.{round_lost, round-small, round-flat, round_next, round_flown}
 use Rattle.intercept.proofs.intercept.newton_round.Goals as goal

@@ -1,9 +1,6 @@
 -- `roots::intercept::newton_rounds` meets its contract: what is left to answer stays the same.
-use borrow.Author.Rules.{rules}
-use mathlib.Core.Path.{◌≡◌, refl}
+use mathlib.Core.Path.{refl}
 use native.Mathlib.Omega.{arith}
-use Rattle.float.specs.Answer.{outcome}
-use Rattle.intercept.specs.Intercept.{newton_by}
 use Rattle.intercept.specs.Tests.{root_answer}
 use Rattle.intercept.proofs.Rounds.{goes_next, goes_stop, goes_lost, at_end}
 use Rattle.intercept.proofs.intercept.newton_rounds.Goals as goal
@@ -14,19 +11,19 @@ loop-left-init c = refl
 pub returns-in-Stop : goal.returns-in-Stop
 unfolding root_answer
 returns-in-Stop c =
-    goes_stop _ _ _ _ _ _ c.loop-left.invariant c.loop-left-test.true c.newton_round.ensures c.enum_told-1.given.1
+    goes_stop _ _ _ _ _ _ c.loop-left.invariant c.loop-left-test.true c.newton_round.ensures c.in-Stop.is
 
 pub returns-in-Lost : goal.returns-in-Lost
 unfolding root_answer
 returns-in-Lost c =
-    goes_lost _ _ _ _ _ _ c.loop-left.invariant c.loop-left-test.true c.newton_round.ensures c.enum_told-in-Lost-1.given.1
+    goes_lost _ _ _ _ _ _ c.loop-left.invariant c.loop-left-test.true c.newton_round.ensures c.in-Lost.is
 
 pub loop-left-smaller : goal.loop-left-smaller
 loop-left-smaller c = omega arith
 
 pub loop-left-preserved : goal.loop-left-preserved
 loop-left-preserved c =
-    goes_next _ _ _ _ _ _ c.loop-left.invariant c.loop-left-test.true c.newton_round.ensures _ c.v-1.given.1
+    goes_next _ _ _ _ _ _ c.loop-left.invariant c.loop-left-test.true c.newton_round.ensures _ c.in-Next.is
 
 pub returns : goal.returns
 unfolding root_answer

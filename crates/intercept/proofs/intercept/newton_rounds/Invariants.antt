@@ -1,11 +1,7 @@
 -- What the loops of `intercept::intercept::newton_rounds` keep.
-use borrow.Author.Rules.{rules}
-use mathlib.Core.Path.{◌≡◌, refl}
-use native.Mathlib.Omega.{arith}
+use mathlib.Core.Path.{◌≡◌}
 use Rattle.float.specs.Answer.{outcome}
 use Rattle.intercept.specs.Intercept.{newton_by}
-use Rattle.intercept.specs.Tests.{root_answer}
-use Rattle.intercept.proofs.Rounds.{goes_next, goes_stop, goes_lost, at_end}
 use Rattle.intercept.proofs.intercept.newton_rounds.Given as goal
 
 abbrev pub invariant-loop-left : goal.invariant-loop-left

@@ -1,5 +1,4 @@
 -- `nearest::choose::better` meets its contract.
-use borrow.Author.Rules.{rules}
 use Rattle.nearest.proofs.Candidates.{wins, loses}
 use Rattle.nearest.proofs.choose.better.Goals as goal
 

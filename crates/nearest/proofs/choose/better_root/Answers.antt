@@ -1,5 +1,4 @@
 -- `nearest::choose::better_root` meets its contract.
-use borrow.Author.Rules.{rules}
 use mathlib.Core.Path.{◌∙◌}
 use Rattle.float.proofs.Truth.{picked, passed}
 use Rattle.nearest.specs.Choose.{inside}

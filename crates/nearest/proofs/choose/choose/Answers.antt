@@ -1,10 +1,6 @@
 -- `nearest::choose::choose` meets its contract: what is left to choose from stays the same.
-use borrow.Author.Rules.{rules}
-use Prim.Native.Nat.{◌-◌}
 use native.Mathlib.Omega.{arith}
-use lib.ListN.{length, drop}
-use Rattle.nearest.specs.Choose.{choose_of}
-use Rattle.nearest.proofs.Candidates.{Left, at_first, steps, settles}
+use Rattle.nearest.proofs.Candidates.{at_first, steps, settles}
 use Rattle.nearest.proofs.choose.choose.Goals as goal
 
 pub loop-i-init : goal.loop-i-init

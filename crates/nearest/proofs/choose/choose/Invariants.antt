@@ -1,10 +1,8 @@
 -- What the loops of `nearest::choose::choose` keep.
-use borrow.Author.Rules.{rules}
 use Prim.Native.Nat.{◌-◌}
-use native.Mathlib.Omega.{arith}
 use lib.ListN.{length, drop}
 use Rattle.nearest.specs.Choose.{choose_of}
-use Rattle.nearest.proofs.Candidates.{Left, at_first, steps, settles}
+use Rattle.nearest.proofs.Candidates.{Left}
 use Rattle.nearest.proofs.choose.choose.Given as goal
 
 abbrev pub invariant-loop-i : goal.invariant-loop-i

@@ -1,6 +1,5 @@
 -- `nearest::choose::distance_sq_at` meets its contract.
 use Rattle.nearest.specs.Choose.{distance_sq}
-use borrow.Author.Rules.{rules}
 use Rattle.nearest.proofs.choose.distance_sq_at.Goals as goal
 
 pub returns : goal.returns

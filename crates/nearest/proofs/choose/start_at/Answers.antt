@@ -1,5 +1,4 @@
 -- `nearest::choose::start_at` meets its contract.
-use borrow.Author.Rules.{rules}
 use Rattle.nearest.proofs.Candidates.{starts}
 use Rattle.nearest.proofs.choose.start_at.Goals as goal
 

@@ -1,6 +1,5 @@
 -- `quintic::heights::distance_in_bezier_form` meets its contract.
 use Rattle.quintic.specs.Heights.{distance_form}
-use borrow.Author.Rules.{rules}
 use Rattle.quintic.proofs.heights.distance_in_bezier_form.Goals as goal
 
 pub returns : goal.returns

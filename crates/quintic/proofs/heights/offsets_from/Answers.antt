@@ -1,6 +1,5 @@
 -- `quintic::heights::offsets_from` meets its contract.
 use Rattle.quintic.specs.Heights.{offsets_of}
-use borrow.Author.Rules.{rules}
 use Rattle.quintic.proofs.heights.offsets_from.Goals as goal
 
 pub returns : goal.returns

@@ -1,6 +1,5 @@
 -- `quintic::heights::products` meets its contract.
 use Rattle.quintic.specs.Heights.{products_of}
-use borrow.Author.Rules.{rules}
 use Rattle.quintic.proofs.heights.products.Goals as goal
 
 pub returns : goal.returns

@@ -1,6 +1,5 @@
 -- `quintic::heights::weighted` meets its contract.
 use Rattle.quintic.specs.Heights.{weighted_by}
-use borrow.Author.Rules.{rules}
 use Rattle.quintic.proofs.heights.weighted.Goals as goal
 
 pub returns : goal.returns

@@ -1,6 +1,5 @@
 -- `quintic::numbers::de_casteljau4` meets its contract.
 use Rattle.quintic.specs.Numbers.{number4}
-use borrow.Author.Rules.{rules}
 use Rattle.quintic.proofs.numbers.de_casteljau4.Goals as goal
 
 pub returns : goal.returns

@@ -1,6 +1,5 @@
 -- `quintic::numbers::de_casteljau5` meets its contract.
 use Rattle.quintic.specs.Numbers.{number5}
-use borrow.Author.Rules.{rules}
 use Rattle.quintic.proofs.numbers.de_casteljau5.Goals as goal
 
 pub returns : goal.returns

@@ -1,6 +1,5 @@
 -- `quintic::points::de_casteljau5` meets its contract.
 use Rattle.quintic.specs.Points.{casteljau5}
-use borrow.Author.Rules.{rules}
 use Rattle.quintic.proofs.points.de_casteljau5.Goals as goal
 
 pub returns : goal.returns

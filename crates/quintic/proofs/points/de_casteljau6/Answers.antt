@@ -1,6 +1,5 @@
 -- `quintic::points::de_casteljau6` meets its contract.
 use Rattle.quintic.specs.Points.{casteljau6}
-use borrow.Author.Rules.{rules}
 use Rattle.quintic.proofs.points.de_casteljau6.Goals as goal
 
 pub returns : goal.returns

@@ -1,6 +1,5 @@
 -- `quintic::points::subdivide6` meets its contract.
 use Rattle.quintic.specs.Points.{subdivide6_of}
-use borrow.Author.Rules.{rules}
 use Rattle.quintic.proofs.points.subdivide6.Goals as goal
 
 pub returns : goal.returns

@@ -8,7 +8,6 @@ use Rattle.form.specs.Form.{width}
 use Rattle.house.specs.Limits.{curve_bytes}
 use Rattle.house.proofs.Forms.{field_few, body-few, beside_within, beside-few, worsts-few}
 use Rattle.reader.proofs.Turns.{firsts_by, worsts_by, curves_by}
-use borrow.Author.Rules.{rules}
 use Rattle.reader.proofs.bodies.copy_curves.Goals as goal
 
 pub overflow_add-step : goal.overflow_add-step

@@ -9,7 +9,6 @@ use Rattle.house.specs.Held.{in_each}
 use Rattle.house.proofs.Forms.{body-few}
 use Rattle.grammar.proofs.Rooms.{room_start, room_whole, room-params}
 use Rattle.reader.proofs.Turns.{params_by}
-use borrow.Author.Rules.{rules}
 use Rattle.reader.proofs.bodies.copy_file.Goals as goal
 
 pub copy_words-requires : goal.copy_words-requires

@@ -1,14 +1,14 @@
 -- `reader::bodies::copy_marks` meets its contract. After i turns the mark numbers of the first i records stand in front.
 use mathlib.Core.Path.{◌≡◌, refl, ◌∙◌}
 use mathlib.Core.List.{◌++◌}
-use Prim.Native.Nat.{◌+◌, ◌-◌, ◌*◌, ◌≤◌}
+use Prim.Native.Nat.{◌+◌, ◌*◌, ◌≤◌}
 use native.Mathlib.Omega.{arith}
 use lib.ListN.{length, drop, set}
 use Rattle.house.specs.Limits.{mark_field}
 use Rattle.house.specs.Held.{in_each}
 use Rattle.house.proofs.Forms.{within}
 use Rattle.grammar.proofs.Curves.{length-each}
-use Rattle.house.proofs.Turns.{Front, same_front}
+use Rattle.house.proofs.Turns.{same_front}
 use Rattle.reader.proofs.Turns.{marks-turn}
 use Rattle.reader.proofs.bodies.copy_marks.Goals as goal
 

@@ -1,15 +1,9 @@
 -- What the loops of `reader::bodies::copy_marks` keep.
-use mathlib.Core.Path.{◌≡◌, refl, ◌∙◌}
-use mathlib.Core.List.{◌++◌}
-use Prim.Native.Nat.{◌+◌, ◌-◌, ◌*◌, ◌≤◌}
-use native.Mathlib.Omega.{arith}
-use lib.ListN.{length, drop, set}
+use Prim.Native.Nat.{◌-◌, ◌≤◌}
+use lib.ListN.{drop}
 use Rattle.house.specs.Limits.{mark_field}
 use Rattle.house.specs.Held.{in_each}
-use Rattle.house.proofs.Forms.{within}
-use Rattle.grammar.proofs.Curves.{length-each}
-use Rattle.house.proofs.Turns.{Front, same_front}
-use Rattle.reader.proofs.Turns.{marks-turn}
+use Rattle.house.proofs.Turns.{Front}
 use Rattle.reader.proofs.bodies.copy_marks.Given as goal
 
 abbrev pub invariant-loop-i : goal.invariant-loop-i

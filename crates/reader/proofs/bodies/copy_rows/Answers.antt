@@ -1,13 +1,13 @@
 -- `reader::bodies::copy_rows` meets its contract. After i turns the numbers of the first i records stand in front.
 use mathlib.Core.Path.{◌≡◌, refl}
-use Prim.Native.Nat.{◌+◌, ◌-◌, ◌*◌, ◌≤◌}
+use Prim.Native.Nat.{◌+◌, ◌*◌, ◌≤◌}
 use native.Mathlib.Nat.{mul-zero}
 use native.Mathlib.Omega.{arith}
 use lib.ListN.{length, drop, length-take, length-drop}
 use Rattle.house.specs.Held.{in_each}
 use Rattle.house.proofs.Forms.{within}
 use Rattle.grammar.proofs.Curves.{length-each}
-use Rattle.house.proofs.Turns.{Front, same_front}
+use Rattle.house.proofs.Turns.{same_front}
 use Rattle.reader.proofs.Turns.{rows_put}
 use Rattle.reader.proofs.bodies.copy_rows.Goals as goal
 
@@ -72,7 +72,7 @@ loop-i-preserved c =
     let d = drop a.at a.b.now in
     let g : a.n * (l.i + 1) ≤ length a.out.now = omega (arith, under) in
     let m : a.n * l.i ≤ length l.out = omega (arith, under, l.invariant.1.same) in
-    let e = rows_put a.b.now a.at a.p a.step a.n a.out.now l.out c.copy_words.new.1.1.1.0 l.i l.invariant.1.whole m c.copy_words.ensures in
+    let e = rows_put a.b.now a.at a.p a.step a.n a.out.now l.out c.copy_words.new.out l.i l.invariant.1.whole m c.copy_words.ensures in
     (omega arith, same_front (in_each 8 a.n a.p a.step (l.i + 1) d) a.out.now _ (a.n * (l.i + 1)) e (length-each 8 a.n a.p a.step (l.i + 1) d) g)
 
 pub shape_of-out : goal.shape_of-out

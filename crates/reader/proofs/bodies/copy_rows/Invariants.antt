@@ -1,14 +1,8 @@
 -- What the loops of `reader::bodies::copy_rows` keep.
-use mathlib.Core.Path.{◌≡◌, refl}
-use Prim.Native.Nat.{◌+◌, ◌-◌, ◌*◌, ◌≤◌}
-use native.Mathlib.Nat.{mul-zero}
-use native.Mathlib.Omega.{arith}
-use lib.ListN.{length, drop, length-take, length-drop}
+use Prim.Native.Nat.{◌-◌, ◌*◌, ◌≤◌}
+use lib.ListN.{drop}
 use Rattle.house.specs.Held.{in_each}
-use Rattle.house.proofs.Forms.{within}
-use Rattle.grammar.proofs.Curves.{length-each}
-use Rattle.house.proofs.Turns.{Front, same_front}
-use Rattle.reader.proofs.Turns.{rows_put}
+use Rattle.house.proofs.Turns.{Front}
 use Rattle.reader.proofs.bodies.copy_rows.Given as goal
 
 abbrev pub invariant-loop-i : goal.invariant-loop-i

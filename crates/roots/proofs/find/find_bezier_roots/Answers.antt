@@ -1,12 +1,10 @@
 -- `roots::find::find_bezier_roots` meets its contract: what is left to answer stays the same.
-use borrow.Author.Rules.{rules}
 use mathlib.Core.Path.{refl, sym, ap}
-use Prim.Native.Nat.{◌<◌, ◌-◌, zero-le}
+use Prim.Native.Nat.{zero-le}
 use native.Mathlib.Omega.{arith}
-use lib.ListN.{length, get_or}
-use Rattle.roots.specs.Find.{find, find_roots}
+use Rattle.roots.specs.Find.{find_roots}
 use Rattle.roots.specs.Tests.{seen_answer, roots_answer, count_of}
-use Rattle.roots.proofs.Stack.{blank, stack_of, Going, start, full, done, stops, passes, finds, low, fits, splits}
+use Rattle.roots.proofs.Stack.{stack_of, start, full, done, stops, passes, finds, low, fits, splits}
 use Rattle.roots.proofs.find.find_bezier_roots.Goals as goal
 
 pub loop-waiting-init : goal.loop-waiting-init
@@ -34,7 +32,7 @@ loop-waiting-smaller-in-Nothing c = omega (arith, c.if-left-eq0.false)
 pub loop-waiting-preserved-in-Nothing : goal.loop-waiting-preserved-in-Nothing
 unfolding seen_answer
 loop-waiting-preserved-in-Nothing c =
-    passes _ _ _ _ _ _ _ c.loop-waiting.invariant c.loop-waiting-test.true c.if-left-eq0.false _ c.look_at.ensures (sym (ap seen_answer c.enum_told-1.given.1))
+    passes _ _ _ _ _ _ _ c.loop-waiting.invariant c.loop-waiting-test.true c.if-left-eq0.false _ c.look_at.ensures (sym (ap seen_answer c.in-Nothing.is))
 
 pub offset_bounds-roots-found : goal.offset_bounds-roots-found
 offset_bounds-roots-found c = omega (arith, c.loop-waiting.invariant.few)
@@ -51,95 +49,63 @@ loop-waiting-smaller-in-Root c = omega (arith, c.if-left-eq0.false)
 pub loop-waiting-preserved-in-Root : goal.loop-waiting-preserved-in-Root
 unfolding seen_answer
 loop-waiting-preserved-in-Root c =
-    finds _ _ _ _ _ _ _ c.loop-waiting.invariant c.loop-waiting-test.true c.if-left-eq0.false _ c.look_at.ensures _ (sym (ap seen_answer c.t-1.given.1))
+    finds _ _ _ _ _ _ _ c.loop-waiting.invariant c.loop-waiting-test.true c.if-left-eq0.false _ c.look_at.ensures _ (sym (ap seen_answer c.in-Root.is))
 
-pub overflow-add-t23 : goal.overflow-add-t23
+pub overflow_add-sections : goal.overflow_add-sections
 unfolding seen_answer
-overflow-add-t23 c =
-    let bounds : (let at = c.loop-waiting in ((get_or at.sections (at.waiting - 1) blank).depth < 64) × (at.waiting - 1 < 64)) = let known = c in
-    let look = known.before.before in
-    let turn = look.before.before in
-    let g = turn.before.before.loop.invariant in
-    let e = sym (ap seen_answer known.halves.given.1) in
-    (low _ _ _ _ _ _ _ g turn.before.loop-test.true turn.if1.false _ look.look_at.ensures _ e, fits _ _ _ _ _ _ _ g turn.before.loop-test.true turn.if1.false _ look.look_at.ensures _ e) in
-    omega (arith, bounds.0)
+overflow_add-sections c =
+    let e = sym (ap seen_answer c.in-Halved.is) in
+    let below = low _ _ _ _ _ _ _ c.loop-waiting.invariant c.loop-waiting-test.true c.if-left-eq0.false _ c.look_at.ensures _ e in
+    omega (arith, below)
 
 pub offset_bounds-sections-waiting-in-Halved : goal.offset_bounds-sections-waiting-in-Halved
 unfolding seen_answer
 offset_bounds-sections-waiting-in-Halved c =
-    let bounds : (let at = c.loop-waiting in ((get_or at.sections (at.waiting - 1) blank).depth < 64) × (at.waiting - 1 < 64)) = let known = c in
-    let look = known.before.before in
-    let turn = look.before.before in
-    let g = turn.before.before.loop.invariant in
-    let e = sym (ap seen_answer known.halves.given.1) in
-    (low _ _ _ _ _ _ _ g turn.before.loop-test.true turn.if1.false _ look.look_at.ensures _ e, fits _ _ _ _ _ _ _ g turn.before.loop-test.true turn.if1.false _ look.look_at.ensures _ e) in
-    omega (arith, bounds.1)
+    let e = sym (ap seen_answer c.in-Halved.is) in
+    let room = fits _ _ _ _ _ _ _ c.loop-waiting.invariant c.loop-waiting-test.true c.if-left-eq0.false _ c.look_at.ensures _ e in
+    omega (arith, room)
 
 pub bounds-sections-waiting-in-Halved : goal.bounds-sections-waiting-in-Halved
 unfolding seen_answer
 bounds-sections-waiting-in-Halved c =
-    let bounds : (let at = c.loop-waiting in ((get_or at.sections (at.waiting - 1) blank).depth < 64) × (at.waiting - 1 < 64)) = let known = c in
-    let look = known.before.before in
-    let turn = look.before.before in
-    let g = turn.before.before.loop.invariant in
-    let e = sym (ap seen_answer known.halves.given.1) in
-    (low _ _ _ _ _ _ _ g turn.before.loop-test.true turn.if1.false _ look.look_at.ensures _ e, fits _ _ _ _ _ _ _ g turn.before.loop-test.true turn.if1.false _ look.look_at.ensures _ e) in
-    omega (arith, bounds.1)
+    let e = sym (ap seen_answer c.in-Halved.is) in
+    let room = fits _ _ _ _ _ _ _ c.loop-waiting.invariant c.loop-waiting-test.true c.if-left-eq0.false _ c.look_at.ensures _ e in
+    omega (arith, room)
 
-pub overflow-add-t23-2 : goal.overflow-add-t23-2
+pub overflow_add-sections-in-Halved : goal.overflow_add-sections-in-Halved
 unfolding seen_answer
-overflow-add-t23-2 c =
-    let bounds : (let at = c.loop-waiting in ((get_or at.sections (at.waiting - 1) blank).depth < 64) × (at.waiting - 1 < 64)) = let known = c in
-    let look = known.before.before in
-    let turn = look.before.before in
-    let g = turn.before.before.loop.invariant in
-    let e = sym (ap seen_answer known.halves.given.1) in
-    (low _ _ _ _ _ _ _ g turn.before.loop-test.true turn.if1.false _ look.look_at.ensures _ e, fits _ _ _ _ _ _ _ g turn.before.loop-test.true turn.if1.false _ look.look_at.ensures _ e) in
-    omega (arith, bounds.0)
+overflow_add-sections-in-Halved c =
+    let e = sym (ap seen_answer c.in-Halved.is) in
+    let below = low _ _ _ _ _ _ _ c.loop-waiting.invariant c.loop-waiting-test.true c.if-left-eq0.false _ c.look_at.ensures _ e in
+    omega (arith, below)
 
 pub overflow_add-sections-in-Halved-2 : goal.overflow_add-sections-in-Halved-2
 unfolding seen_answer
 overflow_add-sections-in-Halved-2 c =
-    let bounds : (let at = c.loop-waiting in ((get_or at.sections (at.waiting - 1) blank).depth < 64) × (at.waiting - 1 < 64)) = let known = c in
-    let look = known.before.before in
-    let turn = look.before.before in
-    let g = turn.before.before.loop.invariant in
-    let e = sym (ap seen_answer known.halves.given.1) in
-    (low _ _ _ _ _ _ _ g turn.before.loop-test.true turn.if1.false _ look.look_at.ensures _ e, fits _ _ _ _ _ _ _ g turn.before.loop-test.true turn.if1.false _ look.look_at.ensures _ e) in
-    omega (arith, bounds.1)
+    let e = sym (ap seen_answer c.in-Halved.is) in
+    let room = fits _ _ _ _ _ _ _ c.loop-waiting.invariant c.loop-waiting-test.true c.if-left-eq0.false _ c.look_at.ensures _ e in
+    omega (arith, room)
 
 pub offset_bounds-sections-waiting-in-Halved-2 : goal.offset_bounds-sections-waiting-in-Halved-2
 unfolding seen_answer
 offset_bounds-sections-waiting-in-Halved-2 c =
-    let bounds : (let at = c.loop-waiting in ((get_or at.sections (at.waiting - 1) blank).depth < 64) × (at.waiting - 1 < 64)) = let known = c in
-    let look = known.before.before in
-    let turn = look.before.before in
-    let g = turn.before.before.loop.invariant in
-    let e = sym (ap seen_answer known.halves.given.1) in
-    (low _ _ _ _ _ _ _ g turn.before.loop-test.true turn.if1.false _ look.look_at.ensures _ e, fits _ _ _ _ _ _ _ g turn.before.loop-test.true turn.if1.false _ look.look_at.ensures _ e) in
-    omega (arith, bounds.1)
+    let e = sym (ap seen_answer c.in-Halved.is) in
+    let room = fits _ _ _ _ _ _ _ c.loop-waiting.invariant c.loop-waiting-test.true c.if-left-eq0.false _ c.look_at.ensures _ e in
+    omega (arith, room)
 
 pub bounds-sections-waiting-in-Halved-2 : goal.bounds-sections-waiting-in-Halved-2
 unfolding seen_answer
 bounds-sections-waiting-in-Halved-2 c =
-    let bounds : (let at = c.loop-waiting in ((get_or at.sections (at.waiting - 1) blank).depth < 64) × (at.waiting - 1 < 64)) = let known = c in
-    let look = known.before.before in
-    let turn = look.before.before in
-    let g = turn.before.before.loop.invariant in
-    let e = sym (ap seen_answer known.halves.given.1) in
-    (low _ _ _ _ _ _ _ g turn.before.loop-test.true turn.if1.false _ look.look_at.ensures _ e, fits _ _ _ _ _ _ _ g turn.before.loop-test.true turn.if1.false _ look.look_at.ensures _ e) in
-    omega (arith, bounds.1)
+    let e = sym (ap seen_answer c.in-Halved.is) in
+    let room = fits _ _ _ _ _ _ _ c.loop-waiting.invariant c.loop-waiting-test.true c.if-left-eq0.false _ c.look_at.ensures _ e in
+    omega (arith, room)
 
 pub overflow_add-waiting : goal.overflow_add-waiting
 unfolding seen_answer
 overflow_add-waiting c =
-    let bounds : (let at = c.loop-waiting in ((get_or at.sections (at.waiting - 1) blank).depth < 64) × (at.waiting - 1 < 64)) = let known = c in
-    let look = known.before.before in
-    let turn = look.before.before in
-    let g = turn.before.before.loop.invariant in
-    let e = sym (ap seen_answer known.halves.given.1) in
-    (low _ _ _ _ _ _ _ g turn.before.loop-test.true turn.if1.false _ look.look_at.ensures _ e, fits _ _ _ _ _ _ _ g turn.before.loop-test.true turn.if1.false _ look.look_at.ensures _ e) in
-    omega (arith, bounds.1)
+    let e = sym (ap seen_answer c.in-Halved.is) in
+    let room = fits _ _ _ _ _ _ _ c.loop-waiting.invariant c.loop-waiting-test.true c.if-left-eq0.false _ c.look_at.ensures _ e in
+    omega (arith, room)
 
 pub loop-waiting-smaller : goal.loop-waiting-smaller
 loop-waiting-smaller c = omega (arith, c.if-left-eq0.false)
@@ -147,7 +113,7 @@ loop-waiting-smaller c = omega (arith, c.if-left-eq0.false)
 pub loop-waiting-preserved : goal.loop-waiting-preserved
 unfolding seen_answer
 loop-waiting-preserved c =
-    splits _ _ _ _ _ _ _ c.loop-waiting.invariant c.loop-waiting-test.true c.if-left-eq0.false _ c.look_at.ensures _ (sym (ap seen_answer c.halves-1.given.1))
+    splits _ _ _ _ _ _ _ c.loop-waiting.invariant c.loop-waiting-test.true c.if-left-eq0.false _ c.look_at.ensures _ (sym (ap seen_answer c.in-Halved.is))
 
 pub shape_of-roots-in-Refused : goal.shape_of-roots-in-Refused
 shape_of-roots-in-Refused c = c.loop-waiting.invariant.kept
@@ -155,7 +121,7 @@ shape_of-roots-in-Refused c = c.loop-waiting.invariant.kept
 pub returns-in-Refused : goal.returns-in-Refused
 unfolding seen_answer roots_answer count_of find_roots stack_of
 returns-in-Refused c =
-    (stops _ _ _ _ _ _ _ c.loop-waiting.invariant c.loop-waiting-test.true c.if-left-eq0.false _ c.look_at.ensures _ (sym (ap seen_answer c.n-1.given.1)), zero-le)
+    (stops _ _ _ _ _ _ _ c.loop-waiting.invariant c.loop-waiting-test.true c.if-left-eq0.false _ c.look_at.ensures _ (sym (ap seen_answer c.in-Refused.is)), zero-le)
 
 pub shape_of-roots : goal.shape_of-roots
 shape_of-roots c = c.loop-waiting.invariant.kept

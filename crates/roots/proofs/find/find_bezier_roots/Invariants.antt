@@ -1,12 +1,7 @@
 -- What the loops of `roots::find::find_bezier_roots` keep.
-use borrow.Author.Rules.{rules}
-use mathlib.Core.Path.{refl, sym, ap}
-use Prim.Native.Nat.{◌<◌, ◌-◌, zero-le}
-use native.Mathlib.Omega.{arith}
-use lib.ListN.{length, get_or}
-use Rattle.roots.specs.Find.{find, find_roots}
-use Rattle.roots.specs.Tests.{seen_answer, roots_answer, count_of}
-use Rattle.roots.proofs.Stack.{blank, stack_of, Going, start, full, done, stops, passes, finds, low, fits, splits}
+use lib.ListN.{length}
+use Rattle.roots.specs.Find.{find}
+use Rattle.roots.proofs.Stack.{stack_of, Going}
 use Rattle.roots.proofs.find.find_bezier_roots.Given as goal
 
 abbrev pub invariant-loop-waiting : goal.invariant-loop-waiting

@@ -1,5 +1,4 @@
 -- `roots::find::halve` meets its contract.
-use borrow.Author.Rules.{rules}
 use mathlib.Core.Path.{sym, ◌∙◌}
 use Rattle.plane.specs.Range.{point_finite}
 use Rattle.quintic.specs.Tests.{halves_finite}

@@ -1,5 +1,4 @@
 -- `roots::find::look_at` meets its contract.
-use borrow.Author.Rules.{rules}
 use mathlib.Core.Path.{◌∙◌}
 use Rattle.roots.specs.Tests.{seen_answer}
 use Rattle.roots.proofs.Looks.{look_none, look_one, look_more}

@@ -1,5 +1,4 @@
 -- `roots::find::look_at_one` meets its contract.
-use borrow.Author.Rules.{rules}
 use mathlib.Core.Path.{◌∙◌}
 use Rattle.float.proofs.Truth.{picked, passed}
 use Rattle.roots.specs.Tests.{seen_answer}

@@ -1,6 +1,6 @@
 -- `unpacker::records::put_curves` meets its contract. After i turns the records of the first i curves are put.
 use mathlib.Core.Path.{◌≡◌, refl, ap, ◌∙◌}
-use Prim.Native.Nat.{ℕ, ◌+◌, ◌-◌, ◌*◌, ◌≤◌}
+use Prim.Native.Nat.{ℕ, ◌+◌, ◌*◌, ◌≤◌}
 use native.Mathlib.Omega.{arith}
 use lib.ListN.{length}
 use lib.Seq.{sets, length-sets}
@@ -10,7 +10,6 @@ use Rattle.packed.specs.Each.{each}
 use Rattle.packed.specs.Packed.{entry_bytes}
 use Rattle.unpacker.specs.Records.{record_here}
 use Rattle.unpacker.proofs.Pieces.{records_put}
-use borrow.Author.Rules.{rules}
 use Rattle.unpacker.proofs.records.put_curves.Goals as goal
 
 pub overflow_add-step : goal.overflow_add-step
@@ -43,7 +42,7 @@ loop-i-preserved c =
     let l = c.loop-i in
     let a = c.args in
     let rs = each (l.i + 1) (record_here a.file.now a.form a.field a.n) in
-    let e : c.put_curve.new.1.1.1.1.1.0 ≡ sets a.out.now a.at rs =
+    let e : c.put_curve.new.out ≡ sets a.out.now a.at rs =
     c.put_curve.ensures ∙ rw (l.invariant.1.0, c.body_bytes-step.ensures) (records_put a.file.now a.form a.field a.n a.out.now a.at l.i) in
     (omega arith, (e, ap length e ∙ length-sets a.out.now a.at rs))
 

@@ -3,7 +3,6 @@ use mathlib.Core.Path.{sym, ◌∙◌}
 use native.Mathlib.Omega.{arith}
 use borrow.Author.Tests.{ne_eqb, lt-ltb, le-ltb}
 use Rattle.writer.proofs.Turns.{holds_none}
-use borrow.Author.Rules.{rules}
 use Rattle.writer.proofs.records.can_hold.Goals as goal
 
 pub returns-then-k-eq0 : goal.returns-then-k-eq0

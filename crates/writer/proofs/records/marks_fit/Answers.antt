@@ -1,14 +1,10 @@
 -- `writer::records::marks_fit` meets its contract. After i turns the first i mark numbers fit.
 use mathlib.Core.Path.{◌≡◌, refl, sym, ◌∙◌}
-use mathlib.Core.Bool.{true}
-use Prim.Native.Nat.{◌-◌, ◌≤◌}
 use native.Mathlib.Omega.{arith}
-use lib.ListN.{take}
 use Rattle.float.proofs.Truth.{not_so}
 use Rattle.house.specs.Limits.{mark_field}
 use Rattle.house.specs.Bytes.{all_fit}
 use Rattle.writer.proofs.Turns.{fits_more, fits_stop}
-use borrow.Author.Rules.{rules}
 use Rattle.writer.proofs.records.marks_fit.Goals as goal
 
 pub loop-i-init : goal.loop-i-init

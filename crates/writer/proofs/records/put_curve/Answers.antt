@@ -8,7 +8,6 @@ use Rattle.house.specs.Limits.{worst_marks}
 use Rattle.house.proofs.Forms.{body-few, worsts-each}
 use Rattle.grammar.proofs.Curves.{curve-put}
 use Rattle.writer.proofs.Turns.{some_of}
-use borrow.Author.Rules.{rules}
 use Rattle.writer.proofs.records.put_curve.Goals as goal
 
 pub overflow_add-size : goal.overflow_add-size

@@ -1,6 +1,6 @@
 -- `writer::records::put_curves` meets its contract. After i turns the records of the first i curves are put.
 use mathlib.Core.Path.{◌≡◌, refl, ap, ◌∙◌}
-use Prim.Native.Nat.{ℕ, ◌+◌, ◌-◌, ◌*◌, ◌<◌, ◌≤◌}
+use Prim.Native.Nat.{ℕ, ◌+◌, ◌*◌, ◌<◌, ◌≤◌}
 use native.Mathlib.Omega.{arith}
 use lib.ListN.{length, take}
 use lib.Seq.{sets, length-sets}
@@ -9,7 +9,6 @@ use Rattle.house.specs.Limits.{curve_bytes}
 use Rattle.house.specs.File.{flat, curve_records}
 use Rattle.house.proofs.Forms.{body-few, within, worsts_within}
 use Rattle.writer.proofs.Turns.{curves-put}
-use borrow.Author.Rules.{rules}
 use Rattle.writer.proofs.records.put_curves.Goals as goal
 
 pub overflow_add-step : goal.overflow_add-step
@@ -54,7 +53,7 @@ loop-i-preserved c =
     let h : l.i < length a.firsts.now = omega (arith, c.requires.1.0) in
     let w : worsts_for a.form (l.i + 1) ≤ length a.worsts.now = omega (arith, worsts_within a.form a.k l.i (omega arith), c.requires.1.1.0) in
     let n : width a.form * (l.i + 1) ≤ length a.curves.now = omega (arith, within (width a.form) a.k l.i (omega arith), c.requires.1.1.1) in
-    let e : c.put_curve.new.0 ≡ sets a.out.now a.at rs =
+    let e : c.put_curve.new.out ≡ sets a.out.now a.at rs =
     c.put_curve.ensures ∙ rw (l.invariant.1.0, c.body_bytes-step.ensures) (curves-put a.form a.field a.out.now a.firsts.now a.worsts.now a.curves.now a.at l.i h w n) in
     (omega arith, (e, ap length e ∙ length-sets a.out.now a.at rs))
 

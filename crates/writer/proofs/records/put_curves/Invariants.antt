@@ -1,15 +1,10 @@
 -- What the loops of `writer::records::put_curves` keep.
-use mathlib.Core.Path.{◌≡◌, refl, ap, ◌∙◌}
-use Prim.Native.Nat.{ℕ, ◌+◌, ◌-◌, ◌*◌, ◌<◌, ◌≤◌}
-use native.Mathlib.Omega.{arith}
+use mathlib.Core.Path.{◌≡◌}
+use Prim.Native.Nat.{◌-◌, ◌*◌, ◌≤◌}
 use lib.ListN.{length, take}
-use lib.Seq.{sets, length-sets}
+use lib.Seq.{sets}
 use Rattle.form.specs.Form.{width, worsts_for}
-use Rattle.house.specs.Limits.{curve_bytes}
 use Rattle.house.specs.File.{flat, curve_records}
-use Rattle.house.proofs.Forms.{body-few, within, worsts_within}
-use Rattle.writer.proofs.Turns.{curves-put}
-use borrow.Author.Rules.{rules}
 use Rattle.writer.proofs.records.put_curves.Given as goal
 
 abbrev pub invariant-loop-i : goal.invariant-loop-i

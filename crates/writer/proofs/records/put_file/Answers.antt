@@ -8,19 +8,18 @@ use Rattle.house.specs.Limits.{field_for, body_bytes, curve_bytes}
 use Rattle.house.proofs.Forms.{body-few}
 use Rattle.grammar.proofs.Rooms.{room_start, room_whole, room-params}
 use Rattle.writer.proofs.Puts.{put-plain, put_whole}
-use borrow.Author.Rules.{rules}
 use Rattle.writer.proofs.records.put_file.Goals as goal
 
 pub put_marks-requires : goal.put_marks-requires
-put_marks-requires c = let s = c.requires in omega (arith, s.0, room_start s.1)
+put_marks-requires c = omega (arith, c.requires.mark_numbers_len, room_start c.requires.room)
 
 pub returns-then-k-eq0 : goal.returns-then-k-eq0
-returns-then-k-eq0 c = c.put_marks.ensures ∙ put-plain c.args.tolerance c.requires.0 c.requires.1 c.if-k-eq0.true
+returns-then-k-eq0 c = c.put_marks.ensures ∙ put-plain c.args.tolerance c.requires.mark_numbers_len c.requires.room c.if-k-eq0.true
 
 pub put_curves-requires : goal.put_curves-requires
 put_curves-requires c =
     let some : 0 < c.args.k = omega arith in
-    let r = c.requires.1 in rw c.field_for-field.ensures (omega (arith, room_whole r some), (r.firsts, (r.worsts, r.curves)))
+    let r = c.requires.room in rw c.field_for-field.ensures (omega (arith, room_whole r some), (r.firsts, (r.worsts, r.curves)))
 
 pub overflow_add-last : goal.overflow_add-last
 overflow_add-last c =
@@ -32,39 +31,39 @@ overflow_mul-last c =
     let some : 0 < c.args.k = omega arith in
     let body : c.body_bytes.result ≡ body_bytes c.args.form (field_for (length c.args.marks.now / 2)) = c.body_bytes.ensures ∙ ap (λ (f : Field). body_bytes c.args.form f) c.field_for-field.ensures in
     let bytes : (6 + c.body_bytes.result) * c.args.k ≡ curve_bytes c.args.form (field_for (length c.args.marks.now / 2)) * c.args.k = ap (λ (x : ℕ). (6 + x) * c.args.k) body in
-    omega (arith, bytes, room_whole c.requires.1 some)
+    omega (arith, bytes, room_whole c.requires.room some)
 
 pub overflow_add-last-2 : goal.overflow_add-last-2
 overflow_add-last-2 c =
     let some : 0 < c.args.k = omega arith in
     let body : c.body_bytes.result ≡ body_bytes c.args.form (field_for (length c.args.marks.now / 2)) = c.body_bytes.ensures ∙ ap (λ (f : Field). body_bytes c.args.form f) c.field_for-field.ensures in
     let bytes : (6 + c.body_bytes.result) * c.args.k ≡ curve_bytes c.args.form (field_for (length c.args.marks.now / 2)) * c.args.k = ap (λ (x : ℕ). (6 + x) * c.args.k) body in
-    omega (arith, bytes, room_whole c.requires.1 some)
+    omega (arith, bytes, room_whole c.requires.room some)
 
 pub overflow_add-numbers : goal.overflow_add-numbers
 overflow_add-numbers c =
     let some : 0 < c.args.k = omega arith in
     let body : c.body_bytes.result ≡ body_bytes c.args.form (field_for (length c.args.marks.now / 2)) = c.body_bytes.ensures ∙ ap (λ (f : Field). body_bytes c.args.form f) c.field_for-field.ensures in
     let bytes : (6 + c.body_bytes.result) * c.args.k ≡ curve_bytes c.args.form (field_for (length c.args.marks.now / 2)) * c.args.k = ap (λ (x : ℕ). (6 + x) * c.args.k) body in
-    omega (arith, bytes, room_whole c.requires.1 some)
+    omega (arith, bytes, room_whole c.requires.room some)
 
 pub put_head-requires : goal.put_head-requires
 put_head-requires c =
     let some : 0 < c.args.k = omega arith in
     let body : c.body_bytes.result ≡ body_bytes c.args.form (field_for (length c.args.marks.now / 2)) = c.body_bytes.ensures ∙ ap (λ (f : Field). body_bytes c.args.form f) c.field_for-field.ensures in
     let bytes : (6 + c.body_bytes.result) * c.args.k ≡ curve_bytes c.args.form (field_for (length c.args.marks.now / 2)) * c.args.k = ap (λ (x : ℕ). (6 + x) * c.args.k) body in
-    omega (arith, bytes, room_whole c.requires.1 some)
+    omega (arith, bytes, room_whole c.requires.room some)
 
 pub put_words-requires : goal.put_words-requires
 put_words-requires c =
     let some : 0 < c.args.k = omega arith in
     let body : c.body_bytes.result ≡ body_bytes c.args.form (field_for (length c.args.marks.now / 2)) = c.body_bytes.ensures ∙ ap (λ (f : Field). body_bytes c.args.form f) c.field_for-field.ensures in
     let bytes : (6 + c.body_bytes.result) * c.args.k ≡ curve_bytes c.args.form (field_for (length c.args.marks.now / 2)) * c.args.k = ap (λ (x : ℕ). (6 + x) * c.args.k) body in
-    let r = c.requires.1 in (omega (arith, bytes, room_whole r some), omega (arith, room-params r some))
+    let r = c.requires.room in (omega (arith, bytes, room_whole r some), omega (arith, room-params r some))
 
 pub returns : goal.returns
 returns c =
     let some : 0 < c.args.k = omega arith in
     let body : c.body_bytes.result ≡ body_bytes c.args.form (field_for (length c.args.marks.now / 2)) = c.body_bytes.ensures ∙ ap (λ (f : Field). body_bytes c.args.form f) c.field_for-field.ensures in
     c.put_words.ensures
-    ∙ rw (c.put_head.ensures, c.put_curves.ensures, c.put_marks.ensures, body, c.field_for-field.ensures) (put_whole c.args.tolerance c.requires.0 c.requires.1 some)
+    ∙ rw (c.put_head.ensures, c.put_curves.ensures, c.put_marks.ensures, body, c.field_for-field.ensures) (put_whole c.args.tolerance c.requires.mark_numbers_len c.requires.room some)
