@@ -1,6 +1,4 @@
 -- `checker::check_curve` meets its contract.
-use borrow.Author.Rules.{rules}
-use borrow.Author.Tests.{not-true, not-false}
 use Prim.Native.Nat.{ℕ, ◌+◌}
 use native.Mathlib.Omega.{arith}
 use mathlib.Core.Path.{sym, ap, ◌∙◌}
@@ -10,63 +8,56 @@ use Rattle.checker.proofs.Turns.{by_fault}
 use Rattle.checker.proofs.Curves.{Places, own, places, tested, fault_b, under, curve-rest}
 use Rattle.checker.proofs.check_curve.Goals as goal
 
--- the number of the marks that count is known from here on
-abbrev entry : goal.After-again → goal.Start
-entry s = s.before.before.before.before.before.before
-
-abbrev total : goal.After-again → ℕ
-total s = s.again.result + count (entry s).args.marks.now
-
 pub overflow_add-n : goal.overflow_add-n
-overflow_add-n c = let s = again-small (entry c).args.outline in omega (arith, c.again.ensures)
+overflow_add-n c = let s = again-small c.args.outline in omega (arith, c.again.ensures)
 
 pub curve_at-c-requires : goal.curve_at-c-requires
-curve_at-c-requires c = let a = (entry c).args in (own a.outline a.form a.marks.now a.tolerance a.count a.curves.now a.firsts.now a.worsts.now a.params.now a.j (entry c).requires).0
+curve_at-c-requires c = let a = c.args in (own a.outline a.form a.marks.now a.tolerance a.count a.curves.now a.firsts.now a.worsts.now a.params.now a.j c.requires).0
 
 pub last_at-last-requires : goal.last_at-last-requires
 last_at-last-requires c =
-    let bounds : Places (entry c).args.outline (entry c).args.marks.now (total c) (entry c).args.count (entry c).args.firsts.now (entry c).args.params.now (entry c).args.j = let a = (entry c).args in
-    places a.outline a.form a.marks.now a.tolerance a.count a.curves.now a.firsts.now a.worsts.now a.params.now (total c) a.j (ap (λ (m : ℕ). m + count a.marks.now) c.again.ensures) (entry c).requires in
+    let bounds : Places c.args.outline c.args.marks.now (c.again.result + count c.args.marks.now) c.args.count c.args.firsts.now c.args.params.now c.args.j = let a = c.args in
+    places a.outline a.form a.marks.now a.tolerance a.count a.curves.now a.firsts.now a.worsts.now a.params.now (c.again.result + count c.args.marks.now) a.j (ap (λ (m : ℕ). m + count a.marks.now) c.again.ensures) c.requires in
     let b = bounds in (omega arith, (omega arith, omega arith))
 
 pub mark_at-p-requires : goal.mark_at-p-requires
 mark_at-p-requires c =
-    let bounds : Places (entry c).args.outline (entry c).args.marks.now (total c) (entry c).args.count (entry c).args.firsts.now (entry c).args.params.now (entry c).args.j = let a = (entry c).args in
-    places a.outline a.form a.marks.now a.tolerance a.count a.curves.now a.firsts.now a.worsts.now a.params.now (total c) a.j (ap (λ (m : ℕ). m + count a.marks.now) c.again.ensures) (entry c).requires in
+    let bounds : Places c.args.outline c.args.marks.now (c.again.result + count c.args.marks.now) c.args.count c.args.firsts.now c.args.params.now c.args.j = let a = c.args in
+    places a.outline a.form a.marks.now a.tolerance a.count a.curves.now a.firsts.now a.worsts.now a.params.now (c.again.result + count c.args.marks.now) a.j (ap (λ (m : ℕ). m + count a.marks.now) c.again.ensures) c.requires in
     let b = bounds in omega (arith, c.first_at-first.ensures)
 
 pub mark_round-q-requires : goal.mark_round-q-requires
 mark_round-q-requires c =
-    let bounds : Places (entry c).args.outline (entry c).args.marks.now (total c) (entry c).args.count (entry c).args.firsts.now (entry c).args.params.now (entry c).args.j = let a = (entry c).args in
-    places a.outline a.form a.marks.now a.tolerance a.count a.curves.now a.firsts.now a.worsts.now a.params.now (total c) a.j (ap (λ (m : ℕ). m + count a.marks.now) c.again.ensures) (entry c).requires in
+    let bounds : Places c.args.outline c.args.marks.now (c.again.result + count c.args.marks.now) c.args.count c.args.firsts.now c.args.params.now c.args.j = let a = c.args in
+    places a.outline a.form a.marks.now a.tolerance a.count a.curves.now a.firsts.now a.worsts.now a.params.now (c.again.result + count c.args.marks.now) a.j (ap (λ (m : ℕ). m + count a.marks.now) c.again.ensures) c.requires in
     let b = bounds in (b.even, omega (arith, c.last_at-last.ensures))
 
 pub returns-then-not-is_run : goal.returns-then-not-is_run
 returns-then-not-is_run c =
-    let bounds : Places (entry c).args.outline (entry c).args.marks.now (total c) (entry c).args.count (entry c).args.firsts.now (entry c).args.params.now (entry c).args.j = let a = (entry c).args in
-    places a.outline a.form a.marks.now a.tolerance a.count a.curves.now a.firsts.now a.worsts.now a.params.now (total c) a.j (ap (λ (m : ℕ). m + count a.marks.now) c.again.ensures) (entry c).requires in
-    let a = (entry c).args in
-    by_fault c.fault_b.ensures (fault_b a.outline a.form a.marks.now a.tolerance a.count a.curves.now a.firsts.now a.worsts.now a.params.now (total c) a.j bounds _ _ c.curve_at-c.ensures c.first_at-first.ensures _ _ _ _ c.last_at-last.ensures c.mark_at-p.ensures c.mark_round-q.ensures c.is_run.ensures (not-true _ c.if-not-is_run.true))
+    let bounds : Places c.args.outline c.args.marks.now (c.again.result + count c.args.marks.now) c.args.count c.args.firsts.now c.args.params.now c.args.j = let a = c.args in
+    places a.outline a.form a.marks.now a.tolerance a.count a.curves.now a.firsts.now a.worsts.now a.params.now (c.again.result + count c.args.marks.now) a.j (ap (λ (m : ℕ). m + count a.marks.now) c.again.ensures) c.requires in
+    let a = c.args in
+    by_fault c.fault_b.ensures (fault_b a.outline a.form a.marks.now a.tolerance a.count a.curves.now a.firsts.now a.worsts.now a.params.now (c.again.result + count c.args.marks.now) a.j bounds _ _ c.curve_at-c.ensures c.first_at-first.ensures _ _ _ _ c.last_at-last.ensures c.mark_at-p.ensures c.mark_round-q.ensures c.is_run.ensures c.if-not-is_run.true)
 
 pub stop_at-stop-requires : goal.stop_at-stop-requires
 stop_at-stop-requires c = let p = c.requires in (p.0, p.1.firsts)
 
 pub check_under-walked-requires : goal.check_under-walked-requires
 check_under-walked-requires c =
-    let bounds : Places (entry c).args.outline (entry c).args.marks.now (total c) (entry c).args.count (entry c).args.firsts.now (entry c).args.params.now (entry c).args.j = let a = (entry c).args in
-    places a.outline a.form a.marks.now a.tolerance a.count a.curves.now a.firsts.now a.worsts.now a.params.now (total c) a.j (ap (λ (m : ℕ). m + count a.marks.now) c.again.ensures) (entry c).requires in
-    let a = (entry c).args in
-    under a.outline a.form a.marks.now a.tolerance a.count a.curves.now a.firsts.now a.worsts.now a.params.now (total c) a.j bounds _ _ c.curve_at-c.ensures c.first_at-first.ensures _ c.stop_at-stop.ensures
+    let bounds : Places c.args.outline c.args.marks.now (c.again.result + count c.args.marks.now) c.args.count c.args.firsts.now c.args.params.now c.args.j = let a = c.args in
+    places a.outline a.form a.marks.now a.tolerance a.count a.curves.now a.firsts.now a.worsts.now a.params.now (c.again.result + count c.args.marks.now) a.j (ap (λ (m : ℕ). m + count a.marks.now) c.again.ensures) c.requires in
+    let a = c.args in
+    under a.outline a.form a.marks.now a.tolerance a.count a.curves.now a.firsts.now a.worsts.now a.params.now (c.again.result + count c.args.marks.now) a.j bounds _ _ c.curve_at-c.ensures c.first_at-first.ensures _ c.stop_at-stop.ensures
 
 pub check_kept-requires : goal.check_kept-requires
 check_kept-requires c =
-    let a = (entry c).args in
-    own a.outline a.form a.marks.now a.tolerance a.count a.curves.now a.firsts.now a.worsts.now a.params.now a.j (entry c).requires
+    let a = c.args in
+    own a.outline a.form a.marks.now a.tolerance a.count a.curves.now a.firsts.now a.worsts.now a.params.now a.j c.requires
 
 pub returns : goal.returns
 returns c =
-    let bounds : Places (entry c).args.outline (entry c).args.marks.now (total c) (entry c).args.count (entry c).args.firsts.now (entry c).args.params.now (entry c).args.j = let a = (entry c).args in
-    places a.outline a.form a.marks.now a.tolerance a.count a.curves.now a.firsts.now a.worsts.now a.params.now (total c) a.j (ap (λ (m : ℕ). m + count a.marks.now) c.again.ensures) (entry c).requires in
-    let a = (entry c).args in
-    let t = tested a.outline a.form a.marks.now a.tolerance a.count a.curves.now a.firsts.now a.worsts.now a.params.now (total c) a.j bounds _ _ c.curve_at-c.ensures c.first_at-first.ensures _ _ _ _ c.last_at-last.ensures c.mark_at-p.ensures c.mark_round-q.ensures c.is_run.ensures in
-    curve-rest a.outline a.form a.marks.now a.tolerance a.count a.curves.now a.firsts.now a.worsts.now a.params.now (total c) a.j bounds _ _ c.curve_at-c.ensures c.first_at-first.ensures _ c.stop_at-stop.ensures (sym t ∙ not-false _ c.if-not-is_run.false) _ c.check_under-walked.ensures c.check_kept.ensures
+    let bounds : Places c.args.outline c.args.marks.now (c.again.result + count c.args.marks.now) c.args.count c.args.firsts.now c.args.params.now c.args.j = let a = c.args in
+    places a.outline a.form a.marks.now a.tolerance a.count a.curves.now a.firsts.now a.worsts.now a.params.now (c.again.result + count c.args.marks.now) a.j (ap (λ (m : ℕ). m + count a.marks.now) c.again.ensures) c.requires in
+    let a = c.args in
+    let t = tested a.outline a.form a.marks.now a.tolerance a.count a.curves.now a.firsts.now a.worsts.now a.params.now (c.again.result + count c.args.marks.now) a.j bounds _ _ c.curve_at-c.ensures c.first_at-first.ensures _ _ _ _ c.last_at-last.ensures c.mark_at-p.ensures c.mark_round-q.ensures c.is_run.ensures in
+    curve-rest a.outline a.form a.marks.now a.tolerance a.count a.curves.now a.firsts.now a.worsts.now a.params.now (c.again.result + count c.args.marks.now) a.j bounds _ _ c.curve_at-c.ensures c.first_at-first.ensures _ c.stop_at-stop.ensures (sym t ∙ c.if-not-is_run.false) _ c.check_under-walked.ensures c.check_kept.ensures

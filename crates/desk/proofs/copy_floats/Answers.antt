@@ -1,12 +1,8 @@
 -- `desk::copy_floats` meets its contract. After i turns the first i stand in front.
-use mathlib.Core.Path.{◌≡◌, refl, ◌∙◌}
-use mathlib.Core.List.{◌++◌}
-use Prim.Native.Nat.{◌-◌, ◌≤◌}
+use mathlib.Core.Path.{refl, ◌∙◌}
 use native.Mathlib.Omega.{arith}
-use borrow.Author.Rules.{rules}
-use lib.ListN.{length, take, drop, length-set}
+use lib.ListN.{length-set}
 use lib.Ieee.{nan, binary64, of_bits}
-use Rattle.desk.specs.Desk.{floats}
 use Rattle.desk.proofs.Turns.{map-turn, map_all}
 use Rattle.desk.proofs.copy_floats.Goals as goal
 

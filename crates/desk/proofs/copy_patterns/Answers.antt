@@ -1,12 +1,8 @@
 -- `desk::copy_patterns` meets its contract. After i turns the first i stand in front.
-use mathlib.Core.Path.{◌≡◌, refl, ◌∙◌}
-use mathlib.Core.List.{◌++◌}
-use Prim.Native.Nat.{◌-◌, ◌≤◌}
+use mathlib.Core.Path.{refl, ◌∙◌}
 use native.Mathlib.Omega.{arith}
-use borrow.Author.Rules.{rules}
-use lib.ListN.{length, take, drop, length-set}
-use lib.Ieee.{nan, binary64, toBits}
-use Rattle.desk.specs.Desk.{patterns}
+use lib.ListN.{length-set}
+use lib.Ieee.{nan, binary64, to_bits}
 use Rattle.desk.proofs.Turns.{map-turn, map_all}
 use Rattle.desk.proofs.copy_patterns.Goals as goal
 
@@ -26,7 +22,7 @@ pub loop-i-preserved : goal.loop-i-preserved
 loop-i-preserved c =
     let l = c.loop-i in
     let a = c.args in
-    (omega arith, (rw (l.invariant.1.0, c.to_bits.ensures) (map-turn (toBits binary64) a.xs.now a.out.now l.i nan 0 (omega arith) (omega arith)), length-set l.out l.i c.to_bits.result ∙ l.invariant.1.1))
+    (omega arith, (rw (l.invariant.1.0, c.to_bits.ensures) (map-turn (to_bits binary64) a.xs.now a.out.now l.i nan 0 (omega arith) (omega arith)), length-set l.out l.i c.to_bits.result ∙ l.invariant.1.1))
 
 pub shape_of-out : goal.shape_of-out
 shape_of-out c = c.loop-i.invariant.1.1
@@ -35,4 +31,4 @@ pub returns : goal.returns
 returns c =
     let l = c.loop-i in
     let a = c.args in
-    l.invariant.1.0 ∙ map_all (toBits binary64) a.xs.now a.out.now l.i (omega arith) (omega arith)
+    l.invariant.1.0 ∙ map_all (to_bits binary64) a.xs.now a.out.now l.i (omega arith) (omega arith)

@@ -1,13 +1,9 @@
 -- What the loops of `desk::copy_patterns` keep.
-use mathlib.Core.Path.{◌≡◌, refl, ◌∙◌}
+use mathlib.Core.Path.{◌≡◌}
 use mathlib.Core.List.{◌++◌}
 use Prim.Native.Nat.{◌-◌, ◌≤◌}
-use native.Mathlib.Omega.{arith}
-use borrow.Author.Rules.{rules}
-use lib.ListN.{length, take, drop, length-set}
-use lib.Ieee.{nan, binary64, toBits}
+use lib.ListN.{length, take, drop}
 use Rattle.desk.specs.Desk.{patterns}
-use Rattle.desk.proofs.Turns.{map-turn, map_all}
 use Rattle.desk.proofs.copy_patterns.Given as goal
 
 abbrev pub invariant-loop-i : goal.invariant-loop-i

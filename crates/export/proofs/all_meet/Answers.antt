@@ -30,7 +30,7 @@ pub returns-then-not-all_pass : goal.returns-then-not-all_pass
 returns-then-not-all_pass c =
     let a = c.args in
     let f = curve_at a.form a.curves.now in
-    apart a.ring a.count a.held f c.if-count-eq0.false (joined_by a.held f c.all_pass.ensures (not-true _ c.if-not-all_pass.true))
+    apart a.ring a.count a.held f c.if-count-eq0.false (joined_by a.held f c.all_pass.ensures c.if-not-all_pass.true)
 
 pub curve_at-last-requires : goal.curve_at-last-requires
 curve_at-last-requires c =
@@ -45,10 +45,10 @@ pub returns-then-ring-count : goal.returns-then-ring-count
 returns-then-ring-count c =
     let a = c.args in
     let f = curve_at a.form a.curves.now in
-    c.is_same.ensures ∙ rw (c.curve_at-first.ensures, c.curve_at-last.ensures) (around a.ring a.count a.held f c.if-count-eq0.false (joined_by a.held f c.all_pass.ensures (not-false _ c.if-not-all_pass.false)) c.if-ring-count.true)
+    c.is_same.ensures ∙ rw (c.curve_at-first.ensures, c.curve_at-last.ensures) (around a.ring a.count a.held f c.if-count-eq0.false (joined_by a.held f c.all_pass.ensures c.if-not-all_pass.false) c.if-ring-count.true)
 
 pub returns : goal.returns
 returns c =
     let a = c.args in
     let f = curve_at a.form a.curves.now in
-    straight a.ring a.count a.held f c.if-count-eq0.false (joined_by a.held f c.all_pass.ensures (not-false _ c.if-not-all_pass.false)) c.if-ring-count.false
+    straight a.ring a.count a.held f c.if-count-eq0.false (joined_by a.held f c.all_pass.ensures c.if-not-all_pass.false) c.if-ring-count.false

@@ -4,4 +4,4 @@ use mathlib.Core.Path.{refl}
 use Rattle.export.proofs.point_within.Goals as goal
 
 pub returns : goal.returns
-returns c = rw (c.is_within-2.ensures, c.is_Within.ensures) refl
+returns c = rw (c.is_within-2.ensures, c.is_within.ensures) refl

@@ -1,5 +1,4 @@
 -- `faults::curve_of` meets its contract.
-use borrow.Author.Rules.{rules}
 use Rattle.faults.specs.Tests.{curve_of}
 use Rattle.faults.proofs.curve_of.Goals as goal
 

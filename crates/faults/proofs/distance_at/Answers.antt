@@ -1,5 +1,4 @@
 -- `faults::distance_at` meets its contract.
-use borrow.Author.Rules.{rules}
 use Rattle.faults.specs.Tests.{distance_at}
 use Rattle.faults.proofs.distance_at.Goals as goal
 

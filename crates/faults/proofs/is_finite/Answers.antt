@@ -1,5 +1,4 @@
 -- `faults::is_finite` meets its contract.
-use borrow.Author.Rules.{rules}
 use Rattle.faults.specs.Tests.{curve_finite}
 use Rattle.faults.proofs.is_finite.Goals as goal
 

@@ -1,5 +1,4 @@
 -- `faults::is_kept` goes by the form.
-use borrow.Author.Rules.{rules}
 use mathlib.Core.Path.{◌∙◌}
 use Rattle.faults.proofs.Forms.{kept-eight, kept_nine, nine_room}
 use Rattle.faults.proofs.is_kept.Goals as goal

@@ -1,5 +1,4 @@
 -- `faults::is_kept_in` meets its contract.
-use borrow.Author.Rules.{rules}
 use Rattle.faults.specs.Tests.{kept}
 use Rattle.faults.proofs.is_kept_in.Goals as goal
 

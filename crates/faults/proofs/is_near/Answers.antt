@@ -1,5 +1,4 @@
 -- `faults::is_near` meets its contract.
-use borrow.Author.Rules.{rules}
 use Rattle.faults.proofs.is_near.Goals as goal
 
 pub returns : goal.returns

@@ -1,5 +1,4 @@
 -- `faults::is_run` meets its contract.
-use borrow.Author.Rules.{rules}
 use Rattle.faults.specs.Tests.{runs}
 use Rattle.faults.proofs.is_run.Goals as goal
 

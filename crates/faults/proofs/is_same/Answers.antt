@@ -1,5 +1,4 @@
 -- `faults::is_same` meets its contract.
-use borrow.Author.Rules.{rules}
 use Rattle.faults.specs.Tests.{same}
 use Rattle.faults.proofs.is_same.Goals as goal
 

@@ -1,5 +1,4 @@
 -- `faults::is_timed` meets its contract.
-use borrow.Author.Rules.{rules}
 use Prim.Native.Nat.{suc}
 use mathlib.Core.Path.{sym, ◌∙◌}
 use native.Mathlib.Numerals.{add-one}

@@ -1,5 +1,4 @@
 -- `faults::rises_at` meets its contract.
-use borrow.Author.Rules.{rules}
 use Rattle.faults.proofs.Firsts.{rises_first, rises_later}
 use Rattle.faults.proofs.rises_at.Goals as goal
 

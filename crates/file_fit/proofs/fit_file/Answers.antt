@@ -7,7 +7,7 @@ use Rattle.file_fit.proofs.Turns.{fit_left_is}
 use Rattle.file_fit.proofs.fit_file.Goals as goal
 
 pub slice_bounds-fit_joined-end : goal.slice_bounds-fit_joined-end
-slice_bounds-fit_joined-end c = sym (length-take-le _ _ (omega (arith, c.copy_numbers.auto.1.1.1.0)))
+slice_bounds-fit_joined-end c = sym (length-take-le _ _ (omega (arith, c.copy_numbers.auto.out)))
 
 pub returns : goal.returns
 returns c =

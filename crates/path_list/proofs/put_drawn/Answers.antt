@@ -6,13 +6,13 @@ use Rattle.path_list.proofs.put_drawn.Goals as goal
 
 pub put_path-requires : goal.put_path-requires
 put_path-requires c =
-    let d = done_lines c.args.text.now _ c.curve_room-curves.ensures c.import_path.ensures c.count-1.given.1 in
+    let d = done_lines c.args.text.now _ c.curve_room-curves.ensures c.import_path.ensures c.in-Path.is in
     (omega arith, (d.0, omega (arith, c.curve_room-curves.ensures)))
 
 pub returns-in-Path : goal.returns-in-Path
 returns-in-Path c =
-    let d = done_lines c.args.text.now _ c.curve_room-curves.ensures c.import_path.ensures c.count-1.given.1 in
+    let d = done_lines c.args.text.now _ c.curve_room-curves.ensures c.import_path.ensures c.in-Path.is in
     (omega arith, rw d.1 c.put_path.ensures.1)
 
 pub returns-in-Refused : goal.returns-in-Refused
-returns-in-Refused c = (omega arith, rw (refused_lines c.args.text.now _ c.curve_room-curves.ensures c.import_path.ensures c.q-1.given.1) c.put_refusal.ensures.1)
+returns-in-Refused c = (omega arith, rw (refused_lines c.args.text.now _ c.curve_room-curves.ensures c.import_path.ensures c.in-Refused.is) c.put_refusal.ensures.1)

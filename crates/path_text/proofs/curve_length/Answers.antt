@@ -1,6 +1,5 @@
 -- `path_text::curve_length` meets its contract.
 use native.Mathlib.Omega.{arith}
-use borrow.Author.Rules.{rules}
 use Rattle.path_text.proofs.Parts.{curve-fine}
 use Rattle.path_text.proofs.Lengths.{curve-text}
 use Rattle.path_text.proofs.curve_length.Goals as goal

@@ -1,8 +1,6 @@
 -- `path_text::curves_length` meets its contract.
 use native.Mathlib.Omega.{arith}
 use mathlib.Core.Path.{◌≡◌, refl}
-use Prim.Native.Nat.{◌-◌, ◌*◌, ◌≤◌}
-use lib.ListN.{length}
 use Rattle.faults.specs.Tests.{curve_at}
 use Rattle.path.specs.Text.{curves_text}
 use Rattle.path_text.proofs.Records.{held, fewer}

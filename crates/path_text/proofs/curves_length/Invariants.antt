@@ -1,13 +1,9 @@
 -- What the loops of `path_text::curves_length` keep.
-use native.Mathlib.Omega.{arith}
-use mathlib.Core.Path.{◌≡◌, refl}
+use mathlib.Core.Path.{◌≡◌}
 use Prim.Native.Nat.{◌-◌, ◌*◌, ◌≤◌}
 use lib.ListN.{length}
 use Rattle.faults.specs.Tests.{curve_at}
 use Rattle.path.specs.Text.{curves_text}
-use Rattle.path_text.proofs.Records.{held, fewer}
-use Rattle.path_text.proofs.Parts.{curve_at_is}
-use Rattle.path_text.proofs.Lengths.{curves-text}
 use Rattle.path_text.proofs.curves_length.Given as goal
 
 abbrev pub invariant-loop-i : goal.invariant-loop-i

@@ -1,6 +1,5 @@
 -- `path_text::number_length` meets its contract.
 use native.Mathlib.Omega.{arith}
-use borrow.Author.Rules.{rules}
 use Rattle.path_text.proofs.Lengths.{number_text_is, number_short}
 use mathlib.Core.Path.{◌≡◌}
 use Prim.Native.Nat.{◌+◌}

@@ -1,6 +1,5 @@
 -- `path_text::path_length` meets its contract.
 use native.Mathlib.Omega.{arith}
-use borrow.Author.Rules.{rules}
 use Rattle.faults.specs.Tests.{curve_at}
 use Rattle.path_text.proofs.Records.{held, fewer}
 use Rattle.path_text.proofs.Parts.{curve-fine, curve_at_is}

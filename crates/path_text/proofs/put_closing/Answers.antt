@@ -1,6 +1,5 @@
 -- `path_text::put_closing` meets its contract.
 use native.Mathlib.Omega.{arith}
-use borrow.Author.Rules.{rules}
 use mathlib.Core.Path.{ap}
 use mathlib.Core.List.{◌∷◌, []}
 use lib.ListN.{length}

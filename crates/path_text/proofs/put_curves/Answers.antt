@@ -1,11 +1,8 @@
 -- `path_text::put_curves` meets its contract.
 use native.Mathlib.Omega.{arith}
 use mathlib.Core.Path.{◌≡◌}
-use Prim.Native.Nat.{◌-◌, ◌≤◌}
-use Rattle.text.specs.Put.{Put}
 use Rattle.text.proofs.Stores.{put-length}
 use Rattle.faults.specs.Tests.{curve_at}
-use Rattle.path.specs.Text.{curves_text}
 use Rattle.path_text.proofs.Records.{held}
 use Rattle.path_text.proofs.Parts.{curve_at_is}
 use Rattle.path_text.proofs.Lengths.{curves_grow, put-curves_none, put-curves_next}

@@ -1,6 +1,5 @@
 -- `path_text::put_number` meets its contract.
 use native.Mathlib.Omega.{arith}
-use borrow.Author.Rules.{rules}
 use mathlib.Core.List.{◌∷◌, []}
 use Rattle.text.proofs.Stores.{one}
 use Rattle.path_text.proofs.Lengths.{number_text_is, put_number_text}

@@ -1,6 +1,5 @@
 -- `path_text::put_path` meets its contract.
 use native.Mathlib.Omega.{arith}
-use borrow.Author.Rules.{rules}
 use mathlib.Core.List.{◌∷◌, []}
 use Rattle.text.proofs.Stores.{one}
 use Rattle.faults.specs.Tests.{curve_at}

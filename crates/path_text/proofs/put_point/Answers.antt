@@ -1,6 +1,5 @@
 -- `path_text::put_point` meets its contract.
 use native.Mathlib.Omega.{arith}
-use borrow.Author.Rules.{rules}
 use Rattle.path_text.proofs.Parts.{x_fine, y_fine}
 use Rattle.path_text.proofs.Lengths.{point-text, put-point-text}
 use Rattle.path_text.proofs.put_point.Goals as goal

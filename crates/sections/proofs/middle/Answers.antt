@@ -1,4 +1,3 @@
-
 use mathlib.Core.Path.{refl}
 use lib.Ieee.{add, mul, of_bits}
 use Rattle.sections.proofs.middle.Goals as goal

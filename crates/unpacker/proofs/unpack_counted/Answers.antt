@@ -10,14 +10,15 @@ use Rattle.lines.proofs.Handed.{over-short, over-whole}
 use Rattle.house.specs.File.{bytes_of}
 use Rattle.packed.specs.Unpacked.{packed_at}
 use Rattle.unpacker.proofs.Whole.{length_packed, length_unpacked, plain_same, unpacked_few}
-use borrow.Author.Rules.{rules}
 use Rattle.unpacker.proofs.unpack_counted.Goals as goal
 
 pub returns-then-k-eq0 : goal.returns-then-k-eq0
 returns-then-k-eq0 c = let a = c.args in c.hand_over.ensures ∙ ap (λ (t : List ℕ). hand_over t a.out.now) (sym (plain_same a.file.now a.form a.n a.k c.if-k-eq0.true c.requires))
 
 pub size_for-size-requires : goal.size_for-size-requires
-size_for-size-requires c = let a = c.args in unpacked_few a.form a.n a.k (omega (arith, length_packed a.file.now a.form a.n a.k (some (c)) c.requires))
+size_for-size-requires c =
+    let some : 0 < c.args.k = omega arith in
+    let a = c.args in unpacked_few a.form a.n a.k (omega (arith, length_packed a.file.now a.form a.n a.k some c.requires))
 
 pub returns-then-out-size : goal.returns-then-out-size
 returns-then-out-size c = let a = c.args in over-short (bytes_of (packed_at a.file.now a.form a.n a.k)) a.out.now (omega (arith, length_unpacked a.file.now a.form a.n a.k, c.size_for-size.ensures))

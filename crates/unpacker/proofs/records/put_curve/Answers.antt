@@ -1,7 +1,6 @@
 -- `unpacker::records::put_curve` meets its contract.
 use mathlib.Core.Path.{◌∙◌}
 use Rattle.unpacker.proofs.Pieces.{record-put}
-use borrow.Author.Rules.{rules}
 use Rattle.unpacker.proofs.records.put_curve.Goals as goal
 
 pub returns : goal.returns

@@ -1,6 +1,6 @@
 -- `unpacker::records::put_curves` meets its contract. After i turns the records of the first i curves are put.
 use mathlib.Core.Path.{◌≡◌, refl, ap, ◌∙◌}
-use Prim.Native.Nat.{ℕ, ◌+◌, ◌-◌, ◌*◌, ◌≤◌}
+use Prim.Native.Nat.{ℕ, ◌+◌, ◌*◌, ◌≤◌}
 use native.Mathlib.Omega.{arith}
 use lib.ListN.{length}
 use lib.Seq.{sets, length-sets}
@@ -10,7 +10,6 @@ use Rattle.packed.specs.Each.{each}
 use Rattle.packed.specs.Packed.{entry_bytes}
 use Rattle.unpacker.specs.Records.{record_here}
 use Rattle.unpacker.proofs.Pieces.{records_put}
-use borrow.Author.Rules.{rules}
 use Rattle.unpacker.proofs.records.put_curves.Goals as goal
 
 pub overflow_add-step : goal.overflow_add-step

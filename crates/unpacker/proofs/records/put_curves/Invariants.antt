@@ -1,16 +1,10 @@
 -- What the loops of `unpacker::records::put_curves` keep.
-use mathlib.Core.Path.{◌≡◌, refl, ap, ◌∙◌}
-use Prim.Native.Nat.{ℕ, ◌+◌, ◌-◌, ◌*◌, ◌≤◌}
-use native.Mathlib.Omega.{arith}
+use mathlib.Core.Path.{◌≡◌}
+use Prim.Native.Nat.{◌-◌, ◌≤◌}
 use lib.ListN.{length}
-use lib.Seq.{sets, length-sets}
-use Rattle.house.specs.Limits.{curve_bytes}
-use Rattle.house.proofs.Forms.{body-few, within}
+use lib.Seq.{sets}
 use Rattle.packed.specs.Each.{each}
-use Rattle.packed.specs.Packed.{entry_bytes}
 use Rattle.unpacker.specs.Records.{record_here}
-use Rattle.unpacker.proofs.Pieces.{records_put}
-use borrow.Author.Rules.{rules}
 use Rattle.unpacker.proofs.records.put_curves.Given as goal
 
 abbrev pub invariant-loop-i : goal.invariant-loop-i

@@ -12,7 +12,6 @@ use Rattle.packed.specs.Unpacked.{start_place, rest_place}
 use Rattle.packed.proofs.Sizes.{rest_is}
 use Rattle.packed.proofs.Places.{start_before}
 use Rattle.unpacker.proofs.Pieces.{numbers-put}
-use borrow.Author.Rules.{rules}
 use Rattle.unpacker.proofs.records.put_numbers.Goals as goal
 
 pub overflow_add-start : goal.overflow_add-start

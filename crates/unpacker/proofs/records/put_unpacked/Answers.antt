@@ -10,7 +10,6 @@ use Rattle.house.proofs.Forms.{body-few}
 use Rattle.grammar.proofs.Rooms.{size_some}
 use Rattle.packed.specs.Unpacked.{entry_at}
 use Rattle.unpacker.proofs.Whole.{length_packed, put_packed_is}
-use borrow.Author.Rules.{rules}
 use Rattle.unpacker.proofs.records.put_unpacked.Goals as goal
 
 pub overflow_mul-end : goal.overflow_mul-end
@@ -24,17 +23,23 @@ overflow_add-end c =
     omega (arith, whole)
 
 pub overflow_add-last : goal.overflow_add-last
-overflow_add-last c = let a = c.args in omega (arith, body-few a.form (field_for a.n), body (c))
+overflow_add-last c =
+    let body : let a = c.args in c.body_bytes.result ≡ body_bytes a.form (field_for a.n) = c.body_bytes.ensures ∙ ap (λ (f : Field). body_bytes c.args.form f) c.field_for-field.ensures in
+    let a = c.args in omega (arith, body-few a.form (field_for a.n), body)
 
 pub overflow_mul-last : goal.overflow_mul-last
 overflow_mul-last c =
     let room : let a = c.args in 20 + 16 * a.n + curve_bytes a.form (field_for a.n) * a.k + 6 + 8 * a.n ≤ length a.out.now = let s = c in omega (arith, size_some s.args.form s.args.n s.requires.0, s.requires.1.1) in
-    omega (arith, records (c), room)
+    let body : let a = c.args in c.body_bytes.result ≡ body_bytes a.form (field_for a.n) = c.body_bytes.ensures ∙ ap (λ (f : Field). body_bytes c.args.form f) c.field_for-field.ensures in
+    let records : let a = c.args in (6 + c.body_bytes.result) * a.k ≡ curve_bytes a.form (field_for a.n) * a.k = ap (λ (x : ℕ). (6 + x) * c.args.k) body in
+    omega (arith, records, room)
 
 pub overflow_add-last-2 : goal.overflow_add-last-2
 overflow_add-last-2 c =
     let room : let a = c.args in 20 + 16 * a.n + curve_bytes a.form (field_for a.n) * a.k + 6 + 8 * a.n ≤ length a.out.now = let s = c in omega (arith, size_some s.args.form s.args.n s.requires.0, s.requires.1.1) in
-    omega (arith, records (c), room)
+    let body : let a = c.args in c.body_bytes.result ≡ body_bytes a.form (field_for a.n) = c.body_bytes.ensures ∙ ap (λ (f : Field). body_bytes c.args.form f) c.field_for-field.ensures in
+    let records : let a = c.args in (6 + c.body_bytes.result) * a.k ≡ curve_bytes a.form (field_for a.n) * a.k = ap (λ (x : ℕ). (6 + x) * c.args.k) body in
+    omega (arith, records, room)
 
 pub entry_at-params-requires : goal.entry_at-params-requires
 entry_at-params-requires c =
@@ -67,8 +72,8 @@ slice_bounds-put_bytes-start c =
     let whole : let a = c.args in length a.file.now ≡ entry_at a.form a.n a.k + 6 + 8 * a.n = let s = c in length_packed s.args.file.now s.args.form s.args.n s.args.k s.requires.0 s.requires.1.0 in
     omega (arith, c.entry_at-params.ensures, whole)
 
-pub slice_bounds-put_bytes-end : goal.slice_bounds-put_bytes-end
-slice_bounds-put_bytes-end c =
+pub slice_bounds-put_bytes-end-2 : goal.slice_bounds-put_bytes-end-2
+slice_bounds-put_bytes-end-2 c =
     let whole : let a = c.args in length a.file.now ≡ entry_at a.form a.n a.k + 6 + 8 * a.n = let s = c in length_packed s.args.file.now s.args.form s.args.n s.args.k s.requires.0 s.requires.1.0 in
     omega (arith, c.entry_at-params.ensures, whole)
 
