@@ -1,12 +1,10 @@
 -- `checker::check_curves` meets its contract.
-use Prim.Native.Nat.{◌-◌}
 use native.Mathlib.Omega.{arith}
 use mathlib.Core.Path.{refl, ap}
 use Rattle.float.specs.Answer.{ok}
-use borrow.Author.Rules.{rules}
 use Rattle.ring.specs.Ring.{whole}
 use Rattle.checker.specs.Check.{checked_answer, in_turn}
-use Rattle.checker.proofs.Lists.{Faultless, faultless, halt, end}
+use Rattle.checker.proofs.Lists.{faultless, halt, end}
 use Rattle.checker.proofs.check_curves.Goals as goal
 
 pub loop-j-init : goal.loop-j-init

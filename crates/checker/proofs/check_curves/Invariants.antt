@@ -1,12 +1,7 @@
 -- What the loops of `checker::check_curves` keep.
 use Prim.Native.Nat.{◌-◌}
-use native.Mathlib.Omega.{arith}
-use mathlib.Core.Path.{refl, ap}
-use Rattle.float.specs.Answer.{ok}
-use borrow.Author.Rules.{rules}
 use Rattle.ring.specs.Ring.{whole}
-use Rattle.checker.specs.Check.{checked_answer, in_turn}
-use Rattle.checker.proofs.Lists.{Faultless, faultless, halt, end}
+use Rattle.checker.proofs.Lists.{Faultless}
 use Rattle.checker.proofs.check_curves.Given as goal
 
 abbrev pub invariant-loop-j : goal.invariant-loop-j

@@ -1,11 +1,9 @@
 -- `checker::check_firsts` meets its contract.
-use borrow.Author.Rules.{rules}
-use Prim.Native.Nat.{◌-◌}
 use native.Mathlib.Omega.{arith}
 use mathlib.Core.Path.{refl, ap}
 use Rattle.float.specs.Answer.{ok}
 use Rattle.checker.specs.Check.{checked_answer, in_turn}
-use Rattle.checker.proofs.Firsts.{Rising, none_listed, many_listed, rising-more, rising_stop, rising_end}
+use Rattle.checker.proofs.Firsts.{none_listed, many_listed, rising-more, rising_stop, rising_end}
 use Rattle.checker.proofs.Turns.{by_fault}
 use Rattle.checker.proofs.check_firsts.Goals as goal
 

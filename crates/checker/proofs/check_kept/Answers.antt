@@ -1,5 +1,4 @@
 -- `checker::check_kept` meets its contract.
-use borrow.Author.Rules.{rules}
 use Rattle.checker.proofs.Kept.{by_stop, by_kept, by_unkept}
 use Rattle.checker.proofs.check_kept.Goals as goal
 

@@ -1,13 +1,9 @@
 -- `checker::check_marks` meets its contract.
-use Prim.Native.Nat.{◌-◌}
 use native.Mathlib.Omega.{arith}
 use mathlib.Core.Path.{refl}
-use borrow.Author.Rules.{rules}
-use borrow.Author.Tests.{not-true, not-false}
-use lib.ListN.{length}
 use Rattle.faults.specs.Tests.{farther}
 use Rattle.checker.specs.Check.{in_turn}
-use Rattle.checker.proofs.Under.{Faultless, fault_c, fault_d, faultless, faultless_end}
+use Rattle.checker.proofs.Under.{fault_c, fault_d, faultless, faultless_end}
 use Rattle.checker.proofs.check_marks.Goals as goal
 
 pub loop-i-init : goal.loop-i-init

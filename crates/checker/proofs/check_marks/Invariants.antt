@@ -1,13 +1,7 @@
 -- What the loops of `checker::check_marks` keep.
 use Prim.Native.Nat.{◌-◌}
-use native.Mathlib.Omega.{arith}
-use mathlib.Core.Path.{refl}
-use borrow.Author.Rules.{rules}
-use borrow.Author.Tests.{not-true, not-false}
 use lib.ListN.{length}
-use Rattle.faults.specs.Tests.{farther}
-use Rattle.checker.specs.Check.{in_turn}
-use Rattle.checker.proofs.Under.{Faultless, fault_c, fault_d, faultless, faultless_end}
+use Rattle.checker.proofs.Under.{Faultless}
 use Rattle.checker.proofs.check_marks.Given as goal
 
 abbrev pub invariant-loop-i : goal.invariant-loop-i

@@ -1,5 +1,4 @@
 -- `checker::check_ring` meets its contract.
-use borrow.Author.Rules.{rules}
 use Rattle.checker.proofs.check_ring.Goals as goal
 
 pub returns : goal.returns

@@ -2,7 +2,6 @@
 use native.Mathlib.Omega.{arith}
 use lib.ListN.{length-set}
 use lib.Seq.{sets-eq}
-use borrow.Author.Rules.{rules}
 use Rattle.cut.specs.Run.{flat}
 use Rattle.cut.proofs.put_record.Goals as goal
 

@@ -1,5 +1,4 @@
 -- `sieve::fate_of` meets its contract.
-use borrow.Author.Rules.{rules}
 use mathlib.Core.Path.{sym, ◌∙◌}
 use Rattle.sieve.proofs.Fates.{fate_range, fate_equal, fate_kept}
 use Rattle.sieve.proofs.fate_of.Goals as goal

@@ -1,5 +1,4 @@
 -- `sieve::mark_at` meets its contract.
-use borrow.Author.Rules.{rules}
 use mathlib.Core.Path.{refl}
 use Rattle.sieve.proofs.mark_at.Goals as goal
 

@@ -1,5 +1,5 @@
 -- `creators::boxes::all` is safe and ends.
-use Rattle.std.proofs.Common.{◌<◌, arith, rules}
+use Rattle.std.proofs.Common.{arith}
 use Rattle.creators.proofs.boxes.all.Goals as goal
 
 pub loop-left-init : goal.loop-left-init

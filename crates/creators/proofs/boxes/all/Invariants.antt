@@ -1,5 +1,5 @@
 -- What the loops of `creators::boxes::all` keep.
-use Rattle.std.proofs.Common.{◌<◌, arith, rules}
+use Rattle.std.proofs.Common.{◌<◌}
 use Rattle.creators.proofs.boxes.all.Given as goal
 
 abbrev pub invariant-loop-left : goal.invariant-loop-left

@@ -1,5 +1,5 @@
 -- `creators::boxes::extend` is safe and ends.
-use Rattle.std.proofs.Common.{◌-◌, ◌≤◌, arith, rules}
+use Rattle.std.proofs.Common.{arith}
 use Rattle.creators.proofs.boxes.extend.Goals as goal
 
 pub offset_bounds-next-k : goal.offset_bounds-next-k

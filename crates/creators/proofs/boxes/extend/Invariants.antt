@@ -1,5 +1,5 @@
 -- What the loops of `creators::boxes::extend` keep.
-use Rattle.std.proofs.Common.{◌-◌, ◌≤◌, arith, rules}
+use Rattle.std.proofs.Common.{◌-◌, ◌≤◌}
 use Rattle.creators.proofs.boxes.extend.Given as goal
 
 abbrev pub invariant-loop-j : goal.invariant-loop-j

@@ -1,5 +1,4 @@
 -- `creators::tree::depth_changes` meets its contract.
-use Rattle.std.proofs.Common.{rules}
 use Rattle.creators.proofs.tree.depth_changes.Goals as goal
 
 pub returns : goal.returns

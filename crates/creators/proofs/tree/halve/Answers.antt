@@ -1,5 +1,4 @@
 -- `creators::tree::halve` meets its contract.
-use Rattle.std.proofs.Common.{rules}
 use Rattle.creators.proofs.tree.halve.Goals as goal
 
 pub returns : goal.returns

@@ -1,7 +1,6 @@
 -- `creators::tree::is_live` meets its contract.
 use lib.Ieee.{of_bits}
 use Rattle.sections.proofs.Test.{test_is}
-use Rattle.std.proofs.Common.{rules}
 use Rattle.creators.proofs.tree.is_live.Goals as goal
 
 pub returns : goal.returns

@@ -1,5 +1,4 @@
 -- `creators::tree::sign_changes` meets its contract.
-use Rattle.std.proofs.Common.{rules}
 use Rattle.creators.proofs.tree.sign_changes.Goals as goal
 
 pub returns : goal.returns

@@ -1,6 +1,5 @@
 -- `creators::tree::signed` meets its contract.
 use Rattle.creators.proofs.Classes.{sign_is}
-use Rattle.std.proofs.Common.{rules}
 use Rattle.creators.proofs.tree.signed.Goals as goal
 
 pub returns : goal.returns

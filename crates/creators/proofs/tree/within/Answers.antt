@@ -1,7 +1,7 @@
 -- `creators::tree::within` meets its contract: the live sections at a depth are those counted and those below what waits.
-use Rattle.std.proofs.Common.{◌-◌, get_or, sym, refl, ◌∙◌, arith, rules}
+use Rattle.std.proofs.Common.{◌-◌, get_or, sym, refl, ◌∙◌, arith}
 use Rattle.float.proofs.Truth.{never}
-use Rattle.creators.proofs.Count.{blank, Counting, start, done, too_deep, dead, splits}
+use Rattle.creators.proofs.Count.{blank, start, done, too_deep, dead, splits}
 use Rattle.creators.proofs.tree.within.Goals as goal
 
 pub loop-n-init : goal.loop-n-init

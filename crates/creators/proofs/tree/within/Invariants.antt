@@ -1,7 +1,6 @@
 -- What the loops of `creators::tree::within` keep.
-use Rattle.std.proofs.Common.{◌-◌, get_or, sym, refl, ◌∙◌, arith, rules}
-use Rattle.float.proofs.Truth.{never}
-use Rattle.creators.proofs.Count.{blank, Counting, start, done, too_deep, dead, splits}
+use Rattle.std.proofs.Common.{get_or}
+use Rattle.creators.proofs.Count.{blank, Counting}
 use Rattle.creators.proofs.tree.within.Given as goal
 
 abbrev pub invariant-loop-n : goal.invariant-loop-n

@@ -1,5 +1,5 @@
 -- `nearest_cases::case::report_all` is safe and ends: no more cases are read than its bound.
-use Rattle.std.proofs.Common.{◌≡◌, ◌-◌, refl, arith, rules}
+use Rattle.std.proofs.Common.{refl, arith}
 use Rattle.nearest_cases.proofs.case.report_all.Goals as goal
 
 pub loop-line-init : goal.loop-line-init

@@ -1,5 +1,5 @@
 -- What the loops of `nearest_cases::case::report_all` keep.
-use Rattle.std.proofs.Common.{◌≡◌, ◌-◌, refl, arith, rules}
+use Rattle.std.proofs.Common.{◌≡◌, ◌-◌}
 use Rattle.nearest_cases.proofs.case.report_all.Given as goal
 
 abbrev pub invariant-loop-line : goal.invariant-loop-line

@@ -1,5 +1,4 @@
 -- `nearest_cases::words::bits` meets its contract.
-use Rattle.std.proofs.Common.{rules}
 use Rattle.float.proofs.Bits.{number}
 use Rattle.nearest_cases.proofs.words.bits.Goals as goal
 

@@ -1,5 +1,5 @@
 -- `nearest_cases::words::number` meets its contract.
-use Rattle.std.proofs.Common.{◌*◌, ◌%◌, ◌^◌, Bool, not, T, ltb, sym, subst, not-le_of_lt, ltb→lt, rules}
+use Rattle.std.proofs.Common.{◌*◌, ◌%◌, ◌^◌, Bool, not, T, ltb, sym, subst, not-le_of_lt, ltb→lt}
 use lib.Dec.{not_T}
 use lib.Ieee.{binary64}
 use lib.Ieee.Bits.{nan_bits_above}

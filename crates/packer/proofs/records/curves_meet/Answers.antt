@@ -1,13 +1,11 @@
 -- `packer::records::curves_meet` meets its contract. After i turns the first i curves end where the next ones start.
 use mathlib.Core.Path.{◌≡◌, refl, sym, ◌∙◌}
-use Prim.Native.Nat.{suc, ◌+◌, ◌-◌, ◌≤◌}
+use Prim.Native.Nat.{◌+◌, ◌-◌, ◌≤◌}
 use native.Mathlib.Omega.{arith}
 use lib.ListN.{drop}
 use Rattle.float.proofs.Truth.{true-false}
 use Rattle.house.specs.Bytes.{words, same}
-use Rattle.house.specs.Held.{file_at}
 use Rattle.packed.specs.Each.{each}
-use Rattle.packed.specs.Packed.{start_at, end_at}
 use Rattle.packed.proofs.Sizes.{rest_long}
 use Rattle.packer.specs.Layout.{record_at, numbers_place}
 use Rattle.packer.proofs.Pieces.{numbers_within}

@@ -5,7 +5,6 @@ use native.Mathlib.Omega.{arith}
 use Rattle.house.specs.Limits.{field_for, mark_field, curve_bytes}
 use Rattle.house.proofs.Forms.{within, beside_within}
 use Rattle.packer.proofs.Pieces.{mark_some, mark_last}
-use borrow.Author.Rules.{rules}
 use Rattle.packer.proofs.records.mark_at.Goals as goal
 
 pub returns-then-i-k : goal.returns-then-i-k

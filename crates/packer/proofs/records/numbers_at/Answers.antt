@@ -3,7 +3,6 @@ use mathlib.Core.Path.{◌≡◌, ap, ◌∙◌}
 use native.Mathlib.Omega.{arith}
 use Rattle.house.specs.declared.sizes.Field.{Field}
 use Rattle.house.specs.Limits.{field_for, beside_bytes}
-use borrow.Author.Rules.{rules}
 use Rattle.packer.proofs.records.numbers_at.Goals as goal
 
 pub overflow_add-result : goal.overflow_add-result

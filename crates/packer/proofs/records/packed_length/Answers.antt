@@ -3,7 +3,6 @@ use mathlib.Core.Path.{◌≡◌, ap}
 use Prim.Native.Nat.{ℕ, ◌*◌}
 use native.Mathlib.Omega.{arith}
 use Rattle.packed.specs.Packed.{entry_bytes}
-use borrow.Author.Rules.{rules}
 use Rattle.packer.proofs.records.packed_length.Goals as goal
 
 pub overflow_mul-result : goal.overflow_mul-result

@@ -1,15 +1,14 @@
 -- `packer::records::put_entries` meets its contract. After i turns the first i curves are put.
 use mathlib.Core.Path.{◌≡◌, refl, ap, ◌∙◌}
-use Prim.Native.Nat.{ℕ, ◌+◌, ◌-◌, ◌*◌, ◌≤◌}
+use Prim.Native.Nat.{ℕ, ◌+◌, ◌*◌, ◌≤◌}
 use native.Mathlib.Omega.{arith}
 use lib.ListN.{length}
-use lib.Seq.{sets, length-sets}
+use lib.Seq.{length-sets}
 use Rattle.house.specs.Held.{file_at}
 use Rattle.house.proofs.Forms.{within}
 use Rattle.packed.specs.Each.{each}
 use Rattle.packed.specs.Packed.{entry_bytes, entry_of}
 use Rattle.packer.proofs.Puts.{entries_put}
-use borrow.Author.Rules.{rules}
 use Rattle.packer.proofs.records.put_entries.Goals as goal
 
 pub loop-i-init : goal.loop-i-init

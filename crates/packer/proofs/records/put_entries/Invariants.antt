@@ -1,15 +1,11 @@
 -- What the loops of `packer::records::put_entries` keep.
-use mathlib.Core.Path.{◌≡◌, refl, ap, ◌∙◌}
-use Prim.Native.Nat.{ℕ, ◌+◌, ◌-◌, ◌*◌, ◌≤◌}
-use native.Mathlib.Omega.{arith}
+use mathlib.Core.Path.{◌≡◌}
+use Prim.Native.Nat.{◌-◌, ◌≤◌}
 use lib.ListN.{length}
-use lib.Seq.{sets, length-sets}
+use lib.Seq.{sets}
 use Rattle.house.specs.Held.{file_at}
-use Rattle.house.proofs.Forms.{within}
 use Rattle.packed.specs.Each.{each}
-use Rattle.packed.specs.Packed.{entry_bytes, entry_of}
-use Rattle.packer.proofs.Puts.{entries_put}
-use borrow.Author.Rules.{rules}
+use Rattle.packed.specs.Packed.{entry_of}
 use Rattle.packer.proofs.records.put_entries.Given as goal
 
 abbrev pub invariant-loop-i : goal.invariant-loop-i

@@ -5,7 +5,6 @@ use Rattle.house.specs.Limits.{field_for, curve_bytes}
 use Rattle.house.proofs.Forms.{within}
 use Rattle.packer.proofs.Pieces.{numbers_within}
 use Rattle.packer.proofs.Puts.{entry_put}
-use borrow.Author.Rules.{rules}
 use Rattle.packer.proofs.records.put_entry.Goals as goal
 
 pub rest_at-from-requires : goal.rest_at-from-requires

@@ -2,7 +2,6 @@
 use native.Mathlib.Omega.{arith}
 use Rattle.packed.proofs.Sizes.{flag-few}
 use Rattle.packer.proofs.Puts.{flag-put}
-use borrow.Author.Rules.{rules}
 use Rattle.packer.proofs.records.put_flag.Goals as goal
 
 pub overflow_cast-out : goal.overflow_cast-out

@@ -4,7 +4,6 @@ use Prim.Native.Nat.{◌+◌, ◌*◌}
 use native.Mathlib.Omega.{arith}
 use Rattle.packer.proofs.Pieces.{numbers_within}
 use Rattle.packer.proofs.Puts.{lead_put}
-use borrow.Author.Rules.{rules}
 use Rattle.packer.proofs.records.put_lead.Goals as goal
 
 pub packed_length-requires : goal.packed_length-requires

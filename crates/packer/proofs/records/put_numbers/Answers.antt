@@ -7,7 +7,6 @@ use lib.ListN.{length-take, length-drop}
 use Rattle.house.specs.Bytes.{all_fit}
 use Rattle.house.proofs.Numbers.{fit-each}
 use Rattle.packer.proofs.Pieces.{part_put}
-use borrow.Author.Rules.{rules}
 use Rattle.packer.proofs.records.put_numbers.Goals as goal
 
 pub put_bytes-requires : goal.put_bytes-requires

@@ -12,7 +12,6 @@ use Rattle.heads.proofs.Ways.{Told, told}
 use Rattle.packed.specs.Unpacked.{entry_at}
 use Rattle.packed.proofs.Sizes.{packed_size_some}
 use Rattle.packer.proofs.Whole.{with_curves, whole-put}
-use borrow.Author.Rules.{rules}
 use Rattle.packer.proofs.records.put_packed.Goals as goal
 
 pub overflow_mul-end : goal.overflow_mul-end
@@ -91,4 +90,5 @@ pub returns : goal.returns
 returns c =
     let laid : let a = c.args in Told a.file.now a.form a.n a.k = told _ _ _ _ c.requires.0 in
     let curves : let a = c.args in Ended a.file.now a.form a.n a.k = with_curves laid.laid c.requires.1.0 in
-    let a = c.args in whole-put a.file.now (bytes (c)) a.form a.n a.k (laid_started laid.laid) curves a.out.now c.requires.1.1 c.put_bytes.ensures.1 c.put_lead.ensures c.put_entries.ensures c.put_bytes-2.ensures.1 c.record_at.ensures refl c.entry_at.ensures c.entry_at-2.ensures
+    let bytes : all_fit 1 c.args.file.now ≡ true = fit-each 1 c.args.file.now (λ i. omega (arith, c.type_inv.file i)) in
+    let a = c.args in whole-put a.file.now bytes a.form a.n a.k (laid_started laid.laid) curves a.out.now c.requires.1.1 c.put_bytes.ensures.1 c.put_lead.ensures c.put_entries.ensures c.put_bytes-2.ensures.1 c.record_at.ensures refl c.entry_at.ensures c.entry_at-2.ensures

@@ -7,7 +7,6 @@ use Rattle.house.specs.Limits.{field_for, mark_field}
 use Rattle.house.proofs.Forms.{beside_within}
 use Rattle.packer.specs.Layout.{record_at}
 use Rattle.packer.proofs.Puts.{worst_none, worst_one}
-use borrow.Author.Rules.{rules}
 use Rattle.packer.proofs.records.put_worst.Goals as goal
 
 pub returns-in_default : goal.returns-in_default

@@ -5,7 +5,6 @@ use native.Mathlib.Omega.{arith}
 use Rattle.house.specs.declared.sizes.Field.{Field}
 use Rattle.house.specs.Limits.{field_for, body_bytes, curve_bytes}
 use Rattle.house.proofs.Forms.{body-few}
-use borrow.Author.Rules.{rules}
 use Rattle.packer.proofs.records.record_at.Goals as goal
 
 pub overflow_add-step : goal.overflow_add-step

@@ -3,7 +3,6 @@ use mathlib.Core.Path.{◌≡◌, sym, ◌∙◌}
 use lib.Dec.{eqb}
 use Rattle.house.specs.Bytes.{num}
 use Rattle.packer.proofs.Meets.{point_by, point_no}
-use borrow.Author.Rules.{rules}
 use Rattle.packer.proofs.records.same_point.Goals as goal
 
 pub returns-then-same_bits : goal.returns-then-same_bits
