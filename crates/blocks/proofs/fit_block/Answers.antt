@@ -1,5 +1,4 @@
 -- `blocks::fit_block`: the tangents taken out first, and then the run.
-use borrow.Author.Rules.{rules}
 use native.Mathlib.Omega.{arith}
 use mathlib.Core.Path.{sym}
 use Rattle.ring.proofs.Whole.{again-small}
@@ -15,14 +14,14 @@ pub fit_marks-requires : goal.fit_marks-requires
 fit_marks-requires c =
     let a = c.args in
     let p = c.requires in
-    let m = marks_of_is a.cutting a.marks.now a.n p.0.0 (omega (arith, p)) in
+    let m = marks_of_is a.cutting a.marks.now a.n p.marks_len.0 (omega (arith, p)) in
     let s = again-small (outline_of a.cutting) in
-    ((m.0, (omega (arith, p, m), (p.1.1.0, p.1.1.1))), same_ready _ _ a.from _ _ _ _ _ (sym (block_as-closed a.cutting a.marks.now a.n a.from a.to p.0.0 (omega (arith, p)) (omega (arith, p)))) (block_ready (marks_of a.cutting a.marks.now) a.n a.from a.to a.tolerance a.curves.now a.firsts.now a.worsts.now a.params.now p.0 p.1.0 p.1.1))
+    record { even = (m.0, (omega (arith, p, m), (p.to_value.0, p.to_value.1))); ready = same_ready _ _ a.from _ _ _ _ _ (sym (block_as-closed a.cutting a.marks.now a.n a.from a.to p.marks_len.0 (omega (arith, p)) (omega (arith, p)))) (block_ready (marks_of a.cutting a.marks.now) a.n a.from a.to a.tolerance a.curves.now a.firsts.now a.worsts.now a.params.now p.marks_len p.from_bound p.to_value) }
 
 pub returns : goal.returns
 returns c =
     let a = c.args in
     let p = c.requires in
-    let w = c.ways-1 in
-    block_ran a.cutting (marks_of a.cutting a.marks.now) a.n a.tolerance a.from a.to c.ways_of.result c.ways_of.ensures w.given.0.0 w.given.1 _ _ _ _ _ _ _ _
-    (same_marks _ _ a.from w.given.0.0.start w.given.0.0.end a.tolerance _ _ _ _ _ _ _ _ (block_as-closed a.cutting a.marks.now a.n a.from a.to p.0.0 (omega (arith, p)) (omega (arith, p))) c.fit_marks.ensures)
+    let w = c.in-At.ways in
+    block_ran a.cutting (marks_of a.cutting a.marks.now) a.n a.tolerance a.from a.to c.ways_of.result c.ways_of.ensures w c.in-At.is _ _ _ _ _ _ _ _
+    (same_marks _ _ a.from w.start w.end a.tolerance _ _ _ _ _ _ _ _ (block_as-closed a.cutting a.marks.now a.n a.from a.to p.marks_len.0 (omega (arith, p)) (omega (arith, p))) c.fit_marks.ensures)

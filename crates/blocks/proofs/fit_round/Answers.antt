@@ -1,5 +1,4 @@
 -- `blocks::fit_round`: the array's front holds the marks and mark 0, and the run is over those.
-use borrow.Author.Rules.{rules}
 use native.Mathlib.Omega.{arith}
 use Prim.Native.Nat.{◌*◌}
 use mathlib.Core.Path.{◌≡◌, sym}
@@ -15,10 +14,10 @@ slice_bounds-fit_part-end c = sym (length-take-le _ _ (omega (arith, c.lay_round
 
 pub fit_part-requires : goal.fit_part-requires
 fit_part-requires c =
-    let front : take (2 * length c.args.params.now) c.lay_round.new.out ≡ drop (2 * c.args.from) (whole Closed c.args.marks.now) = laid-front _ _ _ c.lay_round.ensures c.requires.1.even in
-    same_ready _ _ c.args.from _ _ _ _ _ (sym front) c.requires.1
+    let front : take (2 * length c.args.params.now) c.lay_round.new.out ≡ drop (2 * c.args.from) (whole Closed c.args.marks.now) = laid-front _ _ _ c.lay_round.ensures c.requires.ready.even in
+    same_ready _ _ c.args.from _ _ _ _ _ (sym front) c.requires.ready
 
 pub returns : goal.returns
 returns c =
-    let front : take (2 * length c.args.params.now) c.lay_round.new.out ≡ drop (2 * c.args.from) (whole Closed c.args.marks.now) = laid-front _ _ _ c.lay_round.ensures c.requires.1.even in
+    let front : take (2 * length c.args.params.now) c.lay_round.new.out ≡ drop (2 * c.args.from) (whole Closed c.args.marks.now) = laid-front _ _ _ c.lay_round.ensures c.requires.ready.even in
     same_marks _ _ c.args.from c.args.start c.args.end c.args.tolerance _ _ _ _ _ _ _ _ front c.fit_part.ensures

@@ -2,8 +2,6 @@
 use mathlib.Core.Path.{◌≡◌, ◌∙◌}
 use Prim.Native.Nat.{◌+◌, ◌-◌}
 use native.Mathlib.Omega.{arith}
-use borrow.Author.Rules.{rules}
-use borrow.Author.Tests.{not-true, not-false}
 use Rattle.faults.specs.Tests.{curve_at}
 use Rattle.path_text.proofs.Records.{held}
 use Rattle.export.proofs.Tests.{joined_by, ring_held, no_curves, none_held, apart, around, straight}

@@ -1,7 +1,6 @@
 -- `export::all_pass` meets its contract.
 use native.Mathlib.Omega.{arith}
 use mathlib.Core.Path.{◌≡◌, refl}
-use Prim.Native.Nat.{◌-◌, ◌≤◌}
 use Rattle.faults.specs.Tests.{curve_at}
 use Rattle.path.specs.Range.{every}
 use Rattle.export.specs.Tests.{passes}

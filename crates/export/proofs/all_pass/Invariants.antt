@@ -1,12 +1,9 @@
 -- What the loops of `export::all_pass` keep.
-use native.Mathlib.Omega.{arith}
-use mathlib.Core.Path.{◌≡◌, refl}
+use mathlib.Core.Path.{◌≡◌}
 use Prim.Native.Nat.{◌-◌, ◌≤◌}
 use Rattle.faults.specs.Tests.{curve_at}
 use Rattle.path.specs.Range.{every}
 use Rattle.export.specs.Tests.{passes}
-use Rattle.export.proofs.Records.{tested}
-use Rattle.export.proofs.Tests.{every_next}
 use Rattle.export.proofs.all_pass.Given as goal
 
 abbrev pub invariant-loop-i : goal.invariant-loop-i

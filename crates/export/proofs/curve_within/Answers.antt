@@ -1,5 +1,4 @@
 -- `export::curve_within` meets its contract.
-use borrow.Author.Rules.{rules}
 use mathlib.Core.Path.{refl}
 use Rattle.path.specs.Range.{curve_within}
 use Rattle.export.proofs.curve_within.Goals as goal

@@ -1,7 +1,5 @@
 -- `export::export_path` meets its contract.
 use native.Mathlib.Omega.{arith}
-use borrow.Author.Rules.{rules}
-use borrow.Author.Tests.{not-true, not-false}
 use lib.ListN.{length}
 use Rattle.faults.specs.Tests.{curve_at}
 use Rattle.path.specs.Range.{every}

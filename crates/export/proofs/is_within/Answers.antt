@@ -1,5 +1,4 @@
 -- `export::is_within` meets its contract.
-use borrow.Author.Rules.{rules}
 use mathlib.Core.Path.{refl}
 use lib.Ieee.{of_bits}
 use Rattle.export.proofs.is_within.Goals as goal

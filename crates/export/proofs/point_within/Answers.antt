@@ -1,5 +1,4 @@
 -- `export::point_within` meets its contract.
-use borrow.Author.Rules.{rules}
 use mathlib.Core.Path.{refl}
 use Rattle.export.proofs.point_within.Goals as goal
 

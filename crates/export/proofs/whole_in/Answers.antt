@@ -1,7 +1,6 @@
 -- `export::whole_in` meets its contract.
 use Prim.Native.Nat.{◌/◌, ◌<◌, ◌≤◌}
 use native.Mathlib.Omega.{arith}
-use borrow.Author.Rules.{rules}
 use Rattle.form.specs.Form.{width}
 use Rattle.export.proofs.Records.{some}
 use Rattle.export.proofs.whole_in.Goals as goal

@@ -1,6 +1,5 @@
 -- `path_list::put_closed` meets its contract.
 use native.Mathlib.Omega.{arith}
-use borrow.Author.Rules.{rules}
 use mathlib.Core.List.{[], ◌∷◌}
 use Rattle.text.proofs.Stores.{one}
 use Rattle.path_list.specs.PathList.{closed_word}

@@ -1,11 +1,8 @@
 -- `path_list::put_curves` meets its contract.
 use native.Mathlib.Omega.{arith}
 use mathlib.Core.Path.{◌≡◌}
-use Prim.Native.Nat.{◌+◌, ◌-◌, ◌*◌, ◌≤◌}
 use lib.ListN.{length-take, length-drop}
-use Rattle.text.specs.Put.{Put}
 use Rattle.text.proofs.Stores.{put-length}
-use Rattle.path_list.specs.PathList.{curve_lines}
 use Rattle.path_list.proofs.Lines.{put_none, put_next}
 use Rattle.path_list.proofs.put_curves.Goals as goal
 

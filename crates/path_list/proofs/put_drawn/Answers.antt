@@ -1,6 +1,5 @@
 -- `path_list::put_drawn` meets its contract.
 use native.Mathlib.Omega.{arith}
-use borrow.Author.Rules.{rules}
 use Rattle.path_list.proofs.Ways.{done_lines, refused_lines}
 use Rattle.path_list.proofs.put_drawn.Goals as goal
 

@@ -1,6 +1,5 @@
 -- `path_list::put_head` meets its contract.
 use native.Mathlib.Omega.{arith}
-use borrow.Author.Rules.{rules}
 use Rattle.text.specs.Text.{decimal}
 use Rattle.text.proofs.Stores.{one}
 use Rattle.text.proofs.Digits.{decimal_u64}

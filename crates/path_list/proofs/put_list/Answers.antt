@@ -1,6 +1,5 @@
 -- `path_list::put_list` meets its contract.
 use native.Mathlib.Omega.{arith}
-use borrow.Author.Rules.{rules}
 use Rattle.path_list.proofs.Ways.{list_long, list-drawn}
 use Rattle.path_list.proofs.put_list.Goals as goal
 

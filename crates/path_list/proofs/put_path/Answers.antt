@@ -1,6 +1,5 @@
 -- `path_list::put_path` meets its contract.
 use native.Mathlib.Omega.{arith}
-use borrow.Author.Rules.{rules}
 use Rattle.path_list.proofs.Lines.{put-path_lines}
 use Rattle.path_list.proofs.put_path.Goals as goal
 

@@ -6,10 +6,10 @@ use borrow.Author.Rules.{rules}
 use Rattle.salvaging.proofs.salvage.Goals as goal
 
 pub returns-in_default : goal.returns-in_default
-returns-in_default c = let a = c.args in salvage_broken a.file.now a.out.now a.report.now (sym c.find_held-held.ensures ∙ c.enum_told-1.given.1)
+returns-in_default c = let a = c.args in salvage_broken a.file.now a.out.now a.report.now (sym c.find_held-held.ensures ∙ c.in_default.is)
 
 pub clean-requires : goal.clean-requires
-clean-requires c = let t = held_told _ _ _ _ _ (sym c.find_held-held.ensures ∙ c.held-1.given.1) in (t.marks, held-few t)
+clean-requires c = let t = held_told _ _ _ _ _ (sym c.find_held-held.ensures ∙ c.in-Counts.is) in (t.marks, held-few t)
 
 pub returns : goal.returns
-returns c = let a = c.args in salvage-done a.out.now a.report.now (held_told _ _ _ _ _ (sym c.find_held-held.ensures ∙ c.held-1.given.1)) c.clean.ensures
+returns c = let a = c.args in salvage-done a.out.now a.report.now (held_told _ _ _ _ _ (sym c.find_held-held.ensures ∙ c.in-Counts.is)) c.clean.ensures

@@ -3,7 +3,7 @@ use borrow.Author.Rules.{rules}
 use Rattle.saving.proofs.as_listed.Goals as goal
 
 pub returns-in-Bytes : goal.returns-in-Bytes
-returns-in-Bytes c = rw c.wrote-1.given.1
+returns-in-Bytes c = rw c.in-Bytes.is
 
 pub returns-in-Refused : goal.returns-in-Refused
-returns-in-Refused c = rw c.wrote-in-Refused-1.given.1
+returns-in-Refused c = rw c.in-Refused.is
