@@ -114,6 +114,10 @@ module _ (b M P W C Q : List ℕ) (r : Read) {M' P' W' C' Q' : List ℕ} (h : le
           let u : p ≡ crowded_as s = z ∙ ap crowded_as g in
           rw u (λ i. outcome (refused (crowded_as s)) (x i).marks (x i).firsts (x i).worsts (x i).curves (x i).params)
 
+-- the arm of a file that was refused
+pub refused_tag : (r : Read) {q : ℕ} → r ≡ read.Refused q → OneOf (1 ∷ []) (tag_of the_type r)
+refused_tag r e = rw e refl
+
 -- ---- what it tells
 
 record Within (b : List ℕ) (F : File) : Type 0 where

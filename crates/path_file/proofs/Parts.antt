@@ -31,6 +31,10 @@ use Rattle.export.proofs.Exported.{exported_short}
 use Rattle.path_file.specs.PathFile.{cutting_for, ring_fit, line_of}
 use Rattle.path_file.specs.Left.{Left, refusal_in}
 
+-- the arm of a text that was refused
+pub refused_tag : (r : Listed) {q : ℕ} → r ≡ Refused q → OneOf (1 ∷ []) (tag_of the_type r)
+refused_tag r e = rw e refl
+
 -- what the fit left, in the definition's words
 pub fit_left_is : (ring : Bool) (b : List ℕ) (n : ℕ) (l M C : List Float) (P W : List ℕ) (Q : List Float) (w : ℕ) (t : Float) (X : Answer ℕ) (C' : List Float) (P' W' : List ℕ) (Q' : List Float)
     → M ≡ written (floats (words (2 * n) (drop 20 b))) l

@@ -1,7 +1,6 @@
 -- `verdict::check_file` meets its contract.
 use mathlib.Core.Path.{sym}
 use native.Mathlib.Omega.{arith}
-use borrow.Author.Rules.{rules}
 use lib.Seq.{length-take-le}
 use Rattle.verdict.proofs.Ways.{checked-as}
 use Rattle.verdict.proofs.check_file.Goals as goal

@@ -1,7 +1,6 @@
 -- `verdict::judge_file` meets its contract.
 use mathlib.Core.Path.{sym}
 use native.Mathlib.Omega.{arith}
-use borrow.Author.Rules.{rules}
 use lib.Seq.{length-take-le}
 use Rattle.lines.proofs.Handed.{over-front}
 use Rattle.verdict.proofs.judge_file.Goals as goal

@@ -1,5 +1,4 @@
 -- `verdict::put_fault` meets its contract.
-use borrow.Author.Rules.{rules}
 use Rattle.verdict.proofs.put_fault.Goals as goal
 
 pub returns-in-A : goal.returns-in-A

@@ -1,15 +1,16 @@
 -- `verdict::put_judgement` meets its contract.
-use mathlib.Core.Path.{sym}
+use mathlib.Core.Path.{sym, ap}
+use denote.Enum.Declared.{tag_of}
+use Rattle.reader.specs.contracts.Read.{the_type}
 use native.Mathlib.Omega.{arith}
-use borrow.Author.Rules.{rules}
 use lib.ListN.{length-take}
 use lib.Seq.{length-take-le}
-use Rattle.desk.proofs.Opened.{opened, refused_tag, marks_within, bounds}
+use Rattle.desk.proofs.Opened.{opened, marks_within, bounds}
 use Rattle.verdict.proofs.Ways.{refused-line, curves_within, plain-line, verdict-line}
 use Rattle.verdict.proofs.put_judgement.Goals as goal
 
 pub returns-in_default : goal.returns-in_default
-returns-in_default c = (omega arith, rw (refused-line c.args.file.now c.mark_patterns-marks.result c.first_marks-firsts.result c.first_marks-worsts.result c.curve_patterns-curves.result c.param_patterns-params.result c.open_file-read.result (refused_tag _ c.in_default.is) c.open_file-read.ensures, ← c.refusal_of.ensures) c.put_refusal.ensures.1)
+returns-in_default c = (omega arith, rw (refused-line c.args.file.now c.mark_patterns-marks.result c.first_marks-firsts.result c.first_marks-worsts.result c.curve_patterns-curves.result c.param_patterns-params.result c.open_file-read.result (ap (tag_of the_type) c.in_default.is) c.open_file-read.ensures, ← c.refusal_of.ensures) c.put_refusal.ensures.1)
 
 pub returns-then-k-eq0 : goal.returns-then-k-eq0
 returns-then-k-eq0 c =

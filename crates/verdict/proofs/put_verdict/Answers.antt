@@ -1,6 +1,5 @@
 -- `verdict::put_verdict` meets its contract.
 use native.Mathlib.Omega.{arith}
-use borrow.Author.Rules.{rules}
 use Rattle.checker.specs.Check.{checked_answer}
 use Rattle.verdict.specs.Verdict.{verdict_in}
 use Rattle.verdict.proofs.put_verdict.Goals as goal
