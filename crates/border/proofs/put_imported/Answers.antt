@@ -6,8 +6,8 @@ use Rattle.border.proofs.put_imported.Goals as goal
 
 pub returns-in-Path : goal.returns-in-Path
 unfolding drawn_crossed
-returns-in-Path c = rw c.answer-1.given.1 refl
+returns-in-Path c = rw c.in-Path.is refl
 
 pub returns-in-Refused : goal.returns-in-Refused
 unfolding drawn_crossed
-returns-in-Refused c = rw c.answer-in-Refused-1.given.1 refl
+returns-in-Refused c = rw c.in-Refused.is refl

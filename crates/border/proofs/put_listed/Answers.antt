@@ -6,8 +6,8 @@ use Rattle.border.proofs.put_listed.Goals as goal
 
 pub returns-in-Bytes : goal.returns-in-Bytes
 unfolding count_crossed
-returns-in-Bytes c = rw c.answer-1.given.1 refl
+returns-in-Bytes c = rw c.in-Bytes.is refl
 
 pub returns-in-Refused : goal.returns-in-Refused
 unfolding count_crossed
-returns-in-Refused c = rw c.answer-in-Refused-1.given.1 refl
+returns-in-Refused c = rw c.in-Refused.is refl
