@@ -1,5 +1,4 @@
 -- `border::put_checked` meets its contract.
-use borrow.Author.Rules.{rules}
 use Rattle.checker.specs.Check.{checked_answer}
 use Rattle.border.specs.Crossing.{verdict_crossed}
 use Rattle.border.proofs.put_checked.Goals as goal

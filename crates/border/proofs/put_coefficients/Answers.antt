@@ -1,5 +1,4 @@
 -- `border::put_coefficients` meets its contract.
-use borrow.Author.Rules.{rules}
 use mathlib.Core.Path.{refl}
 use Rattle.bezier.specs.Calls.{coefficients_answer}
 use Rattle.border.specs.Crossing.{coefficients_crossed}

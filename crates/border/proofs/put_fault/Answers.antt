@@ -1,5 +1,4 @@
 -- `border::put_fault` meets its contract.
-use borrow.Author.Rules.{rules}
 use Rattle.border.proofs.put_fault.Goals as goal
 
 pub returns-in-A : goal.returns-in-A

@@ -1,5 +1,4 @@
 -- `border::put_fitted` meets its contract.
-use borrow.Author.Rules.{rules}
 use mathlib.Core.Path.{refl}
 use Rattle.fit.specs.Fit.{fitted_answer}
 use Rattle.border.specs.Crossing.{count_crossed}

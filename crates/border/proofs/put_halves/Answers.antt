@@ -1,5 +1,4 @@
 -- `border::put_halves` meets its contract.
-use borrow.Author.Rules.{rules}
 use mathlib.Core.Path.{refl}
 use Rattle.bezier.specs.Calls.{halves_answer}
 use Rattle.border.specs.Crossing.{halves_crossed}

@@ -1,5 +1,4 @@
 -- `border::put_imported` meets its contract.
-use borrow.Author.Rules.{rules}
 use mathlib.Core.Path.{refl}
 use Rattle.border.specs.Crossing.{drawn_crossed}
 use Rattle.border.proofs.put_imported.Goals as goal

@@ -1,5 +1,4 @@
 -- `border::put_listed` meets its contract.
-use borrow.Author.Rules.{rules}
 use mathlib.Core.Path.{refl}
 use Rattle.border.specs.Crossing.{count_crossed}
 use Rattle.border.proofs.put_listed.Goals as goal

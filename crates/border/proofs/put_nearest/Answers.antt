@@ -1,5 +1,4 @@
 -- `border::put_nearest` meets its contract.
-use borrow.Author.Rules.{rules}
 use mathlib.Core.Path.{refl}
 use Rattle.nearest.specs.Nearest.{nearest_answer}
 use Rattle.border.specs.Crossing.{nearest_crossed}

@@ -1,5 +1,4 @@
 -- `border::put_point` meets its contract.
-use borrow.Author.Rules.{rules}
 use mathlib.Core.Path.{refl}
 use Rattle.bezier.specs.Calls.{point_answer}
 use Rattle.border.specs.Crossing.{point_crossed}

@@ -1,5 +1,4 @@
 -- `border::put_read` meets its contract.
-use borrow.Author.Rules.{rules}
 use mathlib.Core.Path.{refl}
 use Rattle.border.specs.Crossing.{found_crossed}
 use Rattle.border.proofs.put_read.Goals as goal

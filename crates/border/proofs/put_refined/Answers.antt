@@ -1,5 +1,4 @@
 -- `border::put_refined` meets its contract.
-use borrow.Author.Rules.{rules}
 use mathlib.Core.Path.{refl}
 use Rattle.bezier.specs.Calls.{number_answer}
 use Rattle.border.specs.Crossing.{number_crossed}

@@ -1,5 +1,4 @@
 -- `border::put_salvaged` meets its contract.
-use borrow.Author.Rules.{rules}
 use mathlib.Core.Path.{refl}
 use Rattle.border.specs.Crossing.{salvaged_crossed}
 use Rattle.border.proofs.put_salvaged.Goals as goal
