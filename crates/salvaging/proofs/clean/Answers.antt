@@ -1,6 +1,6 @@
 -- `salvaging::clean` meets its contract.
 use mathlib.Core.Path.{◌≡◌}
-use Prim.Native.Nat.{ℕ, ◌+◌, ◌*◌, ◌/◌, ◌≤◌}
+use Prim.Native.Nat.{◌+◌, ◌*◌, ◌/◌, ◌≤◌}
 use native.Mathlib.Omega.{arith}
 use lib.ListN.{length}
 use Rattle.form.specs.declared.Form.TheVariants.{Eight}
@@ -10,7 +10,6 @@ use Rattle.salvaging.specs.Salvage.{texts_of}
 use Rattle.salvaging.specs.Layout.{marks_of}
 use Rattle.salvaging.proofs.Texts.{by_bytes, dropped_is, file-size, report-size, report-fits, whole-file, whole-report}
 use Rattle.salvaging.proofs.Ways.{out-short, report-short, both_whole}
-use borrow.Author.Rules.{rules}
 use Rattle.salvaging.proofs.clean.Goals as goal
 
 pub overflow_sub-n : goal.overflow_sub-n
@@ -45,7 +44,10 @@ put_report-requires c =
     let counted : (2 * (c.measure-marks.result / 16) ≡ length (kept_of (marks_of c.args.file.now c.args.n))) × ((c.measure-marks.result ≡ 16 * (c.measure-marks.result / 16)) × ((c.measure-marks.result / 16) ≤ c.args.n)) = by_bytes c.args.file.now c.args.n c.measure-marks.ensures.1 in
     let a = c.args in
     let m = counted in
-    ((c.requires.0, (m.1.1, report-fits a.file.now a.n (c.measure-marks.result / 16) m.0 c.count_len.ensures.1 c.measure-lines.ensures.1 (omega arith))), dropped_is a.file.now a.n (c.measure-marks.result / 16) m.0)
+    record {
+      n_in_bounds = (c.requires.0, (m.1.1, report-fits a.file.now a.n (c.measure-marks.result / 16) m.0 c.count_len.ensures.1 c.measure-lines.ensures.1 (omega arith)));
+      kept_value = dropped_is a.file.now a.n (c.measure-marks.result / 16) m.0;
+    }
 
 pub returns : goal.returns
 returns c =

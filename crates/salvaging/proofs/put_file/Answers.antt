@@ -5,7 +5,6 @@ use Rattle.house.proofs.Rows.{length-les}
 use Rattle.sieve.specs.Sieve.{kept_of}
 use Rattle.salvaging.specs.Layout.{marks_of}
 use Rattle.salvaging.proofs.Texts.{file-put}
-use borrow.Author.Rules.{rules}
 use Rattle.salvaging.proofs.put_file.Goals as goal
 
 pub put_part-requires : goal.put_part-requires

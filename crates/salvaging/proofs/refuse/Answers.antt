@@ -2,7 +2,6 @@
 use mathlib.Core.Path.{ap, ◌∙◌}
 use Rattle.lines.specs.Handed.{Handed}
 use Rattle.salvaging.specs.Layout.{alone}
-use borrow.Author.Rules.{rules}
 use Rattle.salvaging.proofs.refuse.Goals as goal
 
 pub returns : goal.returns

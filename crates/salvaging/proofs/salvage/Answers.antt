@@ -2,7 +2,6 @@
 use mathlib.Core.Path.{sym, ◌∙◌}
 use Rattle.packed_heads.proofs.Told.{held_told}
 use Rattle.salvaging.proofs.Ways.{held-few, salvage_broken, salvage-done}
-use borrow.Author.Rules.{rules}
 use Rattle.salvaging.proofs.salvage.Goals as goal
 
 pub returns-in_default : goal.returns-in_default

@@ -3,7 +3,6 @@ use mathlib.Core.Path.{sym, ◌∙◌}
 use native.Mathlib.Omega.{arith}
 use Rattle.packed_heads.proofs.Told.{held_told}
 use Rattle.salvaging.proofs.Ways.{held-few, alone-over, printed_long, printed_broken, printed_many, printed_done}
-use borrow.Author.Rules.{rules}
 use Rattle.salvaging.proofs.salvage_file.Goals as goal
 
 pub returns-then-file-gt-MOST_READ : goal.returns-then-file-gt-MOST_READ

@@ -1,6 +1,5 @@
 -- `salvaging::without_file` meets its contract.
 use mathlib.Core.Path.{refl}
-use borrow.Author.Rules.{rules}
 use Rattle.salvaging.proofs.without_file.Goals as goal
 
 pub returns-in-Bytes : goal.returns-in-Bytes

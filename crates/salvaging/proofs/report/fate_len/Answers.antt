@@ -3,11 +3,10 @@ use mathlib.Core.Path.{ap}
 use native.Mathlib.Omega.{arith}
 use lib.ListN.{length}
 use Rattle.salvaging.proofs.Sizes.{lines_kept, dropped_length}
-use borrow.Author.Rules.{rules}
 use Rattle.salvaging.proofs.report.fate_len.Goals as goal
 
 pub returns-in-Kept : goal.returns-in-Kept
-returns-in-Kept c = let e = ap length (lines_kept c.args.i c.enum_told-1.given.1) in (omega arith, omega arith)
+returns-in-Kept c = let e = ap length (lines_kept c.args.i c.in-Kept.is) in (omega arith, omega arith)
 
 pub returns-in-Dropped : goal.returns-in-Dropped
-returns-in-Dropped c = let e = dropped_length c.args.i c.enum_told-in-Dropped-1.given.1 in (omega (arith, c.decimal_len.ensures), omega (arith, c.decimal_len.ensures))
+returns-in-Dropped c = let e = dropped_length c.args.i c.in-Dropped.is in (omega (arith, c.decimal_len.ensures), omega (arith, c.decimal_len.ensures))

@@ -1,11 +1,8 @@
 -- `salvaging::walks::measure` meets its contract.
-use mathlib.Core.Path.{◌≡◌, ap}
-use Prim.Native.Nat.{◌+◌, ◌-◌, ◌*◌, ◌≤◌}
+use mathlib.Core.Path.{ap}
 use native.Mathlib.Omega.{arith}
 use lib.ListN.{length}
-use Rattle.salvaging.specs.Layout.{part_of}
-use Rattle.salvaging.proofs.Walk.{left_of, left_all, left_none, left_count, piece_length_is}
-use borrow.Author.Rules.{rules}
+use Rattle.salvaging.proofs.Walk.{left_all, left_none, left_count, piece_length_is}
 use Rattle.salvaging.proofs.walks.measure.Goals as goal
 
 pub loop-i-init : goal.loop-i-init

@@ -1,11 +1,9 @@
 -- What the loops of `salvaging::walks::measure` keep.
-use mathlib.Core.Path.{◌≡◌, ap}
+use mathlib.Core.Path.{◌≡◌}
 use Prim.Native.Nat.{◌+◌, ◌-◌, ◌*◌, ◌≤◌}
-use native.Mathlib.Omega.{arith}
 use lib.ListN.{length}
 use Rattle.salvaging.specs.Layout.{part_of}
-use Rattle.salvaging.proofs.Walk.{left_of, left_all, left_none, left_count, piece_length_is}
-use borrow.Author.Rules.{rules}
+use Rattle.salvaging.proofs.Walk.{left_of}
 use Rattle.salvaging.proofs.walks.measure.Given as goal
 
 abbrev pub invariant-loop-i : goal.invariant-loop-i

@@ -1,11 +1,8 @@
 -- `salvaging::walks::put_part` meets its contract.
 use mathlib.Core.Path.{refl}
-use Prim.Native.Nat.{◌-◌, ◌≤◌}
 use native.Mathlib.Omega.{arith}
-use Rattle.salvaging.specs.Layout.{part_of}
-use Rattle.salvaging.proofs.Goes.{Goes, begun, gone, ended}
-use Rattle.salvaging.proofs.Walk.{left_of, left_all, left_none, left_more, left_count}
-use borrow.Author.Rules.{rules}
+use Rattle.salvaging.proofs.Goes.{begun, gone, ended}
+use Rattle.salvaging.proofs.Walk.{left_all, left_none, left_more, left_count}
 use Rattle.salvaging.proofs.walks.put_part.Goals as goal
 
 pub loop-i-init : goal.loop-i-init
