@@ -836,6 +836,87 @@ rt: loft: its tests passed
             write('docs/MAP.md', page)
 
 
+RT = """#!/bin/sh
+# stands in for rt: says that a crate is proved, leaves what is built, and ends with $ENDS; rt run then runs the program, which says something and ends with 9
+echo "$* $(basename "$PWD")" >>"$RUNS"
+{ echo 'rt: chose --jobs 2 for float'; echo 'logic=proved functions=4 sum=dac8208d650f15bf'; } >&2
+[ "${ENDS:-0}" -eq 0 ] || { echo 'rt: the library root did not build' >&2; exit "$ENDS"; }
+name=$(basename "$PWD")
+mkdir -p out
+[ "$1" = run ] || { echo "$name" >"out/lib$name.a"; exit; }
+echo "$name" >"out/$name"
+chmod 755 "out/$name"
+echo "rt: running out/$name; to give it other input, run that file yourself" >&2
+echo 'what it writes'
+echo 'what it complains of' >&2
+exit 9
+"""
+
+
+class Builder(support.Case):
+    """tools/build, with a stand-in for rt."""
+
+    def setUp(self):
+        rt = write('kit/bin/rt', RT, runs=True)
+        self.environment = {'PATH': os.path.dirname(rt) + os.pathsep + os.environ['PATH'], 'RUNS': write('runs', '')}
+        self.addCleanup(self.remove)
+
+    def remove(self):
+        for name in ('size_cases', 'wesalondo'):
+            shutil.rmtree(in_copy(f'crates/{name}/out'), ignore_errors=True)
+        shutil.rmtree(in_copy('target/staticlib'), ignore_errors=True)
+        if os.path.exists(in_copy('target/bin/size_cases')):
+            os.remove(in_copy('target/bin/size_cases'))
+
+    def build(self, *words_, **more):
+        got, out, said = self.call('tools/build', *words_, **self.environment, **more)
+        return got, out.splitlines(), said
+
+    def runs(self):
+        return read('runs').decode('ascii').splitlines()
+
+    def test_words(self):
+        self.says(2, 'usage: tools/build', 'tools/build', '--what')
+        self.says(2, 'no program and no static library nothing', 'tools/build', 'size_cases', 'nothing')
+        self.says(2, 'no program and no static library float', 'tools/build', 'float')
+        bare = write('bare/python3', f'#!/bin/sh\nexec "{sys.executable}" "$@"\n', runs=True)
+        self.says(2, 'rt is not on the path', 'tools/build', 'size_cases', PATH=os.path.dirname(bare))
+
+    def test_program(self):
+        """rt's lines and its own are printed, and nothing of the program, whose status does not count; of the crates each is called proved once."""
+        got, lines, said = self.build('size_cases')
+        self.assertEqual((got, said, self.runs()), (0, '', ['run size_cases']))
+        self.assertEqual(lines[:2], ['rt: chose --jobs 2 for float', 'logic=proved functions=4 sum=dac8208d650f15bf'])
+        self.assertRegex(lines[2], '^build: float proved [(][0-9]+ s[)]$')
+        self.assertTrue(lines[3].startswith('rt: running out/size_cases; '))
+        self.assertEqual(lines[-2:], ['build: size_cases was proved before', 'build: target/bin/size_cases is there'])
+        self.assertEqual(len([line for line in lines if line.startswith('build: float ')]), 1)
+        self.assertEqual(read('target/bin/size_cases'), b'size_cases\n')
+        self.assertTrue(os.access(in_copy('target/bin/size_cases'), os.X_OK))
+
+    def test_library(self):
+        self.assertEqual(self.build('wesalondo')[0], 0)
+        self.assertEqual((self.runs(), read('target/staticlib/libwesalondo.a')), (['lib wesalondo'], b'wesalondo\n'))
+
+    def test_not_proved(self):
+        """rt's status, and one line that says what it ended with; what was built before stays."""
+        write('target/bin/size_cases', 'before')
+        for ends in (1, 2, 3):
+            got, _, said = self.build('size_cases', ENDS=str(ends))
+            self.assertEqual((got, said), (ends, f"build: size_cases is not built: rt run ended with status {ends}, saying 'rt: the library root did not build'\n"))
+        self.assertEqual(read('target/bin/size_cases'), b'before')
+
+    def test_after_ci(self):
+        """What rt ci has left is taken, and rt is not called; a program that is not there is built, and so is an archive where there is nothing to make it over."""
+        write('crates/size_cases/out/size_cases', 'left by rt ci', runs=True)
+        self.assertEqual(self.build('--after-ci', 'size_cases'), (0, ['build: target/bin/size_cases is there'], ''))
+        self.assertEqual((self.runs(), read('target/bin/size_cases')), ([], b'left by rt ci'))
+        self.remove()
+        got, lines, _ = self.build('--after-ci', 'size_cases', 'wesalondo')
+        self.assertEqual((got, self.runs()), (0, ['run size_cases', 'lib wesalondo']))
+        self.assertEqual([line for line in lines if line.endswith(' is there')], ['build: target/bin/size_cases is there', 'build: target/staticlib/libwesalondo.a is there'])
+
+
 class Paths(Case):
     """Path data by the document's text (tools/shared/path_data.py), and the port beside it."""
 

@@ -9,9 +9,9 @@
 #![tactic(auto)]
 
 use cases::parts::{firsts_at, floats_at, front_firsts, front_floats, lent_firsts};
+use cases::{STDIN, STDOUT};
 use checker::{Checked, Fault, Place};
 use form::Form;
-use cases::{STDIN, STDOUT};
 use ring::Outline;
 
 // The outline that the list is of and its form, the claimed count, the lengths, where the worst marks, the curves and the parameters begin, how many numbers there are in all, and the tolerance.

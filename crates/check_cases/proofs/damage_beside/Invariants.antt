@@ -1,5 +1,5 @@
 -- What the loops of `check_cases::damage_beside` keep.
-use Rattle.std.proofs.Common.{◌≡◌, ◌-◌, length, rules}
+use Rattle.std.proofs.Common.{◌≡◌, ◌-◌, length}
 use Rattle.check_cases.proofs.damage_beside.Given as goal
 
 abbrev pub invariant-loop-j : goal.invariant-loop-j

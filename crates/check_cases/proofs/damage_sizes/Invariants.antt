@@ -1,5 +1,5 @@
 -- What the loops of `check_cases::damage_sizes` keep.
-use Rattle.std.proofs.Common.{◌-◌, ◌≤◌, rules}
+use Rattle.std.proofs.Common.{◌-◌, ◌≤◌}
 use Rattle.check_cases.proofs.damage_sizes.Given as goal
 
 abbrev pub invariant-loop-kind : goal.invariant-loop-kind

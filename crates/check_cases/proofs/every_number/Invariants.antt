@@ -1,5 +1,5 @@
 -- What the loops of `check_cases::every_number` keep.
-use Rattle.std.proofs.Common.{◌≡◌, ◌-◌, ◌≤◌, length, rules}
+use Rattle.std.proofs.Common.{◌≡◌, ◌-◌, ◌≤◌, length}
 use Rattle.check_cases.proofs.every_number.Given as goal
 
 abbrev pub invariant-loop-kind : goal.invariant-loop-kind

@@ -1,5 +1,5 @@
 -- What the loops of `check_cases::main` keep.
-use Rattle.std.proofs.Common.{◌-◌, ◌≤◌, rules}
+use Rattle.std.proofs.Common.{◌-◌, ◌≤◌}
 use Rattle.check_cases.proofs.main.Given as goal
 
 abbrev pub invariant-loop-k : goal.invariant-loop-k

@@ -1,5 +1,5 @@
 -- What the loops of `check_cases::read_beside` keep.
-use Rattle.std.proofs.Common.{◌≡◌, ◌-◌, length, rules}
+use Rattle.std.proofs.Common.{◌≡◌, ◌-◌, length}
 use Rattle.check_cases.proofs.read_beside.Given as goal
 
 abbrev pub invariant-loop-i : goal.invariant-loop-i

@@ -1,5 +1,4 @@
 -- `fit::are_tangents` meets its contract.
-use borrow.Author.Rules.{rules}
 use Rattle.fit.specs.Fit.{are_tangents}
 use Rattle.fit.proofs.are_tangents.Goals as goal
 

@@ -1,5 +1,4 @@
 -- `fit::fit_curve` meets its contract.
-use borrow.Author.Rules.{rules}
 use Rattle.fit.proofs.fit_curve.Goals as goal
 
 pub shape_of-curves : goal.shape_of-curves

@@ -1,5 +1,4 @@
 -- `fit::fit_curve_loop` meets its contract.
-use borrow.Author.Rules.{rules}
 use Rattle.fit.proofs.fit_curve_loop.Goals as goal
 
 pub shape_of-curves : goal.shape_of-curves

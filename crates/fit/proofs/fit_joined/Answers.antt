@@ -1,5 +1,4 @@
 -- `fit::fit_joined` meets its contract.
-use borrow.Author.Rules.{rules}
 use Rattle.fit.proofs.fit_joined.Goals as goal
 
 pub shape_of-curves : goal.shape_of-curves

@@ -1,5 +1,4 @@
 -- `fit::fit_ring` meets its contract.
-use borrow.Author.Rules.{rules}
 use Rattle.fit.proofs.fit_ring.Goals as goal
 
 pub shape_of-curves : goal.shape_of-curves

@@ -1,6 +1,5 @@
 -- `fit::gate_cubic`: each return is decided by the tests before it.
-use borrow.Author.Rules.{rules}
-use borrow.Author.Tests.{eq-eqb, ne_eqb, not-true, not-false}
+use borrow.Author.Tests.{eq-eqb, ne_eqb}
 use Rattle.fit.specs.Fit.{cubic_gate}
 use Rattle.fit.proofs.gate_cubic.Goals as goal
 

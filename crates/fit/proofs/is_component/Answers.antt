@@ -1,7 +1,6 @@
 -- `fit::is_component` meets its contract.
 use mathlib.Core.Path.{refl}
 use lib.Ieee.{of_bits}
-use borrow.Author.Rules.{rules}
 use Rattle.float.specs.Number.{f2, finite}
 use Rattle.plane.proofs.Ranges.{by_size}
 use Rattle.fit.specs.Fit.{component}
