@@ -1,5 +1,4 @@
 -- `flat_fit::fit_joined_flat` meets its contract.
-use borrow.Author.Rules.{rules}
 use mathlib.Core.Path.{refl}
 use Rattle.tangents.specs.Ways.{over}
 use Rattle.flat_fit.proofs.fit_joined_flat.Goals as goal

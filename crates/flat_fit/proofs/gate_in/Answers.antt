@@ -1,5 +1,4 @@
 -- `flat_fit::gate_in` meets its contract.
-use borrow.Author.Rules.{rules}
 use Rattle.limits.specs.Limits.{most_marks}
 use Rattle.fit.proofs.Entries.{of_outline}
 use Rattle.flat_fit.proofs.Flat.{given-gate, by_gate}

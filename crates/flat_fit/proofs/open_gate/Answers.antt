@@ -1,5 +1,4 @@
 -- `flat_fit::open_gate` meets its contract.
-use borrow.Author.Rules.{rules}
 use native.Mathlib.Omega.{arith}
 use mathlib.Core.Bool.{true, false}
 use Rattle.marks.specs.Marks.{count}

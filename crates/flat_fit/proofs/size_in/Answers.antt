@@ -1,5 +1,4 @@
 -- `flat_fit::size_in` meets its contract.
-use borrow.Author.Rules.{rules}
 use Rattle.flat_fit.proofs.Flat.{given-size, by_size}
 use Rattle.flat_fit.proofs.size_in.Goals as goal
 

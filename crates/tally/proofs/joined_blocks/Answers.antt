@@ -2,7 +2,6 @@
 use Prim.Native.Nat.{◌-◌}
 use native.Mathlib.Nat.{div-le_self}
 use native.Mathlib.Omega.{arith}
-use borrow.Author.Rules.{rules}
 use Rattle.tally.proofs.Counts.{none, some, positive}
 use Rattle.tally.proofs.joined_blocks.Goals as goal
 

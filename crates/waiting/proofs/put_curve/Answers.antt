@@ -1,5 +1,4 @@
 -- `waiting::put_curve`: a record behind those that stand, and two numbers beside it.
-use borrow.Author.Rules.{rules}
 use mathlib.Core.Path.{refl}
 use Rattle.cut.specs.Run.{flat}
 use Rattle.waiting.proofs.Steps.{laid-behind}

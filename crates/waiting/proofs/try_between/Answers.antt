@@ -1,5 +1,4 @@
 -- `waiting::try_between`: the tangents by the two end marks, and then the part.
-use borrow.Author.Rules.{rules}
 use native.Mathlib.Omega.{arith}
 use lib.ListN.{length}
 use Rattle.part.specs.Part.{part_of}
@@ -25,8 +24,8 @@ pub try_marks-requires : goal.try_marks-requires
 try_marks-requires c =
     let a = c.args in
     let p = c.requires in
-    let e = given-even a.heading a.marks.now a.round.now a.tail a.n a.size a.tolerance p.0 in
-    ((e.0, (p.1.0, omega (arith, e.1, p.1, again-small (outline_in a.heading)))), (p.1.1.1.1, reached a.heading a.marks.now a.round.now a.tail a.n a.size a.tolerance p.0 a.from a.to (length a.params.now) p.1))
+    let e = given-even a.heading a.marks.now a.round.now a.tail a.n a.size a.tolerance p.outlined in
+    record { even = (e.0, (p.within.0, omega (arith, e.1, p.within, again-small (outline_in a.heading)))); to_value = p.within.1.1.1; tail_le_from = reached a.heading a.marks.now a.round.now a.tail a.n a.size a.tolerance p.outlined a.from a.to (length a.params.now) p.within }
 
 pub returns : goal.returns
 returns c =
@@ -34,4 +33,4 @@ returns c =
     let p = c.requires in
     let ms = marks_in a.heading a.marks.now in
     both_ways (start_in a.heading ms a.n a.size a.from) (end_in a.heading ms a.n a.size a.to) (λ s e. part_of (part_at ms a.from a.to) s e a.tolerance) _ c.start_in.ensures _ _ c.in-Toward.is _ c.end_in.ensures _ c.in-Toward-end_in.is _
-    (same_part _ _ c.in-Toward.start c.in-Toward-end_in.end a.tolerance _ _ (part_read a.heading a.marks.now a.round.now a.tail a.n a.size a.tolerance p.0 a.from a.to (length a.params.now) p.1) c.try_marks.ensures)
+    (same_part _ _ c.in-Toward.start c.in-Toward-end_in.end a.tolerance _ _ (part_read a.heading a.marks.now a.round.now a.tail a.n a.size a.tolerance p.outlined a.from a.to (length a.params.now) p.within) c.try_marks.ensures)

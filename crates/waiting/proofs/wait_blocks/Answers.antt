@@ -2,7 +2,7 @@
 use native.Mathlib.Omega.{arith}
 use native.Mathlib.Nat.{div-mul-le_self}
 use Prim.Native.Nat.{◌-◌}
-use Rattle.waiting.proofs.Steps.{Laying, laid_first, below, falls, laid_next, laid_all}
+use Rattle.waiting.proofs.Steps.{laid_first, below, falls, laid_next, laid_all}
 use Rattle.waiting.proofs.wait_blocks.Goals as goal
 
 pub overflow_sub-from : goal.overflow_sub-from
@@ -15,7 +15,7 @@ pub overflow_mul-from : goal.overflow_mul-from
 overflow_mul-from c = let l = div-mul-le_self (c.args.last - 1) c.args.size in omega (arith, c.requires)
 
 pub loop-from-init : goal.loop-from-init
-loop-from-init c = let p = c.requires in laid_first c.args.last c.args.size c.args.«open».now (p.0, p.1.0)
+loop-from-init c = let p = c.requires in laid_first c.args.last c.args.size c.args.open.now (p.0, p.1.0)
 
 pub overflow_cast-open : goal.overflow_cast-open
 overflow_cast-open c = omega (arith, c.requires, below _ _ _ (c.requires.0, c.requires.1.0) c.loop-from.invariant)

@@ -1,12 +1,9 @@
 -- What the loops of `waiting::wait_blocks` keep.
-use native.Mathlib.Omega.{arith}
-use native.Mathlib.Nat.{div-mul-le_self}
-use Prim.Native.Nat.{◌-◌}
-use Rattle.waiting.proofs.Steps.{Laying, laid_first, below, falls, laid_next, laid_all}
+use Rattle.waiting.proofs.Steps.{Laying}
 use Rattle.waiting.proofs.wait_blocks.Given as goal
 
 abbrev pub invariant-loop-from : goal.invariant-loop-from
-invariant-loop-from l = Laying l.last l.size l.initial.open «open» l.stop l.depth l.from
+invariant-loop-from l = Laying l.last l.size l.initial.open l.open l.stop l.depth l.from
 
 abbrev pub decreases-loop-from : goal.decreases-loop-from
 decreases-loop-from l = l.from
