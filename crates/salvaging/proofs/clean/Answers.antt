@@ -44,7 +44,10 @@ put_report-requires c =
     let counted : (2 * (c.measure-marks.result / 16) ≡ length (kept_of (marks_of c.args.file.now c.args.n))) × ((c.measure-marks.result ≡ 16 * (c.measure-marks.result / 16)) × ((c.measure-marks.result / 16) ≤ c.args.n)) = by_bytes c.args.file.now c.args.n c.measure-marks.ensures.1 in
     let a = c.args in
     let m = counted in
-    record { n_in_bounds = (c.requires.0, (m.1.1, report-fits a.file.now a.n (c.measure-marks.result / 16) m.0 c.count_len.ensures.1 c.measure-lines.ensures.1 (omega arith))); kept_value = dropped_is a.file.now a.n (c.measure-marks.result / 16) m.0 }
+    record {
+      n_in_bounds = (c.requires.0, (m.1.1, report-fits a.file.now a.n (c.measure-marks.result / 16) m.0 c.count_len.ensures.1 c.measure-lines.ensures.1 (omega arith)));
+      kept_value = dropped_is a.file.now a.n (c.measure-marks.result / 16) m.0;
+    }
 
 pub returns : goal.returns
 returns c =
