@@ -101,6 +101,8 @@ def shapes():
     put([0x0F0B, *range(0x0FC8, 0x0FD0)], False)
     put([*range(0x0F10, 0x0F20), *range(0x0F28, 0x0F30), *range(0x0F40, 0x0F70), *range(0x0F74, 0x0F77), *range(0x0F7C, 0x0F80), *range(0x0F90, 0x0FA0)], True)
     put([0x0FA3, 0x0FAB, 0x0FAF, 0x0FB3, 0x0FB6, 0x0FB7, 0x0FBB, 0x0FBC, 0x0FBD, 0x0FBE, 0x0FBF, *range(0x0FD0, 0x0FFF)], True)
+    put(range(0x0F3800, 0x0F3840), True)
+    put(range(0x0F3A08, 0x0F3A18), True, SHORT)
     put([*range(0x0F70, 0x0F74), 0x0FA4, 0x0FAC, 0x0FBA, 0x0FC2, 0x0FC4, 0x0FC5, 0x0FC6], True, SHORT)
     return known
 
@@ -122,6 +124,8 @@ class Instruction:
         self.opcode, at = code[at], at + 1
         if self.opcode == 0x0F:
             self.opcode, at = 0x0F00 | code[at], at + 1
+            if self.opcode in (0x0F38, 0x0F3A):
+                self.opcode, at = self.opcode << 8 | code[at], at + 1
         if self.opcode not in SHAPES:
             raise Unknown(f'opcode {self.opcode:X} at {self.at:X}')
         follows, size = SHAPES[self.opcode]

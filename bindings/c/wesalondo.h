@@ -25,13 +25,13 @@
    The library keeps nothing between calls and has no data of its own: calls from several threads at once are fine, on different slices.
 
    STACK, in KB of 1,024 bytes, rounded up; that of the second engine in bytes. These figures are measured, not proved: the most that bindings/c/stack.c saw on
-   2026-11-17.
-     wes_fit_joined 124 KB, wes_fit_ring 124 KB, wes_fit_curve 123 KB, wes_fit_curve_loop 123 KB, wes_fit_curve_cubic 305 KB,
+   2026-11-26.
+     wes_fit_joined 74 KB, wes_fit_ring 74 KB, wes_fit_curve 73 KB, wes_fit_curve_loop 73 KB, wes_fit_curve_cubic 177 KB,
      wes_fit_joined_flat 5672 bytes, wes_fit_ring_flat 5672 bytes, wes_fit_curve_cubic_flat 5672 bytes,
-     wes_nearest_point_on_curve 24 KB, wes_list_outline 252 KB, wes_judge_file 801 KB, wes_save_fit 1276 KB; every other call at most 1 KB.
+     wes_nearest_point_on_curve 24 KB, wes_list_outline 202 KB, wes_judge_file 801 KB, wes_save_fit 1225 KB; every other call at most 1 KB.
    Seen over outlines of 99,998 marks, whose blocks are the longest, and files of them (512 for the direct fits and the listing, 4,096 for the other two on
    files), among them zigzags that a fit cuts one mark at a time, as deep as it can go. A fit by blocks takes so much for its longest block, of 200 marks,
-   however many there are: some 0.6 KB for a mark of it, as a direct fit does for each of its marks. The second engine takes as much for five marks as for all
+   however many there are: some 0.4 KB for a mark of it, as a direct fit does for each of its marks. The second engine takes as much for five marks as for all
    of these, and no input can make it take more: bindings/c/graph.py goes through the archive's code along every call, and adds up what each function takes (of
    memset, the one that the archive does not hold, it knows nothing). Slices are the caller's: for 100,000 marks those of a fit are 8.8 MB beside 1.6 MB of marks,
    and `open` 0.8 MB, which no usual stack has room for.
