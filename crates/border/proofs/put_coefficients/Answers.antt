@@ -1,5 +1,4 @@
 -- `border::put_coefficients` meets its contract.
-use borrow.Author.Rules.{rules}
 use mathlib.Core.Path.{refl}
 use Rattle.bezier.specs.Calls.{coefficients_answer}
 use Rattle.border.specs.Crossing.{coefficients_crossed}
@@ -7,8 +6,8 @@ use Rattle.border.proofs.put_coefficients.Goals as goal
 
 pub returns-in-Are : goal.returns-in-Are
 unfolding coefficients_answer coefficients_crossed
-returns-in-Are c = rw c.answer-1.given.1 refl
+returns-in-Are c = rw c.in-Are.is refl
 
 pub returns-in-Refused : goal.returns-in-Refused
 unfolding coefficients_answer coefficients_crossed
-returns-in-Refused c = rw c.answer-in-Refused-1.given.1 refl
+returns-in-Refused c = rw c.in-Refused.is refl

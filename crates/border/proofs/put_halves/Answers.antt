@@ -1,5 +1,4 @@
 -- `border::put_halves` meets its contract.
-use borrow.Author.Rules.{rules}
 use mathlib.Core.Path.{refl}
 use Rattle.bezier.specs.Calls.{halves_answer}
 use Rattle.border.specs.Crossing.{halves_crossed}
@@ -7,8 +6,8 @@ use Rattle.border.proofs.put_halves.Goals as goal
 
 pub returns-in-Are : goal.returns-in-Are
 unfolding halves_answer halves_crossed
-returns-in-Are c = rw (c.answer-1.given.1, c.eight.ensures, c.eight-in-Are.ensures) refl
+returns-in-Are c = rw (c.in-Are.is, c.eight.ensures, c.eight-in-Are.ensures) refl
 
 pub returns-in-Refused : goal.returns-in-Refused
 unfolding halves_answer halves_crossed
-returns-in-Refused c = rw c.answer-in-Refused-1.given.1 refl
+returns-in-Refused c = rw c.in-Refused.is refl

@@ -1,13 +1,12 @@
 -- `border::put_imported` meets its contract.
-use borrow.Author.Rules.{rules}
 use mathlib.Core.Path.{refl}
 use Rattle.border.specs.Crossing.{drawn_crossed}
 use Rattle.border.proofs.put_imported.Goals as goal
 
 pub returns-in-Path : goal.returns-in-Path
 unfolding drawn_crossed
-returns-in-Path c = rw c.answer-1.given.1 refl
+returns-in-Path c = rw c.in-Path.is refl
 
 pub returns-in-Refused : goal.returns-in-Refused
 unfolding drawn_crossed
-returns-in-Refused c = rw c.answer-in-Refused-1.given.1 refl
+returns-in-Refused c = rw c.in-Refused.is refl

@@ -1,13 +1,12 @@
 -- `border::put_listed` meets its contract.
-use borrow.Author.Rules.{rules}
 use mathlib.Core.Path.{refl}
 use Rattle.border.specs.Crossing.{count_crossed}
 use Rattle.border.proofs.put_listed.Goals as goal
 
 pub returns-in-Bytes : goal.returns-in-Bytes
 unfolding count_crossed
-returns-in-Bytes c = rw c.answer-1.given.1 refl
+returns-in-Bytes c = rw c.in-Bytes.is refl
 
 pub returns-in-Refused : goal.returns-in-Refused
 unfolding count_crossed
-returns-in-Refused c = rw c.answer-in-Refused-1.given.1 refl
+returns-in-Refused c = rw c.in-Refused.is refl

@@ -1,5 +1,4 @@
 -- `border::put_nearest` meets its contract.
-use borrow.Author.Rules.{rules}
 use mathlib.Core.Path.{refl}
 use Rattle.nearest.specs.Nearest.{nearest_answer}
 use Rattle.border.specs.Crossing.{nearest_crossed}
@@ -7,8 +6,8 @@ use Rattle.border.proofs.put_nearest.Goals as goal
 
 pub returns-in-Found : goal.returns-in-Found
 unfolding nearest_answer nearest_crossed
-returns-in-Found c = rw c.answer-1.given.1 refl
+returns-in-Found c = rw c.in-Found.is refl
 
 pub returns-in-Refused : goal.returns-in-Refused
 unfolding nearest_answer nearest_crossed
-returns-in-Refused c = rw c.answer-in-Refused-1.given.1 refl
+returns-in-Refused c = rw c.in-Refused.is refl

@@ -1,5 +1,4 @@
 -- `border::put_point` meets its contract.
-use borrow.Author.Rules.{rules}
 use mathlib.Core.Path.{refl}
 use Rattle.bezier.specs.Calls.{point_answer}
 use Rattle.border.specs.Crossing.{point_crossed}
@@ -7,8 +6,8 @@ use Rattle.border.proofs.put_point.Goals as goal
 
 pub returns-in-At : goal.returns-in-At
 unfolding point_answer point_crossed
-returns-in-At c = rw c.answer-1.given.1 refl
+returns-in-At c = rw c.in-At.is refl
 
 pub returns-in-Refused : goal.returns-in-Refused
 unfolding point_answer point_crossed
-returns-in-Refused c = rw c.answer-in-Refused-1.given.1 refl
+returns-in-Refused c = rw c.in-Refused.is refl

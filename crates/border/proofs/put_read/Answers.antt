@@ -1,13 +1,12 @@
 -- `border::put_read` meets its contract.
-use borrow.Author.Rules.{rules}
 use mathlib.Core.Path.{refl}
 use Rattle.border.specs.Crossing.{found_crossed}
 use Rattle.border.proofs.put_read.Goals as goal
 
 pub returns-in-File : goal.returns-in-File
 unfolding found_crossed
-returns-in-File c = rw (c.answer-1.given.1, c.is_nine.ensures) refl
+returns-in-File c = rw (c.in-File.is, c.is_nine.ensures) refl
 
 pub returns-in-Refused : goal.returns-in-Refused
 unfolding found_crossed
-returns-in-Refused c = rw c.answer-in-Refused-1.given.1 refl
+returns-in-Refused c = rw c.in-Refused.is refl

@@ -1,5 +1,4 @@
 -- `border::put_refined` meets its contract.
-use borrow.Author.Rules.{rules}
 use mathlib.Core.Path.{refl}
 use Rattle.bezier.specs.Calls.{number_answer}
 use Rattle.border.specs.Crossing.{number_crossed}
@@ -7,8 +6,8 @@ use Rattle.border.proofs.put_refined.Goals as goal
 
 pub returns-in-Is : goal.returns-in-Is
 unfolding number_answer number_crossed
-returns-in-Is c = rw c.answer-1.given.1 refl
+returns-in-Is c = rw c.in-Is.is refl
 
 pub returns-in-Refused : goal.returns-in-Refused
 unfolding number_answer number_crossed
-returns-in-Refused c = rw c.answer-in-Refused-1.given.1 refl
+returns-in-Refused c = rw c.in-Refused.is refl
