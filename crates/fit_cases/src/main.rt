@@ -10,9 +10,9 @@
 ghost use Rattle.std.specs.Prelude.{◌≤◌};
 
 use cases::parts::{front_floats, lent_firsts, lent_floats};
+use cases::{STDIN, STDOUT};
 use cut::Fitted;
 use form::RECORD_NUMBERS;
-use cases::{STDIN, STDOUT};
 use plane::Point;
 
 // The bit pattern of 7.5.

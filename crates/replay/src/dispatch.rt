@@ -2,8 +2,8 @@
 use crate::kind::{EXPORT, PACK, SALVAGE, SINGLE_KINDS, kind_of};
 use crate::outline::Fit;
 use crate::{listing, outline, packing, paths, room, scan, single};
-use form::Form;
 use cases::STDOUT;
+use form::Form;
 use ring::Outline;
 
 // Whether a line of one of the first kinds is a case; what a case answers is printed. The kinds are in the order of their names' list.

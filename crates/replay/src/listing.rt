@@ -4,9 +4,9 @@ ghost use Rattle.std.specs.Prelude.{◌≤◌};
 use crate::cursor::{NOWHERE, front, front_marks, lent_behind, take_count, take_float, take_some};
 use crate::print::{print_accepted, print_refused};
 use crate::room;
+use cases::STDOUT;
 use checker::{Checked, Fault, Place};
 use form::{CURVE_NUMBERS, Form, RECORD_NUMBERS, width};
-use cases::STDOUT;
 use ring::Outline;
 
 const MOST_FIRST: u64 = 0xffff_ffff;

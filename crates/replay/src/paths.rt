@@ -2,10 +2,10 @@
 use crate::cursor::{NOWHERE, front, take_count, take_some};
 use crate::print::{print_accepted, print_floats, print_refused};
 use crate::{room, scan};
+use cases::STDOUT;
 use export::export_path;
 use form::{CURVE_NUMBERS, Form};
 use import::{Imported, import_path};
-use cases::STDOUT;
 use lines::Listed;
 
 // Whether a ring is meant, with the place behind the word.

@@ -1,12 +1,9 @@
 -- `file_fit::copy_numbers` meets its contract. After i turns the first i numbers of the row stand in front.
 use mathlib.Core.Path.{◌≡◌, refl, ◌∙◌}
-use mathlib.Core.List.{◌++◌}
-use Prim.Native.Nat.{◌-◌, ◌<◌, ◌≤◌}
+use Prim.Native.Nat.{◌<◌}
 use native.Mathlib.Omega.{arith}
-use borrow.Author.Rules.{rules}
 use lib.ListN.{length, drop, length-set}
-use Rattle.house.specs.Bytes.{row, words}
-use Rattle.desk.specs.Desk.{floats}
+use Rattle.house.specs.Bytes.{row}
 use Rattle.file_fit.proofs.Turns.{length-floats, floats-turn}
 use Rattle.file_fit.proofs.copy_numbers.Goals as goal
 

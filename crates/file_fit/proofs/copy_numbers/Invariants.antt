@@ -1,13 +1,10 @@
 -- What the loops of `file_fit::copy_numbers` keep.
-use mathlib.Core.Path.{◌≡◌, refl, ◌∙◌}
+use mathlib.Core.Path.{◌≡◌}
 use mathlib.Core.List.{◌++◌}
-use Prim.Native.Nat.{◌-◌, ◌<◌, ◌≤◌}
-use native.Mathlib.Omega.{arith}
-use borrow.Author.Rules.{rules}
-use lib.ListN.{length, drop, length-set}
-use Rattle.house.specs.Bytes.{row, words}
+use Prim.Native.Nat.{◌-◌, ◌≤◌}
+use lib.ListN.{length, drop}
+use Rattle.house.specs.Bytes.{words}
 use Rattle.desk.specs.Desk.{floats}
-use Rattle.file_fit.proofs.Turns.{length-floats, floats-turn}
 use Rattle.file_fit.proofs.copy_numbers.Given as goal
 
 abbrev pub invariant-loop-i : goal.invariant-loop-i

@@ -1,7 +1,6 @@
 -- `file_fit::fit_file` meets its contract.
 use mathlib.Core.Path.{sym}
 use native.Mathlib.Omega.{arith}
-use borrow.Author.Rules.{rules}
 use lib.Seq.{length-take-le}
 use Rattle.file_fit.proofs.Turns.{fit_left_is}
 use Rattle.file_fit.proofs.fit_file.Goals as goal

@@ -1,7 +1,5 @@
 -- `fit_cases::main` meets its contract: it ends.
-use borrow.Author.Rules.{rules}
 use native.Mathlib.Omega.{arith}
-use Prim.Native.Nat.{◌-◌, ◌≤◌}
 use Rattle.fit_cases.proofs.main.Goals as goal
 
 pub loop-k-init : goal.loop-k-init

@@ -1,6 +1,4 @@
 -- What the loops of `fit_cases::main` keep.
-use borrow.Author.Rules.{rules}
-use native.Mathlib.Omega.{arith}
 use Prim.Native.Nat.{◌-◌, ◌≤◌}
 use Rattle.fit_cases.proofs.main.Given as goal
 

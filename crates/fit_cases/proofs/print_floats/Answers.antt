@@ -1,8 +1,5 @@
 -- `fit_cases::print_floats` meets its contract: it ends, and stays inside its slices.
-use borrow.Author.Rules.{rules}
 use native.Mathlib.Omega.{arith}
-use Prim.Native.Nat.{◌-◌, ◌≤◌}
-use lib.ListN.{length}
 use Rattle.fit_cases.proofs.print_floats.Goals as goal
 
 pub loop-i-init : goal.loop-i-init

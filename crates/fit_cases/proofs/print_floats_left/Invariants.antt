@@ -1,6 +1,4 @@
 -- What the loops of `fit_cases::print_floats_left` keep.
-use borrow.Author.Rules.{rules}
-use native.Mathlib.Omega.{arith}
 use Prim.Native.Nat.{◌-◌, ◌≤◌}
 use lib.ListN.{length}
 use Rattle.fit_cases.proofs.print_floats_left.Given as goal

@@ -1,7 +1,6 @@
 -- `outline::list_outline` meets its contract.
 use mathlib.Core.Path.{sym}
 use native.Mathlib.Omega.{arith}
-use borrow.Author.Rules.{rules}
 use lib.Seq.{length-take-le}
 use Rattle.lines.proofs.Handed.{over-front}
 use Rattle.outline.proofs.list_outline.Goals as goal

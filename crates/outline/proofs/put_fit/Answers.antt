@@ -1,6 +1,5 @@
 -- `outline::put_fit` meets its contract.
 use native.Mathlib.Omega.{arith}
-use borrow.Author.Rules.{rules}
 use Rattle.file_fit.proofs.Refused.{other_of}
 use Rattle.outline.proofs.Ways.{done-count, done_lines, refused_lines}
 use Rattle.outline.proofs.put_fit.Goals as goal

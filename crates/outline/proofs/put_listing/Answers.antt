@@ -1,7 +1,6 @@
 -- `outline::put_listing` meets its contract.
 use mathlib.Core.Path.{sym, ◌∙◌}
 use native.Mathlib.Omega.{arith}
-use borrow.Author.Rules.{rules}
 use Rattle.packed_heads.proofs.Told.{held_told}
 use Rattle.outline.proofs.Ways.{list_long, list_broken, list-few, list_many, list-fit}
 use Rattle.outline.proofs.put_listing.Goals as goal

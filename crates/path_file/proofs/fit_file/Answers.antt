@@ -1,6 +1,5 @@
 -- `path_file::fit_file` meets its contract.
 use native.Mathlib.Omega.{arith}
-use borrow.Author.Rules.{rules}
 use mathlib.Core.Path.{sym}
 use lib.Seq.{length-take-le}
 use Rattle.path_file.proofs.Parts.{fit_left_is}

@@ -1,5 +1,4 @@
 -- `path_file::fit_marks` meets its contract.
-use borrow.Author.Rules.{rules}
 use Rattle.path_file.proofs.fit_marks.Goals as goal
 
 pub returns-then-ring : goal.returns-then-ring

@@ -1,6 +1,5 @@
 -- `path_file::put_fit` meets its contract.
 use native.Mathlib.Omega.{arith}
-use borrow.Author.Rules.{rules}
 use Rattle.house.specs.Held.{file_at}
 use Rattle.form.specs.declared.Form.TheVariants.{Eight}
 use Rattle.file_fit.proofs.Refused.{other_of}

@@ -1,6 +1,5 @@
 -- `path_file::put_line` meets its contract.
 use native.Mathlib.Omega.{arith}
-use borrow.Author.Rules.{rules}
 use Rattle.text.proofs.Stores.{one}
 use Rattle.lines.specs.Lines.{newline}
 use Rattle.path_file.proofs.Parts.{refused_tag, bytes_by, none_by, lined, line_is}

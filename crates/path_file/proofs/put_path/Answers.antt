@@ -1,6 +1,5 @@
 -- `path_file::put_path` meets its contract.
 use native.Mathlib.Omega.{arith}
-use borrow.Author.Rules.{rules}
 use mathlib.Core.Path.{sym, ◌∙◌}
 use Rattle.packed_heads.proofs.Told.{held_told}
 use Rattle.path_file.proofs.Ways.{path_long, path_broken, path_many, path-fit}

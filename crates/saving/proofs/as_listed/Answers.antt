@@ -1,5 +1,4 @@
 -- `saving::as_listed` meets its contract.
-use borrow.Author.Rules.{rules}
 use Rattle.saving.proofs.as_listed.Goals as goal
 
 pub returns-in-Bytes : goal.returns-in-Bytes

@@ -1,5 +1,4 @@
 -- `saving::hand_file` meets its contract.
-use borrow.Author.Rules.{rules}
 use Rattle.saving.proofs.Takes.{written_over}
 use Rattle.saving.proofs.hand_file.Goals as goal
 

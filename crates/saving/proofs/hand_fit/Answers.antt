@@ -1,7 +1,6 @@
 -- `saving::hand_fit` meets its contract.
 use mathlib.Core.Path.{sym}
 use native.Mathlib.Omega.{arith}
-use borrow.Author.Rules.{rules}
 use lib.Seq.{length-take-le}
 use Rattle.file_fit.proofs.Refused.{other_of}
 use Rattle.saving.proofs.Ways.{fit_is, refused-text, done-text, done_ready}

@@ -1,7 +1,6 @@
 -- `saving::save_fit` meets its contract.
 use mathlib.Core.Path.{sym}
 use native.Mathlib.Omega.{arith}
-use borrow.Author.Rules.{rules}
 use lib.Seq.{length-take-le}
 use Rattle.desk.proofs.Opened.{opened, refused_tag, marks_within}
 use Rattle.saving.proofs.Ways.{unread_text, read-text, marks-fit}

@@ -1,5 +1,5 @@
 -- `replay::cursor::take_floats` meets its contract: it ends, and stays inside its slices.
-use Rattle.std.proofs.Common.{◌≡◌, ◌-◌, ◌≤◌, length, arith, rules}
+use Rattle.std.proofs.Common.{arith, rules}
 use Rattle.replay.proofs.cursor.take_floats.Goals as goal
 
 pub loop-i-smaller : goal.loop-i-smaller

@@ -1,5 +1,5 @@
 -- What the loops of `replay::cursor::take_floats` keep.
-use Rattle.std.proofs.Common.{◌≡◌, ◌-◌, ◌≤◌, length, arith, rules}
+use Rattle.std.proofs.Common.{◌≡◌, ◌-◌, ◌≤◌, length}
 use Rattle.replay.proofs.cursor.take_floats.Given as goal
 
 abbrev pub invariant-loop-i : goal.invariant-loop-i

@@ -1,5 +1,5 @@
 -- What the loops of `replay::input::take_bytes` keep.
-use Rattle.std.proofs.Common.{◌≡◌, ◌-◌, ◌≤◌, length, arith, rules}
+use Rattle.std.proofs.Common.{◌≡◌, ◌-◌, ◌≤◌, length}
 use Rattle.replay.proofs.input.take_bytes.Given as goal
 
 abbrev pub invariant-loop-i : goal.invariant-loop-i

@@ -1,5 +1,5 @@
 -- What the loops of `replay::input::take_chunks` keep.
-use Rattle.std.proofs.Common.{◌≡◌, ◌-◌, length, arith, rules}
+use Rattle.std.proofs.Common.{◌≡◌, ◌-◌, length}
 use Rattle.replay.proofs.input.take_chunks.Given as goal
 
 abbrev pub invariant-loop-turns : goal.invariant-loop-turns

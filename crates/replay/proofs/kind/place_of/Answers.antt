@@ -1,5 +1,5 @@
 -- `replay::kind::place_of` meets its contract: it ends, and stays inside its slices.
-use Rattle.std.proofs.Common.{◌+◌, ◌-◌, ◌≤◌, length, arith, rules}
+use Rattle.std.proofs.Common.{arith}
 use Rattle.replay.proofs.kind.place_of.Goals as goal
 
 pub loop-from-smaller : goal.loop-from-smaller

@@ -1,5 +1,5 @@
 -- What the loops of `replay::kind::place_of` keep.
-use Rattle.std.proofs.Common.{◌+◌, ◌-◌, ◌≤◌, length, arith, rules}
+use Rattle.std.proofs.Common.{◌+◌, ◌-◌, ◌≤◌, length}
 use Rattle.replay.proofs.kind.place_of.Given as goal
 
 abbrev pub invariant-loop-from : goal.invariant-loop-from

@@ -1,5 +1,5 @@
 -- What the loops of `replay::listing::take_curves` keep.
-use Rattle.std.proofs.Common.{◌≡◌, ◌-◌, ◌≤◌, length, arith, rules}
+use Rattle.std.proofs.Common.{◌≡◌, ◌-◌, ◌≤◌, length}
 use Rattle.replay.proofs.listing.take_curves.Given as goal
 
 abbrev pub invariant-loop-i : goal.invariant-loop-i

@@ -1,5 +1,5 @@
 -- What the loops of `replay::outline::print_curves` keep.
-use Rattle.std.proofs.Common.{◌-◌, ◌≤◌, length, arith, rules}
+use Rattle.std.proofs.Common.{◌-◌, ◌≤◌, length}
 use Rattle.replay.proofs.outline.print_curves.Given as goal
 
 abbrev pub invariant-loop-i : goal.invariant-loop-i

@@ -1,5 +1,5 @@
 -- What the loops of `replay::packing::decode` keep.
-use Rattle.std.proofs.Common.{◌≡◌, ◌-◌, ◌≤◌, length, rules}
+use Rattle.std.proofs.Common.{◌≡◌, ◌-◌, ◌≤◌, length}
 use Rattle.replay.proofs.packing.decode.Given as goal
 
 abbrev pub invariant-loop-at : goal.invariant-loop-at

@@ -1,5 +1,5 @@
 -- What the loops of `replay::print::print_bytes` keep.
-use Rattle.std.proofs.Common.{◌-◌, ◌≤◌, length, rules}
+use Rattle.std.proofs.Common.{◌-◌, ◌≤◌, length}
 use Rattle.replay.proofs.print.print_bytes.Given as goal
 
 abbrev pub invariant-loop-from : goal.invariant-loop-from

@@ -1,5 +1,5 @@
 -- What the loops of `replay::print::print_floats` keep.
-use Rattle.std.proofs.Common.{◌-◌, ◌≤◌, length, arith, rules}
+use Rattle.std.proofs.Common.{◌-◌, ◌≤◌, length}
 use Rattle.replay.proofs.print.print_floats.Given as goal
 
 abbrev pub invariant-loop-i : goal.invariant-loop-i

@@ -1,5 +1,5 @@
 -- What the loops of `replay::print::print_piece` keep.
-use Rattle.std.proofs.Common.{◌-◌, ◌≤◌, length, rules}
+use Rattle.std.proofs.Common.{◌-◌, ◌≤◌, length}
 use Rattle.replay.proofs.print.print_piece.Given as goal
 
 abbrev pub invariant-loop-i : goal.invariant-loop-i
