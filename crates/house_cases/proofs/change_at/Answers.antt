@@ -1,5 +1,5 @@
 -- `house_cases::change_at` ends and stays within bounds. The lent slices keep their lengths.
-use Rattle.std.proofs.Common.{◌≡◌, ◌-◌, length, length-set, rules}
+use Rattle.std.proofs.Common.{length-set, rules}
 use Rattle.house_cases.proofs.change_at.Goals as goal
 
 pub loop-d-preserved : goal.loop-d-preserved

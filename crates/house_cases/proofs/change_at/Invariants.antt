@@ -1,5 +1,5 @@
 -- What the loops of `house_cases::change_at` keep.
-use Rattle.std.proofs.Common.{◌≡◌, ◌-◌, length, length-set, rules}
+use Rattle.std.proofs.Common.{◌≡◌, ◌-◌, length}
 use Rattle.house_cases.proofs.change_at.Given as goal
 
 abbrev pub invariant-loop-d : goal.invariant-loop-d

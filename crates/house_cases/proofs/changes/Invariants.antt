@@ -1,5 +1,5 @@
 -- What the loops of `house_cases::changes` keep.
-use Rattle.std.proofs.Common.{◌≡◌, ◌-◌, ◌≤◌, length, rules}
+use Rattle.std.proofs.Common.{◌≡◌, ◌-◌, ◌≤◌, length}
 use Rattle.house_cases.proofs.changes.Given as goal
 
 abbrev pub invariant-loop-i : goal.invariant-loop-i

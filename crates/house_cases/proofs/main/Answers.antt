@@ -1,5 +1,5 @@
 -- `house_cases::main` meets its contract: it ends.
-use Rattle.std.proofs.Common.{◌-◌, ◌≤◌, arith, rules}
+use Rattle.std.proofs.Common.{arith}
 use Rattle.house_cases.proofs.main.Goals as goal
 
 pub loop-k-init : goal.loop-k-init

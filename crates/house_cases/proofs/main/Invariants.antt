@@ -1,5 +1,5 @@
 -- What the loops of `house_cases::main` keep.
-use Rattle.std.proofs.Common.{◌-◌, ◌≤◌, arith, rules}
+use Rattle.std.proofs.Common.{◌-◌, ◌≤◌}
 use Rattle.house_cases.proofs.main.Given as goal
 
 abbrev pub invariant-loop-k : goal.invariant-loop-k

@@ -1,5 +1,5 @@
 -- What the loops of `house_cases::same` keep.
-use Rattle.std.proofs.Common.{◌-◌, ◌≤◌, length, rules}
+use Rattle.std.proofs.Common.{◌-◌, ◌≤◌, length}
 use Rattle.house_cases.proofs.same.Given as goal
 
 abbrev pub invariant-loop-i : goal.invariant-loop-i
