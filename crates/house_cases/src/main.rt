@@ -12,8 +12,8 @@
 ghost use Rattle.std.specs.Prelude.{◌<◌, length};
 
 use cases::parts::{front_bytes, front_words, lent_bytes, lent_firsts, lent_words};
-use form::Form;
 use cases::{STDIN, STDOUT};
+use form::Form;
 use lines::Listed;
 use packer::pack_file;
 use reader::Read;
