@@ -171,4 +171,5 @@ def main():
             turn(path, turned)
 
 
-main()
+if __name__ == '__main__':
+    main()
