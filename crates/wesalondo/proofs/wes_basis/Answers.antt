@@ -1,5 +1,4 @@
 -- `wesalondo::wes_basis` meets its contract.
-use borrow.Author.Rules.{rules}
 use Rattle.wesalondo.proofs.wes_basis.Goals as goal
 
 pub returns : goal.returns

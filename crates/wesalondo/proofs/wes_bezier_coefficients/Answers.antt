@@ -1,5 +1,4 @@
 -- `wesalondo::wes_bezier_coefficients` meets its contract.
-use borrow.Author.Rules.{rules}
 use Rattle.wesalondo.proofs.wes_bezier_coefficients.Goals as goal
 
 pub returns : goal.returns

@@ -1,5 +1,4 @@
 -- `wesalondo::wes_check` meets its contract.
-use borrow.Author.Rules.{rules}
 use mathlib.Core.Path.{refl}
 use Rattle.wesalondo.proofs.wes_check.Goals as goal
 

@@ -1,5 +1,4 @@
 -- `wesalondo::wes_check_worst_ring` meets its contract.
-use borrow.Author.Rules.{rules}
 use Rattle.wesalondo.proofs.wes_check_worst_ring.Goals as goal
 
 pub returns : goal.returns

@@ -1,5 +1,4 @@
 -- `wesalondo::wes_de_casteljau3` meets its contract.
-use borrow.Author.Rules.{rules}
 use Rattle.wesalondo.proofs.wes_de_casteljau3.Goals as goal
 
 pub returns : goal.returns

@@ -1,5 +1,4 @@
 -- `wesalondo::wes_export_path` meets its contract.
-use borrow.Author.Rules.{rules}
 use mathlib.Core.Path.{ap}
 use Rattle.wesalondo.specs.Left.{left_with_text}
 use Rattle.wesalondo.proofs.wes_export_path.Goals as goal

@@ -1,5 +1,4 @@
 -- `wesalondo::wes_fit_curve_cubic` meets its contract.
-use borrow.Author.Rules.{rules}
 use mathlib.Core.Path.{ap}
 use Rattle.wesalondo.specs.Left.{left_by}
 use Rattle.wesalondo.proofs.wes_fit_curve_cubic.Goals as goal

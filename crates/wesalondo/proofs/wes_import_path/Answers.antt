@@ -1,5 +1,4 @@
 -- `wesalondo::wes_import_path` meets its contract.
-use borrow.Author.Rules.{rules}
 use mathlib.Core.Path.{ap}
 use Rattle.wesalondo.specs.Left.{left_by_import}
 use Rattle.wesalondo.proofs.wes_import_path.Goals as goal

@@ -1,5 +1,4 @@
 -- `wesalondo::wes_nearest_point_on_curve` meets its contract.
-use borrow.Author.Rules.{rules}
 use Rattle.wesalondo.proofs.wes_nearest_point_on_curve.Goals as goal
 
 pub returns : goal.returns

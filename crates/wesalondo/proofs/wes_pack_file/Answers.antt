@@ -1,5 +1,4 @@
 -- `wesalondo::wes_pack_file` meets its contract.
-use borrow.Author.Rules.{rules}
 use mathlib.Core.Path.{ap}
 use Rattle.wesalondo.specs.Left.{left_with_text}
 use Rattle.wesalondo.proofs.wes_pack_file.Goals as goal

@@ -1,5 +1,4 @@
 -- `wesalondo::wes_read_file` meets its contract.
-use borrow.Author.Rules.{rules}
 use mathlib.Core.Path.{ap}
 use Rattle.wesalondo.specs.Left.{left_by_reader}
 use Rattle.wesalondo.proofs.wes_read_file.Goals as goal

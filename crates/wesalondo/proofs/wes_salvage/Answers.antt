@@ -1,5 +1,4 @@
 -- `wesalondo::wes_salvage` meets its contract.
-use borrow.Author.Rules.{rules}
 use mathlib.Core.Path.{ap}
 use Rattle.wesalondo.specs.Left.{left_by_salvage}
 use Rattle.wesalondo.proofs.wes_salvage.Goals as goal

@@ -1,5 +1,4 @@
 -- `wesalondo::wes_subdivide4` meets its contract.
-use borrow.Author.Rules.{rules}
 use Rattle.wesalondo.proofs.wes_subdivide4.Goals as goal
 
 pub returns : goal.returns

@@ -1,5 +1,4 @@
 -- `wesalondo::wes_write_file` meets its contract.
-use borrow.Author.Rules.{rules}
 use mathlib.Core.Path.{ap, sym}
 use Rattle.wesalondo.specs.Left.{left_by_writer}
 use Rattle.wesalondo.proofs.wes_write_file.Goals as goal
