@@ -786,6 +786,10 @@ class Other(Case):
         self.says(2, 'usage: tools/run_program', 'tools/run_program')
         self.says(2, 'there is no target/bin/nothing yet', 'tools/run_program', 'nothing')
 
+    def test_respell(self):
+        self.says(2, 'usage: tools/respell.py', 'tools/respell.py', '--name')
+        self.says(2, 'there is no folder crates here', 'tools/respell.py')  # it works on the folder that it is run in
+
     def test_table_of_the_gate(self):
         self.says(2, 'usage: tools/gate_table.py', 'tools/gate_table.py')
         self.says(2, 'no line of a crate', 'tools/gate_table.py', in_copy('crates.txt'))

@@ -149,12 +149,23 @@ def falls_together(path, turned):
     return [(word, turned[word]) for word in sorted(words) if word in turned and turned[word] in words]
 
 
-def main():
+def stop(words):
+    print(f'respell: {words}', file=sys.stderr)
+    sys.exit(2)
+
+
+def main(words):
+    if words not in ([], ['--names']):
+        stop('usage: tools/respell.py [--names]')
+    if not (TOP / 'crates').is_dir():
+        stop('there is no folder crates here: run it at the top of the repository')
+    if (TOP / 'docs' / 'PORT.md').exists():
+        stop('docs/PORT.md is here: the names were turned already, and turned twice they would be others')
     turned = mapping()
     news = {}
     for name, new in turned.items():
         news.setdefault(new, []).append(name)
-    if '--names' in sys.argv:
+    if '--names' in words:
         print('\n'.join(f'{name} {new}' for name, new in turned.items()))
     paths = files('crates/*/**/*.antt') + files('crates/*/src/**/*.rt') + files('crates/*/must-fail/*.edit')
     for path in paths:
@@ -163,7 +174,7 @@ def main():
     for new, names in news.items():
         if len(names) > 1:
             print(f'one name: {names} become {new}', file=sys.stderr)
-    if '--names' not in sys.argv:
+    if '--names' not in words:
         for names, old, new in BEFORE:
             for path in (TOP / 'crates' / name for name in names):
                 path.write_text(tokens(path.read_text(), {old: new}))
@@ -172,4 +183,4 @@ def main():
 
 
 if __name__ == '__main__':
-    main()
+    main(sys.argv[1:])
