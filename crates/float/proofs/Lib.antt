@@ -9,3 +9,4 @@ mod Unit
 pub mod Answers
 pub mod Folds
 pub mod Slices
+pub mod Refusals

@@ -3,3 +3,4 @@ pub mod Calc
 pub mod Answer
 pub mod Folds
 pub mod Slices
+pub mod Refusal

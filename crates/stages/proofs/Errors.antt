@@ -2,6 +2,7 @@
 use mathlib.Core.Path.{◌≡◌, refl, sym, ap, ◌∙◌}
 use mathlib.Core.Bool.{true, false}
 use mathlib.Core.List.{List}
+use Prim.Native.Nat.{ℕ}
 use lib.Ieee.{Float, binary64}
 use Rattle.float.specs.Number.{finite}
 use Rattle.float.specs.Calc.{Calc, give, ◌>>=◌}
@@ -45,8 +46,8 @@ module _ (ms : List Float) (c : Curve) (ts : List Float) where
   unfolding max_error
   then = outcome-then (worst ms c ts) after
 
-  pub far_lost : refused 6 ≡ outcome (worst ms c ts) → refused 6 ≡ outcome (max_error ms c ts)
-  far_lost h = sym (then ∙ ap (λ a. chain a (λ w. outcome (after w))) (sym h))
+  pub far_lost : (q : ℕ) → refused q ≡ outcome (worst ms c ts) → refused q ≡ outcome (max_error ms c ts)
+  far_lost q h = sym (then ∙ ap (λ a. chain a (λ w. outcome (after w))) (sym h))
 
   module _ (w : Worst) (is : ok w ≡ outcome (worst ms c ts)) (e : Float) (root : e ≡ sqrt binary64 w.err) where
     known : outcome (max_error ms c ts) ≡ outcome (after w)

@@ -4,7 +4,6 @@ use Rattle.std.specs.Float.{nan}
 use Rattle.std.specs.Float.Ieee.{lt}
 use Rattle.float.specs.Number.{f0}
 use Rattle.float.specs.Calc.{Calc, give, ◌>>=◌}
-use Rattle.float.specs.Answer.{Answer, ok, refused}
 use Rattle.float.specs.Folds.{upto}
 use Rattle.root.specs.Operation.{sqrt! }
 use Rattle.plane.specs.Plane.{minus, dot_of}
@@ -13,8 +12,6 @@ use Rattle.plane.specs.declared.Curve.{Curve}
 use Rattle.cubic.specs.Basis.{point_at}
 use Rattle.marks.specs.Marks.{mark_at}
 use Rattle.stages.specs.declared.worst.Worst.{Worst}
-use Rattle.stages.specs.declared.worst.Far.{Far}
-use Rattle.stages.specs.declared.worst.Far.TheVariants as far
 
 -- the square of a mark's distance from the curve's point at t
 unfoldable pub error_of : Point → Curve → Float → Calc Float
@@ -42,7 +39,3 @@ max_error ms c ts = do
   w ← worst ms c ts
   err ← sqrt! w.err
   give (record { err = err; at = w.at })
-
-unfoldable pub far_answer : Far → Answer Worst
-far_answer (far.Mark w) = ok w
-far_answer far.Lost = refused 6

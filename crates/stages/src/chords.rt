@@ -15,10 +15,8 @@ fn square_at(marks: &[f64], k: usize) -> f64
 fn guess_distances(marks: &[f64], params: &mut [f64])
     requires { length marks.now ≡ 2 * length params.old }
 {
-    let mut k = 1;
-    while k < params.len() {
+    for k in 1..params.len() {
         params[k] = root::guess(square_at(marks, k));
-        k += 1;
     }
 }
 
@@ -29,11 +27,9 @@ fn sum_distances(marks: &[f64], params: &mut [f64]) -> f64
 {
     let mut total = 0.0;
     params[0] = total;
-    let mut k = 1;
-    while k < params.len() {
+    for k in 1..params.len() {
         total += root::root_by(square_at(marks, k), params[k]);
         params[k] = total;
-        k += 1;
     }
     total
 }
@@ -43,12 +39,9 @@ fn divide_by(params: &mut [f64], total: f64) -> bool
     ensures { (result ≡ (parts params.old total).fine) × (params.new ≡ (parts params.old total).val) }
 {
     let mut fine = true;
-    let mut i = 0;
-    while i < params.len() {
-        let x = params[i] / total;
-        fine = fine & float::finite(x);
-        params[i] = x;
-        i += 1;
+    for part in params.iter_mut() {
+        *part /= total;
+        fine = fine & float::finite(*part);
     }
     fine
 }

@@ -8,4 +8,4 @@ mod worst;
 
 pub use chords::chords_for_points;
 pub use steps::reparameterize;
-pub use worst::{Far, Worst, error_at, larger, max_error_for_curve};
+pub use worst::{Worst, error_at, larger, max_error_for_curve};

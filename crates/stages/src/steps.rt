@@ -23,12 +23,10 @@ pub fn reparameterize(marks: &[f64], c: Curve, params: &mut [f64]) -> bool
 {
     let q = newton::vertices_of(c);
     let mut fine = true;
-    let mut i = 0;
-    while i < params.len() {
-        let s = step_at(marks, c, q, i, params[i]);
+    for (i, t) in params.iter_mut().enumerate() {
+        let s = step_at(marks, c, q, i, *t);
         fine = fine & s.fine;
-        params[i] = s.t;
-        i += 1;
+        *t = s.t;
     }
     fine
 }

@@ -1,9 +1,11 @@
 // max_error_for_curve: the mark that lies farthest from the curve's point at its parameter.
 ghost use Rattle.std.specs.Prelude.{◌≡◌, ◌+◌, ◌*◌, ◌<◌, length};
 ghost use Rattle.float.specs.Answer.{outcome};
+ghost use Rattle.float.specs.Refusal.{answer};
 ghost use Rattle.marks.specs.Marks.{mark_at};
-ghost use Rattle.stages.specs.Worst.{error_of, larger as larger_of, worst, max_error, far_answer};
+ghost use Rattle.stages.specs.Worst.{error_of, larger as larger_of, worst, max_error};
 
+use float::refusal::Refusal;
 use plane::Curve;
 
 // A distance, and the mark that has it.
@@ -11,13 +13,6 @@ use plane::Curve;
 pub struct Worst {
     pub err: f64,
     pub at: usize,
-}
-
-// The worst mark, or that an operation gave NaN or infinity.
-#[derive(Clone, Copy)]
-pub enum Far {
-    Mark(Worst),
-    Lost,
 }
 
 // The square of mark k's distance from the curve's point at t.
@@ -40,38 +35,33 @@ pub fn larger(w: Worst, e: f64, k: usize) -> Worst
 }
 
 // The largest squared distance. A NaN or an infinity is not at most the worst so far, so the finite test runs only for a new worst.
-fn largest_error(marks: &[f64], c: Curve, params: &[f64]) -> Far
+fn largest_error(marks: &[f64], c: Curve, params: &[f64]) -> Result<Worst, Refusal>
     requires { length marks.now ≡ 2 * length params.now }
-    ensures { far_answer result ≡ outcome (worst marks.now c params.now) }
+    ensures { answer result ≡ outcome (worst marks.now c params.now) }
 {
     let mut w = Worst { err: 0.0, at: 0 };
-    let mut i = 0;
-    while i < params.len() {
-        let e = error_at(marks, c, i, params[i]);
+    for (i, t) in params.iter().enumerate() {
+        let e = error_at(marks, c, i, *t);
         if e <= w.err {
-            i += 1;
             continue;
         }
         if !float::finite(e) {
-            return Far::Lost;
+            return Err(Refusal::NotFinite);
         }
         w = larger(w, e, i);
-        i += 1;
     }
-    Far::Mark(w)
+    Ok(w)
 }
 
 // The largest distance, and the first mark that has it.
-pub fn max_error_for_curve(marks: &[f64], c: Curve, params: &[f64]) -> Far
+pub fn max_error_for_curve(marks: &[f64], c: Curve, params: &[f64]) -> Result<Worst, Refusal>
     requires { length marks.now ≡ 2 * length params.now }
-    ensures { far_answer result ≡ outcome (max_error marks.now c params.now) }
+    ensures { answer result ≡ outcome (max_error marks.now c params.now) }
 {
-    let Far::Mark(w) = largest_error(marks, c, params) else {
-        return Far::Lost;
-    };
+    let w = largest_error(marks, c, params)?;
     let err = root::sqrt(w.err);
-    if float::finite(err) {
-        return Far::Mark(Worst { err, at: w.at });
+    if !float::finite(err) {
+        return Err(Refusal::NotFinite);
     }
-    Far::Lost
+    Ok(Worst { err, at: w.at })
 }

@@ -19,27 +19,12 @@ next ts ps total fine i d l b e =
     let same = ap (λ (x : Float). div binary64 x total) (read (part_at ts total) ts ps fine i d l) in
     more (part_at ts total) ts ps fine i d l _ b same (e ∙ ap finite same)
 
-pub loop-i-init : goal.loop-i-init
-loop-i-init c = start _ _
+pub loop-part-init : goal.loop-part-init
+loop-part-init c = start _ _
 
-pub offset_bounds-params-i : goal.offset_bounds-params-i
-offset_bounds-params-i c = omega (arith, len _ _ _ _ _ c.loop-i.invariant)
-
-pub offset_bounds-params-i-in-loop-i : goal.offset_bounds-params-i-in-loop-i
-offset_bounds-params-i-in-loop-i c = omega (arith, len _ _ _ _ _ c.loop-i.invariant)
-
-pub overflow_add-i : goal.overflow_add-i
-overflow_add-i c = omega (arith, len _ _ _ _ _ c.loop-i.invariant)
-
-pub loop-i-smaller : goal.loop-i-smaller
-loop-i-smaller c = omega (arith, len _ _ _ _ _ c.loop-i.invariant)
-
-pub loop-i-preserved : goal.loop-i-preserved
-loop-i-preserved c = next _ _ _ _ _ c.loop-i.invariant (omega (arith, len _ _ _ _ _ c.loop-i.invariant)) _ c.finite-fine.ensures
-
-pub shape_of-params : goal.shape_of-params
-shape_of-params c = len _ _ _ _ _ c.loop-i.invariant
+pub loop-part-preserved : goal.loop-part-preserved
+loop-part-preserved c = next _ _ _ _ _ c.loop-part.invariant (omega (arith, len _ _ _ _ _ c.loop-part.invariant)) _ c.finite-fine.ensures
 
 pub returns : goal.returns
 unfolding parts
-returns c = finish _ _ _ _ _ c.loop-i.invariant c.loop-i-test.false
+returns c = finish _ _ _ _ _ c.loop-part.invariant (omega (arith, len _ _ _ _ _ c.loop-part.invariant))

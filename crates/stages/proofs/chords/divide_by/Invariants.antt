@@ -1,12 +1,7 @@
--- What the loops of `stages::chords::divide_by` keep.
-use Prim.Native.Nat.{◌-◌}
-use lib.ListN.{length}
+-- What the loop of `stages::chords::divide_by` keeps.
 use Rattle.stages.specs.Chords.{part_at}
 use Rattle.stages.proofs.InPlace.{Done}
 use Rattle.stages.proofs.chords.divide_by.Given as goal
 
-abbrev pub invariant-loop-i : goal.invariant-loop-i
-invariant-loop-i l = Done (part_at l.initial.params l.total) l.initial.params l.params l.fine l.i
-
-abbrev pub decreases-loop-i : goal.decreases-loop-i
-decreases-loop-i l = length l.initial.params - l.i
+abbrev pub invariant-loop-part : goal.invariant-loop-part
+invariant-loop-part l = Done (part_at l.initial.params l.total) l.initial.params l.params l.fine l.part-index

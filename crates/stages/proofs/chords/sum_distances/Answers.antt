@@ -26,16 +26,6 @@ offset_bounds-params-k-in-loop-k c =
     let sizes : length (set c.args.params.now 0 f0) ≡ length c.args.params.now = simp length-set in
     omega (arith, sizes, count _ _ _ _ _ c.loop-k.invariant)
 
-pub overflow_add-k : goal.overflow_add-k
-overflow_add-k c =
-    let sizes : length (set c.args.params.now 0 f0) ≡ length c.args.params.now = simp length-set in
-    omega (arith, sizes, count _ _ _ _ _ c.loop-k.invariant)
-
-pub loop-k-smaller : goal.loop-k-smaller
-loop-k-smaller c =
-    let sizes : length (set c.args.params.now 0 f0) ≡ length c.args.params.now = simp length-set in
-    omega (arith, sizes, count _ _ _ _ _ c.loop-k.invariant)
-
 pub loop-k-preserved : goal.loop-k-preserved
 loop-k-preserved c = next _ _ _ _ _ c.loop-k.invariant (omega (arith, count _ _ _ _ _ c.loop-k.invariant)) _ _ c.square_at.ensures c.root_by-total.ensures
 
@@ -47,6 +37,6 @@ shape_of-params c =
 pub returns : goal.returns
 returns c =
     let sizes : length (set c.args.params.now 0 f0) ≡ length c.args.params.now = simp length-set in
-    let s = summed _ _ _ _ _ c.loop-k.invariant c.loop-k-test.false in
+    let s = summed _ _ _ _ _ c.loop-k.invariant (omega (arith, sizes, count _ _ _ _ _ c.loop-k.invariant)) in
     let e = sizes in
     (s.0 ∙ ap (λ (n : ℕ). (along c.args.marks.now (n - 1)).val) e, s.1 ∙ ap (lengths c.args.marks.now) e)

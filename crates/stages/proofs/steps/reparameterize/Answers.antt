@@ -29,27 +29,9 @@ next ms c ts ps fine i d l q v s e =
 pub loop-i-init : goal.loop-i-init
 loop-i-init c = start _ _
 
-pub offset_bounds-params-i : goal.offset_bounds-params-i
-offset_bounds-params-i c = omega (arith, len _ _ _ _ _ c.loop-i.invariant)
-
-pub step_at-s-requires : goal.step_at-s-requires
-step_at-s-requires c = omega (arith, len _ _ _ _ _ c.loop-i.invariant)
-
-pub offset_bounds-params-i-in-loop-i : goal.offset_bounds-params-i-in-loop-i
-offset_bounds-params-i-in-loop-i c = omega (arith, len _ _ _ _ _ c.loop-i.invariant)
-
-pub overflow_add-i : goal.overflow_add-i
-overflow_add-i c = omega (arith, len _ _ _ _ _ c.loop-i.invariant)
-
-pub loop-i-smaller : goal.loop-i-smaller
-loop-i-smaller c = omega (arith, len _ _ _ _ _ c.loop-i.invariant)
-
 pub loop-i-preserved : goal.loop-i-preserved
 loop-i-preserved c = next _ _ _ _ _ _ c.loop-i.invariant (omega (arith, len _ _ _ _ _ c.loop-i.invariant)) _ c.vertices_of-q.ensures _ c.step_at-s.ensures
 
-pub shape_of-params : goal.shape_of-params
-shape_of-params c = len _ _ _ _ _ c.loop-i.invariant
-
 pub returns : goal.returns
 unfolding reparam
-returns c = finish _ _ _ _ _ c.loop-i.invariant c.loop-i-test.false
+returns c = finish _ _ _ _ _ c.loop-i.invariant (omega (arith, len _ _ _ _ _ c.loop-i.invariant))

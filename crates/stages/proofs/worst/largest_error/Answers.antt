@@ -16,7 +16,7 @@ use Rattle.float.proofs.Signs.{negative, held}
 use Rattle.float.proofs.Folds.{upto_next, upto_both, upto_bad}
 use Rattle.plane.specs.declared.Curve.{Curve}
 use Rattle.marks.specs.Marks.{mark_at}
-use Rattle.stages.specs.Worst.{worst_at, worst, no_worst, error_of, larger, far_answer}
+use Rattle.stages.specs.Worst.{worst_at, worst, no_worst, error_of, larger}
 use Rattle.stages.specs.declared.worst.Worst.{Worst}
 use Rattle.stages.proofs.Errors.{error_fine, error_bad, error_sign}
 use Rattle.stages.proofs.worst.largest_error.Invariants.{Sofar}
@@ -71,7 +71,6 @@ pub loop-i-preserved-then-e-w : goal.loop-i-preserved-then-e-w
 loop-i-preserved-then-e-w c = skip _ _ _ _ _ c.loop-i.invariant c.loop-i-test.true _ c.error_at-e.ensures c.if-e-w.true
 
 pub returns-then-not-finite : goal.returns-then-not-finite
-unfolding far_answer
 returns-then-not-finite c = halt _ _ _ _ _ c.loop-i.invariant c.loop-i-test.true _ c.error_at-e.ensures (sym c.finite.ensures ∙ c.if-not-finite.true)
 
 pub loop-i-smaller : goal.loop-i-smaller
@@ -81,5 +80,4 @@ pub loop-i-preserved : goal.loop-i-preserved
 loop-i-preserved c = more _ _ _ _ _ c.loop-i.invariant c.loop-i-test.true _ c.error_at-e.ensures (sym c.finite.ensures ∙ c.if-not-finite.false) _ c.larger-w.ensures
 
 pub returns : goal.returns
-unfolding far_answer
 returns c = end _ _ _ _ _ c.loop-i.invariant c.loop-i-test.false

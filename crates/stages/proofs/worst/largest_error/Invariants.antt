@@ -1,7 +1,7 @@
 -- What the loops of `stages::worst::largest_error` keep.
 use mathlib.Core.Path.{◌≡◌}
 use mathlib.Core.List.{List}
-use Prim.Native.Nat.{ℕ, ◌≤◌, ◌-◌}
+use Prim.Native.Nat.{ℕ, ◌≤◌}
 use lib.ListN.{length}
 use lib.Ieee.{Float}
 use Rattle.float.specs.Folds.{upto}
@@ -17,6 +17,3 @@ Sofar ms c ts w i = (i ≤ length ts) × Fine (upto i no_worst (worst_at ms c ts
 
 abbrev pub invariant-loop-i : goal.invariant-loop-i
 invariant-loop-i l = Sofar l.marks l.c l.params l.w l.i
-
-abbrev pub decreases-loop-i : goal.decreases-loop-i
-decreases-loop-i l = length l.params - l.i
