@@ -48,93 +48,50 @@ pub fn form_for(nine: bool) -> Form
     Form::Eight
 }
 
-// ---- counts
+// ---- one value
 
-// How many curves a fit made.
-pub fn put_fitted(answer: Fitted, made: &mut usize) -> u32
-    ensures { crossed result made.new ≡ count_crossed (fitted_answer answer) }
+// An answer's number, 0 of one that is accepted; its value goes to `place`, and where something is refused `nothing` does.
+fn put<T: Copy>(answer: Result<T, Refusal>, nothing: T, place: &mut T) -> u32
+    ensures { crossed result place.new ≡ crossing (λ v. v) nothing (answer answer) }
 {
     match answer {
-        Fitted::Curves(k) => {
-            *made = k;
+        Ok(value) => {
+            *place = value;
             0
         }
-        Fitted::Refused(q) => {
-            *made = 0;
-            q
+        Err(refusal) => {
+            *place = nothing;
+            refusal.number()
         }
     }
 }
 
-// How many bytes the writer wrote.
-pub fn put_wrote(answer: Wrote, size: &mut usize) -> u32
-    ensures { crossed result size.new ≡ count_crossed (write_answer answer) }
+// How many: curves that a fit made, or bytes that were written.
+pub fn put_count(answer: Result<usize, Refusal>, count: &mut usize) -> u32
+    ensures { crossed result count.new ≡ count_crossed (answer answer) }
 {
-    match answer {
-        Wrote::Bytes(n) => {
-            *size = n;
-            0
-        }
-        Wrote::Refused(q) => {
-            *size = 0;
-            q
-        }
-    }
+    put(answer, 0, count)
 }
 
-// How many bytes a text has.
-pub fn put_listed(answer: Listed, size: &mut usize) -> u32
-    ensures { crossed result size.new ≡ count_crossed (listed_answer answer) }
+// A parameter.
+pub fn put_refined(answer: Result<f64, Refusal>, t: &mut f64) -> u32
+    ensures { crossed result t.new ≡ number_crossed (answer answer) }
 {
-    match answer {
-        Listed::Bytes(n) => {
-            *size = n;
-            0
-        }
-        Listed::Refused(q) => {
-            *size = 0;
-            q
-        }
-    }
+    put(answer, 0.0, t)
 }
 
 // ---- one curve
 
 // A point.
-pub fn put_point(answer: PointAnswer, point: &mut [f64; 2]) -> u32
-    ensures { crossed result point.new ≡ point_crossed (point_answer answer) }
+pub fn put_point(answer: Result<Point, Refusal>, point: &mut [f64; 2]) -> u32
+    ensures { crossed result point.new ≡ point_crossed (answer answer) }
 {
-    match answer {
-        PointAnswer::At(p) => {
-            *point = [p.x, p.y];
-            0
-        }
-        PointAnswer::Refused(q) => {
-            *point = [0.0, 0.0];
-            q
-        }
-    }
-}
-
-// A parameter.
-pub fn put_refined(answer: NumberAnswer, t: &mut f64) -> u32
-    ensures { crossed result t.new ≡ number_crossed (number_answer answer) }
-{
-    match answer {
-        NumberAnswer::Is(x) => {
-            *t = x;
-            0
-        }
-        NumberAnswer::Refused(q) => {
-            *t = 0.0;
-            q
-        }
-    }
+    put(answer.map(|p| [p.x, p.y]), [0.0; 2], point)
 }
 
 // A curve's coefficients.
-pub fn put_coefficients(answer: CoefficientsAnswer, coefficients: &mut [f64; 4]) -> u32
-    ensures { crossed result coefficients.new ≡ coefficients_crossed (coefficients_answer answer) }
+pub fn put_coefficients(answer: Result<Coefficients, Refusal>, coefficients: &mut [f64; 4]) -> u32
+    ensures { crossed result coefficients.new ≡ coefficients_crossed (answer answer) }
 {
     match answer {
         CoefficientsAnswer::Are(k) => {
@@ -158,8 +115,8 @@ fn eight(c: Curve) -> [f64; 8]
 }
 
 // The two parts of a curve.
-pub fn put_halves(answer: HalvesAnswer, left: &mut [f64; 8], right: &mut [f64; 8]) -> u32
-    ensures { crossed result (parts left.new right.new) ≡ halves_crossed (halves_answer answer) }
+pub fn put_halves(answer: Result<Halves, Refusal>, left: &mut [f64; 8], right: &mut [f64; 8]) -> u32
+    ensures { crossed result (parts left.new right.new) ≡ halves_crossed (answer answer) }
 {
     match answer {
         HalvesAnswer::Are(h) => {
@@ -242,13 +199,13 @@ fn is_nine(form: Form) -> bool
 
 // What a file holds beside the slices.
 pub fn put_read(
-    answer: Read,
+    answer: Result<Read, Refusal>,
     tolerance: &mut u64,
     mark_count: &mut usize,
     curve_count: &mut usize,
     nine: &mut bool,
 ) -> u32
-    ensures { crossed result (found nine.new tolerance.new mark_count.new curve_count.new) ≡ found_crossed (read_answer answer) }
+    ensures { crossed result (found nine.new tolerance.new mark_count.new curve_count.new) ≡ found_crossed (answer answer) }
 {
     match answer {
         Read::File {
