@@ -10,6 +10,9 @@ use lib.Ieee.{Float, nan}
 use borrow.Author.Tests.{ltb-false, leb-true, leb-false, eqb-true, eq-eqb, ne_eqb, lt-ltb, le-ltb, le-leb, not-false}
 use Rattle.std.specs.Bool.{MatchBool}
 use Rattle.std.specs.List.{AllWithin, HoldsAt}
+use Rattle.float.specs.Refusal.{number}
+use Rattle.float.specs.declared.refusal.Refusal.{Refusal}
+use Rattle.float.specs.declared.refusal.Refusal.TheVariants.{TooFew, TooMany, Odd, NoRoom, OutOfRange, NotFinite, TooDeep, BadlyFormed, TooLarge, NoPath, NotJoined}
 use Rattle.float.proofs.Truth.{both, and_left, and_right}
 use Rattle.plane.specs.Range.{coordinate}
 use Rattle.marks.specs.Marks.{count}
@@ -107,6 +110,20 @@ module _ (top : ℕ) (o : Outline) (form : Form) (k : ℕ) (ms : List Float) (to
               pub lets_pass : u ≡ true → 0 ≡ gate_for top o form k ms tol c f w p
               unfolding gate_for
               lets_pass h = rw (eq-eqb (length ms % 2) 0 even, le-ltb (count ms) (again o + 2) two, le-ltb top (count ms) most, ← e, t, le-ltb p (again o + count ms) params, ← near, is, ← usable, h)
+
+-- 0 is no refusal's number
+pub never_zero : (q : Refusal) → number q ≡ 0 → ⊥
+never_zero TooFew h = omega arith
+never_zero TooMany h = omega arith
+never_zero Odd h = omega arith
+never_zero NoRoom h = omega arith
+never_zero OutOfRange h = omega arith
+never_zero NotFinite h = omega arith
+never_zero TooDeep h = omega arith
+never_zero BadlyFormed h = omega arith
+never_zero TooLarge h = omega arith
+never_zero NoPath h = omega arith
+never_zero NotJoined h = omega arith
 
 -- by the number of curves that room is asked for
 pub wants : (top : ℕ) (o : Outline) (form : Form) (ms : List Float) (tol : Float) (c f w p : ℕ) {k k' : ℕ} → k ≡ k' → {r : ℕ} → r ≡ gate_for top o form k ms tol c f w p → r ≡ gate_for top o form k' ms tol c f w p
