@@ -22,6 +22,7 @@ pub struct Curve {
 }
 
 // Whether two points are equal in both coordinates. Numbers are compared and not their bits, so minus zero equals zero.
+#[tactic(auto, unfolding(crate::specs::Plane::equal))]
 pub fn equal(p: Point, q: Point) -> bool
     ensures { result ≡ equal p q }
 {
