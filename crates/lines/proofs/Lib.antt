@@ -1,3 +1,2 @@
 pub mod Turns
 pub mod Handed
-pub mod Agree

@@ -2,19 +2,12 @@
 use Rattle.std.specs.Prelude.{ℕ, cond, List, leb, length}
 use Rattle.float.specs.Answer.{Answer, ok, refused}
 use Rattle.float.specs.Slices.{written}
-use Rattle.lines.specs.declared.Listed.{Listed}
-use Rattle.lines.specs.declared.Listed.TheVariants as listed
 use Rattle.lines.specs.Lines.{refusal_line}
 
 -- a text, or the one line of a refusal
 abbrev pub shown : Answer (List ℕ) → List ℕ
 shown (ok t) = t
 shown (refused q) = refusal_line q
-
--- the document's number and values for each case of the answer: `ok` is its number 0
-abbrev pub listed_answer : Listed → Answer ℕ
-listed_answer (listed.Bytes n) = ok n
-listed_answer (listed.Refused q) = refused q
 
 -- the answer, and the lent bytes as they are left
 pub record Handed : Type 0 where

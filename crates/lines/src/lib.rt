@@ -3,12 +3,13 @@
 #![tactic(auto)]
 
 ghost use Rattle.std.specs.Prelude.{◌≡◌, ◌+◌, ◌*◌, ◌≤◌, ◌∷◌, [], length, take};
+ghost use Rattle.float.specs.Refusal.{answer};
 ghost use Rattle.form.specs.Form.{curve_numbers, record_numbers};
 ghost use Rattle.text.specs.Put.{Put};
 ghost use Rattle.lines.specs.Lines.{one_line, pair_line, two_line, numbers, piece_line, piece_lines, outline_lines, refusal_line};
-ghost use Rattle.lines.specs.Handed.{handed, listed_answer, hand_over};
+ghost use Rattle.lines.specs.Handed.{handed, hand_over};
 
-use float::refusal::NO_ROOM;
+use float::refusal::Refusal;
 use float::to_bits;
 use form::{CURVE_NUMBERS, RECORD_NUMBERS};
 use text::{put_bytes, put_decimal, put_hex};
@@ -58,10 +59,8 @@ fn put_numbers(out: &mut [u8], at: usize, curve: &[f64]) -> usize
     ensures { Put out.old at (numbers (take curve_numbers curve.now)) out.new result }
 {
     let mut end = at;
-    let mut i = 0;
-    while i < CURVE_NUMBERS {
-        end = put_number(out, end, curve[i]);
-        i += 1;
+    for x in &curve[..CURVE_NUMBERS] {
+        end = put_number(out, end, *x);
     }
     end
 }
@@ -83,11 +82,9 @@ fn put_pieces(out: &mut [u8], at: usize, firsts: &[u32], curves: &[f64], k: usiz
     ensures { (result ≤ at + 153 * k) × Put out.old at (piece_lines (take k firsts.now) curves.now) out.new result }
 {
     let mut end = at;
-    let mut i = 0;
-    while i < k {
+    for i in 0..k {
         let j = RECORD_NUMBERS * i;
         end = put_piece(out, end, firsts[i], &curves[j..]);
-        i += 1;
     }
     end
 }
@@ -111,21 +108,14 @@ pub fn put_refusal(out: &mut [u8], q: u32) -> usize
 
 // ---- a whole text
 
-// How many bytes of text were written; or why none were.
-#[derive(Clone, Copy)]
-pub enum Listed {
-    Bytes(usize),
-    Refused(u32),
-}
-
-// A text into the first bytes of `out`. Where `out` is too short for it the call is refused, and `out` stays as it is.
-pub fn hand_over(text: &[u8], out: &mut [u8]) -> Listed
-    ensures { handed (listed_answer result) out.new ≡ hand_over text.now out.old }
+// A text into the first bytes of `out`, and how many they are. Where `out` is too short for it the call is refused, and `out` stays as it is.
+pub fn hand_over(text: &[u8], out: &mut [u8]) -> Result<usize, Refusal>
+    ensures { handed (answer result) out.new ≡ hand_over text.now out.old }
 {
     if out.len() < text.len() {
-        return Listed::Refused(NO_ROOM);
+        return Err(Refusal::NoRoom);
     }
-    Listed::Bytes(put_bytes(out, 0, text))
+    Ok(put_bytes(out, 0, text))
 }
 
 // Room for a refusal's line.
@@ -136,8 +126,8 @@ fn line_room() -> [u8; 29]
 }
 
 // A refusal's line as the whole text.
-pub fn hand_refusal(q: u32, out: &mut [u8]) -> Listed
-    ensures { handed (listed_answer result) out.new ≡ hand_over (refusal_line q) out.old }
+pub fn hand_refusal(q: u32, out: &mut [u8]) -> Result<usize, Refusal>
+    ensures { handed (answer result) out.new ≡ hand_over (refusal_line q) out.old }
 {
     let mut text = line_room();
     let size = put_refusal(&mut text, q);
