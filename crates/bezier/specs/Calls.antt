@@ -1,7 +1,7 @@
 -- The public calls on a single curve: refusal 5 for an argument out of range, then what the run comes to. Definitions only.
 use Rattle.std.specs.Prelude.{◌&&◌, ℕ, zero, suc, ltb, leb, Float}
 use Rattle.float.specs.Number.{finite}
-use Rattle.float.specs.Answer.{Answer, ok, refused, unless, outcome}
+use Rattle.float.specs.Answer.{Answer, unless, outcome}
 use Rattle.plane.specs.Range.{point_in_range, curve_in_range}
 use Rattle.plane.specs.declared.Point.{Point}
 use Rattle.plane.specs.declared.Curve.{Curve}
@@ -10,33 +10,7 @@ use Rattle.cubic.specs.Subdivide.{curve, subdivide4_of}
 use Rattle.newton.specs.Newton.{refine}
 use Rattle.cubic.specs.declared.eval.Coefficients.{Coefficients}
 use Rattle.cubic.specs.declared.split.Halves.{Halves}
-use Rattle.bezier.specs.declared.PointAnswer.{PointAnswer}
-use Rattle.bezier.specs.declared.PointAnswer.TheVariants as point
-use Rattle.bezier.specs.declared.NumberAnswer.{NumberAnswer}
-use Rattle.bezier.specs.declared.NumberAnswer.TheVariants as number
-use Rattle.bezier.specs.declared.CoefficientsAnswer.{CoefficientsAnswer}
-use Rattle.bezier.specs.declared.CoefficientsAnswer.TheVariants as coefficients
-use Rattle.bezier.specs.declared.HalvesAnswer.{HalvesAnswer}
-use Rattle.bezier.specs.declared.HalvesAnswer.TheVariants as halves
 
--- ---- the document's number or value of each case of an answer
-unfoldable pub point_answer : PointAnswer → Answer Point
-point_answer (point.At p) = ok p
-point_answer (point.Refused n) = refused n
-
-unfoldable pub number_answer : NumberAnswer → Answer Float
-number_answer (number.Is x) = ok x
-number_answer (number.Refused n) = refused n
-
-unfoldable pub coefficients_answer : CoefficientsAnswer → Answer Coefficients
-coefficients_answer (coefficients.Are k) = ok k
-coefficients_answer (coefficients.Refused n) = refused n
-
-unfoldable pub halves_answer : HalvesAnswer → Answer Halves
-halves_answer (halves.Are h) = ok h
-halves_answer (halves.Refused n) = refused n
-
--- ---- the calls
 unfoldable pub basis_call : Float → Point → Point → Point → Point → Answer Point
 basis_call t w1 w2 w3 w4 = unless 5 (finite t && curve_in_range (curve w1 w2 w3 w4)) (outcome (basis t w1 w2 w3 w4))
 

@@ -4,60 +4,30 @@
 
 ghost use Rattle.std.specs.Prelude.{◌≡◌};
 ghost use Rattle.float.specs.Answer.{ok, unless};
-ghost use Rattle.plane.specs.Range.{point_finite};
-ghost use Rattle.cubic.specs.Tests.{coefficients_finite, halves_finite};
-ghost use Rattle.bezier.specs.Calls.{point_answer, number_answer, coefficients_answer, halves_answer, coordinate_of, basis_call, casteljau4_call, casteljau3_call, casteljau2_call, coefficients_call, subdivide4_call, refine_call};
+ghost use Rattle.float.specs.Refusal.{answer};
+ghost use Rattle.bezier.specs.Calls.{coordinate_of, basis_call, casteljau4_call, casteljau3_call, casteljau2_call, coefficients_call, subdivide4_call, refine_call};
 
 use cubic::eval::Coefficients;
 use cubic::split::Halves;
-use float::refusal::{NOT_FINITE, OUT_OF_RANGE};
-use newton::Refined;
+use float::refusal::Refusal::{self, NotFinite, OutOfRange};
 use plane::{Curve, Point};
 
 // More rounds of Newton refinement than this are out of range.
 pub const MOST_ROUNDS: usize = 64;
 
-// A point, or the refusal's number.
-#[derive(Clone, Copy)]
-pub enum PointAnswer {
-    At(Point),
-    Refused(u32),
-}
-
-// A parameter, or the refusal's number.
-#[derive(Clone, Copy)]
-pub enum NumberAnswer {
-    Is(f64),
-    Refused(u32),
-}
-
-// A curve's coefficients in one dimension, or the refusal's number.
-#[derive(Clone, Copy)]
-pub enum CoefficientsAnswer {
-    Are(Coefficients),
-    Refused(u32),
-}
-
-// The two parts of a curve, or the refusal's number.
-#[derive(Clone, Copy)]
-pub enum HalvesAnswer {
-    Are(Halves),
-    Refused(u32),
-}
-
-// The point that a run came to, or 6: the end of each run here is finite only where every operation was.
-fn finite_point(p: Point) -> PointAnswer
-    ensures { point_answer result ≡ unless 6 (point_finite p) (ok p) }
+// What a run came to, or 6: the end of each run here is finite only where every operation was.
+fn finite_end<T: Copy>(fine: bool, end: T) -> Result<T, Refusal>
+    ensures { answer result ≡ unless 6 fine (ok end) }
 {
-    if plane::point_finite(p) {
-        return PointAnswer::At(p);
+    if !fine {
+        return Err(NotFinite);
     }
-    PointAnswer::Refused(NOT_FINITE)
+    Ok(end)
 }
 
 // basis.rs's `basis`, which is a curve's `point_at_pos`.
-pub fn basis(t: f64, w1: Point, w2: Point, w3: Point, w4: Point) -> PointAnswer
-    ensures { point_answer result ≡ basis_call t w1 w2 w3 w4 }
+pub fn basis(t: f64, w1: Point, w2: Point, w3: Point, w4: Point) -> Result<Point, Refusal>
+    ensures { answer result ≡ basis_call t w1 w2 w3 w4 }
 {
     let c = Curve {
         start: w1,
@@ -65,15 +35,16 @@ pub fn basis(t: f64, w1: Point, w2: Point, w3: Point, w4: Point) -> PointAnswer
         cp2: w3,
         end: w4,
     };
-    if float::finite(t) & plane::curve_in_range(c) {
-        return finite_point(cubic::eval::basis(t, w1, w2, w3, w4));
+    if !(float::finite(t) & plane::curve_in_range(c)) {
+        return Err(OutOfRange);
     }
-    PointAnswer::Refused(OUT_OF_RANGE)
+    let p = cubic::eval::basis(t, w1, w2, w3, w4);
+    finite_end(plane::point_finite(p), p)
 }
 
 // basis.rs's `de_casteljau4`: the same point as `basis` gives, by other roundings.
-pub fn de_casteljau4(t: f64, w1: Point, w2: Point, w3: Point, w4: Point) -> PointAnswer
-    ensures { point_answer result ≡ casteljau4_call t w1 w2 w3 w4 }
+pub fn de_casteljau4(t: f64, w1: Point, w2: Point, w3: Point, w4: Point) -> Result<Point, Refusal>
+    ensures { answer result ≡ casteljau4_call t w1 w2 w3 w4 }
 {
     let c = Curve {
         start: w1,
@@ -81,32 +52,35 @@ pub fn de_casteljau4(t: f64, w1: Point, w2: Point, w3: Point, w4: Point) -> Poin
         cp2: w3,
         end: w4,
     };
-    if float::finite(t) & plane::curve_in_range(c) {
-        return finite_point(cubic::eval::de_casteljau4(t, w1, w2, w3, w4));
+    if !(float::finite(t) & plane::curve_in_range(c)) {
+        return Err(OutOfRange);
     }
-    PointAnswer::Refused(OUT_OF_RANGE)
+    let p = cubic::eval::de_casteljau4(t, w1, w2, w3, w4);
+    finite_end(plane::point_finite(p), p)
 }
 
 // basis.rs's `de_casteljau3`, for a quadratic curve.
-pub fn de_casteljau3(t: f64, w1: Point, w2: Point, w3: Point) -> PointAnswer
-    ensures { point_answer result ≡ casteljau3_call t w1 w2 w3 }
+pub fn de_casteljau3(t: f64, w1: Point, w2: Point, w3: Point) -> Result<Point, Refusal>
+    ensures { answer result ≡ casteljau3_call t w1 w2 w3 }
 {
-    if float::finite(t)
-        & (plane::point_in_range(w1) & (plane::point_in_range(w2) & plane::point_in_range(w3)))
-    {
-        return finite_point(cubic::eval::de_casteljau3(t, w1, w2, w3));
+    let points = plane::point_in_range(w1)
+        & (plane::point_in_range(w2) & plane::point_in_range(w3));
+    if !(float::finite(t) & points) {
+        return Err(OutOfRange);
     }
-    PointAnswer::Refused(OUT_OF_RANGE)
+    let p = cubic::eval::de_casteljau3(t, w1, w2, w3);
+    finite_end(plane::point_finite(p), p)
 }
 
 // basis.rs's `de_casteljau2`, for a line.
-pub fn de_casteljau2(t: f64, w1: Point, w2: Point) -> PointAnswer
-    ensures { point_answer result ≡ casteljau2_call t w1 w2 }
+pub fn de_casteljau2(t: f64, w1: Point, w2: Point) -> Result<Point, Refusal>
+    ensures { answer result ≡ casteljau2_call t w1 w2 }
 {
-    if float::finite(t) & (plane::point_in_range(w1) & plane::point_in_range(w2)) {
-        return finite_point(cubic::eval::de_casteljau2(t, w1, w2));
+    if !(float::finite(t) & (plane::point_in_range(w1) & plane::point_in_range(w2))) {
+        return Err(OutOfRange);
     }
-    PointAnswer::Refused(OUT_OF_RANGE)
+    let p = cubic::eval::de_casteljau2(t, w1, w2);
+    finite_end(plane::point_finite(p), p)
 }
 
 // One coordinate of a point: x in dimension 0, else y.
@@ -119,16 +93,6 @@ fn get(p: Point, dimension: usize) -> f64
     p.y
 }
 
-// The coefficients that a run came to, or 6.
-fn finite_coefficients(k: Coefficients) -> CoefficientsAnswer
-    ensures { coefficients_answer result ≡ unless 6 (coefficients_finite k) (ok k) }
-{
-    if float::three_finite(k.a, k.b, k.c) {
-        return CoefficientsAnswer::Are(k);
-    }
-    CoefficientsAnswer::Refused(NOT_FINITE)
-}
-
 // basis.rs's `bezier_coefficients`, in dimension 0 or 1.
 pub fn bezier_coefficients(
     dimension: usize,
@@ -136,8 +100,8 @@ pub fn bezier_coefficients(
     w2: Point,
     w3: Point,
     w4: Point,
-) -> CoefficientsAnswer
-    ensures { coefficients_answer result ≡ coefficients_call dimension w1 w2 w3 w4 }
+) -> Result<Coefficients, Refusal>
+    ensures { answer result ≡ coefficients_call dimension w1 w2 w3 w4 }
 {
     let c = Curve {
         start: w1,
@@ -145,30 +109,21 @@ pub fn bezier_coefficients(
         cp2: w3,
         end: w4,
     };
-    if (dimension < 2) & plane::curve_in_range(c) {
-        return finite_coefficients(cubic::eval::bezier_coefficients(
-            get(w1, dimension),
-            get(w2, dimension),
-            get(w3, dimension),
-            get(w4, dimension),
-        ));
+    if !((dimension < 2) & plane::curve_in_range(c)) {
+        return Err(OutOfRange);
     }
-    CoefficientsAnswer::Refused(OUT_OF_RANGE)
+    let k = cubic::eval::bezier_coefficients(
+        get(w1, dimension),
+        get(w2, dimension),
+        get(w3, dimension),
+        get(w4, dimension),
+    );
+    finite_end(float::three_finite(k.a, k.b, k.c), k)
 }
 
-// The parts that a run came to, or 6: the point where they meet tells of all the others.
-fn finite_halves(h: Halves) -> HalvesAnswer
-    ensures { halves_answer result ≡ unless 6 (halves_finite h) (ok h) }
-{
-    if plane::point_finite(h.left.end) {
-        return HalvesAnswer::Are(h);
-    }
-    HalvesAnswer::Refused(NOT_FINITE)
-}
-
-// subdivide.rs's `subdivide4`.
-pub fn subdivide4(t: f64, w1: Point, w2: Point, w3: Point, w4: Point) -> HalvesAnswer
-    ensures { halves_answer result ≡ subdivide4_call t w1 w2 w3 w4 }
+// subdivide.rs's `subdivide4`. The point where the parts meet tells of all the others.
+pub fn subdivide4(t: f64, w1: Point, w2: Point, w3: Point, w4: Point) -> Result<Halves, Refusal>
+    ensures { answer result ≡ subdivide4_call t w1 w2 w3 w4 }
 {
     let c = Curve {
         start: w1,
@@ -176,10 +131,11 @@ pub fn subdivide4(t: f64, w1: Point, w2: Point, w3: Point, w4: Point) -> HalvesA
         cp2: w3,
         end: w4,
     };
-    if float::finite(t) & plane::curve_in_range(c) {
-        return finite_halves(cubic::split::subdivide4(t, w1, w2, w3, w4));
+    if !(float::finite(t) & plane::curve_in_range(c)) {
+        return Err(OutOfRange);
     }
-    HalvesAnswer::Refused(OUT_OF_RANGE)
+    let h = cubic::split::subdivide4(t, w1, w2, w3, w4);
+    finite_end(plane::point_finite(h.left.end), h)
 }
 
 // nearest_point.rs's refinement of an estimate, in at most `num_iterations` rounds.
@@ -188,17 +144,12 @@ pub fn nearest_point_on_curve_newton_raphson_with_estimate(
     point: Point,
     estimated_t: f64,
     num_iterations: usize,
-) -> NumberAnswer
-    ensures { number_answer result ≡ refine_call curve point estimated_t num_iterations }
+) -> Result<f64, Refusal>
+    ensures { answer result ≡ refine_call curve point estimated_t num_iterations }
 {
-    if plane::curve_in_range(curve)
-        & (plane::point_in_range(point)
-            & (float::finite(estimated_t) & (num_iterations <= MOST_ROUNDS)))
-    {
-        let Refined::At(t) = newton::refine(curve, point, estimated_t, num_iterations) else {
-            return NumberAnswer::Refused(NOT_FINITE);
-        };
-        return NumberAnswer::Is(t);
+    let t_and_rounds = float::finite(estimated_t) & (num_iterations <= MOST_ROUNDS);
+    if !(plane::curve_in_range(curve) & (plane::point_in_range(point) & t_and_rounds)) {
+        return Err(OutOfRange);
     }
-    NumberAnswer::Refused(OUT_OF_RANGE)
+    newton::refine(curve, point, estimated_t, num_iterations)
 }

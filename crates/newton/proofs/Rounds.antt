@@ -1,16 +1,19 @@
 -- One round of refinement, by the tests that the code makes. Assumes nothing.
+use Rattle.std.proofs.Common.{Result, Ok, Err, Option, Some, None}
 use mathlib.Core.Path.{◌≡◌, refl, sym, ap, ◌∙◌, subst}
 use mathlib.Core.Bool.{Bool, true, false, ◌&&◌, ◌||◌, cond}
-use Prim.Native.Nat.{ℕ, suc, ◌-◌, ◌≤◌, ◌<◌}
+use Prim.Native.Nat.{ℕ, suc, ◌+◌, ◌-◌, ◌≤◌, ◌<◌}
 use native.Mathlib.Omega.{arith}
 use lib.Ieee.{Float, binary64, lt, eq, sub, div}
 use Rattle.float.specs.Number.{finite, f0, abs}
 use Rattle.float.specs.Calc.{Calc, give, ◌>>=◌, ◌-!◌, ◌/!◌}
 use Rattle.float.specs.Answer.{Answer, ok, refused, unless, outcome}
 use Rattle.float.specs.Answer.{◌>>=◌ as chain}
+use Rattle.float.specs.declared.refusal.Refusal.{Refusal}
+use Rattle.float.specs.declared.refusal.Refusal.TheVariants.{NotFinite}
 use Rattle.float.proofs.Truth.{and_assoc, and-false, or_left, or_right, or_neither}
 use Rattle.float.proofs.Strict.{Fin, sub-finite}
-use Rattle.float.proofs.Answers.{granted, denied, outcome_ok, outcome_no, only_six, outcome-then}
+use Rattle.float.proofs.Answers.{granted, denied, outcome_ok, outcome_no, outcome-then}
 use Rattle.plane.specs.declared.Point.{Point}
 use Rattle.plane.specs.declared.Curve.{Curve}
 use Rattle.cubic.specs.Basis.{casteljau4}
@@ -18,8 +21,6 @@ use Rattle.newton.specs.Newton.{vertices_of, ratio_of, refine_by, refine, into_u
 use Rattle.newton.specs.Tests.{onward, vertices_finite}
 use Rattle.newton.specs.declared.Vertices.{Vertices}
 use Rattle.newton.specs.declared.Ratio.{Ratio}
-use Rattle.newton.specs.declared.Round.{Round}
-use Rattle.newton.specs.declared.Round.TheVariants as round
 use Rattle.cubic.proofs.Fine.{casteljau4-fine}
 use Rattle.newton.proofs.Fine.{vertices_same}
 use Rattle.newton.proofs.Steps.{through}
@@ -81,12 +82,12 @@ module _ (c : Curve) (q : Vertices) (p : Point) (t : Float) (qt : Point) (r : Ra
   same_ratio : r ≡ R c q p t
   same_ratio = of ∙ ap (λ (x : Point). (ratio_of x q p t).val) at
 
-  pub round_lost : finite r.numerator && finite r.denominator ≡ false → (n : ℕ) → outcome (refine_by c q p (suc n) t) ≡ onward c q p n t round.Lost
+  pub round_lost : finite r.numerator && finite r.denominator ≡ false → (n : ℕ) → outcome (refine_by c q p (suc n) t) ≡ onward c q p n t (Err NotFinite)
   unfolding onward
   round_lost h n = lost c q p t n (rw same_ratio at h)
 
   module _ (good : finite r.numerator && finite r.denominator ≡ true) (a : Float) (size : a ≡ abs r.numerator) where
-    pub round-small : lt a epsilon ≡ true → (n : ℕ) → outcome (refine_by c q p (suc n) t) ≡ onward c q p n t round.Stop
+    pub round-small : lt a epsilon ≡ true → (n : ℕ) → outcome (refine_by c q p (suc n) t) ≡ onward c q p n t (Ok None)
     unfolding onward
     round-small h n = stopped c q p t n (rw same_ratio at good) (or_left _ _ (rw (size ∙ ap (λ (x : Ratio). abs x.numerator) same_ratio) at h))
 
@@ -94,7 +95,7 @@ module _ (c : Curve) (q : Vertices) (p : Point) (t : Float) (qt : Point) (r : Ra
       large_is : lt (abs (R c q p t).numerator) epsilon ≡ false
       large_is = rw (size ∙ ap (λ (x : Ratio). abs x.numerator) same_ratio) at large
 
-      pub round-flat : eq r.denominator f0 ≡ true → (n : ℕ) → outcome (refine_by c q p (suc n) t) ≡ onward c q p n t round.Stop
+      pub round-flat : eq r.denominator f0 ≡ true → (n : ℕ) → outcome (refine_by c q p (suc n) t) ≡ onward c q p n t (Ok None)
       unfolding onward
       round-flat h n = stopped c q p t n (rw same_ratio at good) (or_right _ _ large_is (rw same_ratio at h))
 
@@ -105,34 +106,24 @@ module _ (c : Curve) (q : Vertices) (p : Point) (t : Float) (qt : Point) (r : Ra
         abbrev u : Float
         u = sub binary64 t (div binary64 r.numerator r.denominator)
 
-        pub round_next : Fin u → (n : ℕ) → outcome (refine_by c q p (suc n) t) ≡ onward c q p n t (round.Next u)
+        pub round_next : Fin u → (n : ℕ) → outcome (refine_by c q p (suc n) t) ≡ onward c q p n t (Ok (Some u))
         unfolding onward
         round_next h n = moved c q p t n (rw same_ratio at good) goes_on (rw same_ratio at h) ∙ ap (λ (x : Ratio). outcome (refine_by c q p n (sub binary64 t (div binary64 x.numerator x.denominator)))) (sym same_ratio)
 
-        pub round_flown : finite u ≡ false → (n : ℕ) → outcome (refine_by c q p (suc n) t) ≡ onward c q p n t round.Lost
+        pub round_flown : finite u ≡ false → (n : ℕ) → outcome (refine_by c q p (suc n) t) ≡ onward c q p n t (Err NotFinite)
         unfolding onward
         round_flown h n = flown c q p t n (rw same_ratio at good) goes_on (rw same_ratio at h)
 
--- ---- the loop: what is left to answer, with n rounds to go from t, after a round that came to r
-module _ (c : Curve) (q : Vertices) (p : Point) (n : ℕ) (t : Float) (r : Round) (whole : Answer Float)
-    (left : whole ≡ outcome (refine_by c q p n t)) (more : 0 < n) (turn : (k : ℕ) → outcome (refine_by c q p (suc k) t) ≡ onward c q p k t r) where
-  turned : whole ≡ onward c q p (n - 1) t r
-  turned = left ∙ subst (λ (k : ℕ). outcome (refine_by c q p k t) ≡ onward c q p (n - 1) t r) (back n more) (turn (n - 1))
-    where
-      back : (n : ℕ) → 0 < n → suc (n - 1) ≡ n
-      back n h = omega arith
-
-  pub goes_next : (v : Float) → r ≡ round.Next v → whole ≡ outcome (refine_by c q p (n - 1) v)
-  unfolding onward
-  goes_next v e = turned ∙ ap (onward c q p (n - 1) t) e
-
-  pub goes_stop : r ≡ round.Stop → ok t ≡ whole
-  unfolding onward
-  goes_stop e = sym (turned ∙ ap (onward c q p (n - 1) t) e)
-
-  pub goes_lost : r ≡ round.Lost → refused 6 ≡ whole
-  unfolding onward
-  goes_lost e = sym (turned ∙ ap (onward c q p (n - 1) t) e)
+-- ---- the loop: what is left to answer, with n - i rounds to go from t, after a round that came to r
+pub turned : (c : Curve) (q : Vertices) (p : Point) (n i : ℕ) (t : Float) (whole : Answer Float)
+    → whole ≡ outcome (refine_by c q p (n - i) t) → i < n
+    → (r : Result (Option Float) Refusal) → ((k : ℕ) → outcome (refine_by c q p (suc k) t) ≡ onward c q p k t r)
+    → whole ≡ onward c q p (n - (i + 1)) t r
+turned c q p n i t whole left more r turn =
+    left ∙ subst (λ (k : ℕ). outcome (refine_by c q p k t) ≡ onward c q p (n - (i + 1)) t r) (back n i more) (turn (n - (i + 1)))
+  where
+    back : (n i : ℕ) → i < n → suc (n - (i + 1)) ≡ n - i
+    back n i h = omega arith
 
 pub at_end : (c : Curve) (q : Vertices) (p : Point) (n : ℕ) (t : Float) (whole : Answer Float) → whole ≡ outcome (refine_by c q p n t) → n ≤ 0 → ok t ≡ whole
 unfolding refine_by outcome
@@ -165,8 +156,8 @@ module _ (c : Curve) (p : Point) (t : Float) (n : ℕ) where
           ∙ outcome-then (refine_by c (vertices_of c).val p n t) end
           ∙ ap (λ q. chain (outcome (refine_by c q p n t)) (λ u. outcome (end u))) (sym is)
 
-      pub refine_stop : (k : ℕ) → refused k ≡ outcome (refine_by c q p n t) → refused 6 ≡ outcome (refine c p t n)
-      refine_stop k h = sym (refine_on ∙ ap (λ a. chain a (λ u. outcome (end u))) (only_six (refine_by c q p n t) k h))
+      pub refine_stop : (k : ℕ) → refused k ≡ outcome (refine_by c q p n t) → refused k ≡ outcome (refine c p t n)
+      refine_stop k h = sym (refine_on ∙ ap (λ a. chain a (λ u. outcome (end u))) (sym h))
 
       pub refine_end : (u : Float) → ok u ≡ outcome (refine_by c q p n t) → ok (into_unit u) ≡ outcome (refine c p t n)
       unfolding outcome

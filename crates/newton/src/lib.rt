@@ -4,10 +4,12 @@
 
 ghost use Rattle.std.specs.Prelude.{◌≡◌, cond, ℕ, suc};
 ghost use Rattle.float.specs.Answer.{outcome};
+ghost use Rattle.float.specs.Refusal.{answer};
 ghost use Rattle.newton.specs.Newton.{vertices_of, ratio_of, newton_by, refine_by, refine as refine_of};
-ghost use Rattle.newton.specs.Tests.{vertices_finite, as_step, onward, refined_answer};
+ghost use Rattle.newton.specs.Tests.{vertices_finite, as_step, onward};
 
 use cubic::eval::{de_casteljau2, de_casteljau3, de_casteljau4, point_at_pos};
+use float::refusal::Refusal;
 use plane::{Curve, Point};
 
 // The search ends where the numerator is nearer to 0 than this.
@@ -30,7 +32,7 @@ pub struct Ratio {
     pub denominator: f64,
 }
 
-// A step's end, and whether each operation on the way gave a finite number.
+// A step's end, and whether each operation on the way gave a finite number: a flag and no `Result`, so that a loop over marks has no branch.
 #[derive(Clone, Copy)]
 pub struct Step {
     pub t: f64,
@@ -98,68 +100,49 @@ pub fn newton_raphson_root_find(c: Curve, q: Vertices, p: Point, t: f64) -> Step
     }
 }
 
-// A refined parameter, or that an operation gave NaN or infinity.
-#[derive(Clone, Copy)]
-pub enum Refined {
-    At(f64),
-    Lost,
-}
-
-// What one round of refinement comes to: the next estimate, the end of the search, or an operation that gave NaN or infinity.
-#[derive(Clone, Copy)]
-enum Round {
-    Next(f64),
-    Stop,
-    Lost,
-}
-
-// One round of refinement, at the estimate t.
-fn round_at(c: Curve, q: Vertices, p: Point, t: f64) -> Round
+// One round of refinement, at the estimate t: the next estimate, or none where the search ends.
+fn round_at(c: Curve, q: Vertices, p: Point, t: f64) -> Result<Option<f64>, Refusal>
     ensures { (n : ℕ) → outcome (refine_by c q p (suc n) t) ≡ onward c q p n t result }
 {
     let r = ratio_at(de_casteljau4(t, c.start, c.cp1, c.cp2, c.end), q, p, t);
-    if float::two_finite(r.numerator, r.denominator) {
-        if float::abs(r.numerator) < EPSILON {
-            return Round::Stop;
-        }
-        if r.denominator == 0.0 {
-            return Round::Stop;
-        }
-        let u = t - r.numerator / r.denominator;
-        if float::finite(u) {
-            return Round::Next(u);
-        }
+    if !float::two_finite(r.numerator, r.denominator) {
+        return Err(Refusal::NotFinite);
     }
-    Round::Lost
+    if float::abs(r.numerator) < EPSILON {
+        return Ok(None);
+    }
+    if r.denominator == 0.0 {
+        return Ok(None);
+    }
+    let u = t - r.numerator / r.denominator;
+    if !float::finite(u) {
+        return Err(Refusal::NotFinite);
+    }
+    Ok(Some(u))
 }
 
 // At most `rounds` rounds of refinement from the estimate t.
-fn refine_rounds(c: Curve, q: Vertices, p: Point, rounds: usize, t: f64) -> Refined
-    ensures { refined_answer result ≡ outcome (refine_by c q p rounds t) }
+fn refine_rounds(c: Curve, q: Vertices, p: Point, rounds: usize, t: f64) -> Result<f64, Refusal>
+    ensures { answer result ≡ outcome (refine_by c q p rounds t) }
 {
-    let mut left = rounds;
     let mut u = t;
-    while left > 0 {
-        match round_at(c, q, p, u) {
-            Round::Next(v) => u = v,
-            Round::Stop => return Refined::At(u),
-            Round::Lost => return Refined::Lost,
-        }
-        left -= 1;
+    for _ in 0..rounds {
+        let Some(v) = round_at(c, q, p, u)? else {
+            return Ok(u);
+        };
+        u = v;
     }
-    Refined::At(u)
+    Ok(u)
 }
 
 // nearest_point.rs's refinement of an estimate, for arguments in range.
-pub fn refine(c: Curve, p: Point, t: f64, rounds: usize) -> Refined
-    ensures { refined_answer result ≡ outcome (refine_of c p t rounds) }
+pub fn refine(c: Curve, p: Point, t: f64, rounds: usize) -> Result<f64, Refusal>
+    ensures { answer result ≡ outcome (refine_of c p t rounds) }
 {
     let q = vertices_of(c);
-    if vertices_finite(q) {
-        let Refined::At(u) = refine_rounds(c, q, p, rounds, t) else {
-            return Refined::Lost;
-        };
-        return Refined::At(float::min(float::max(u, 0.0), 1.0));
+    if !vertices_finite(q) {
+        return Err(Refusal::NotFinite);
     }
-    Refined::Lost
+    let u = refine_rounds(c, q, p, rounds, t)?;
+    Ok(float::min(float::max(u, 0.0), 1.0))
 }

@@ -1,23 +1,20 @@
 -- `newton::refine` meets its contract.
-use mathlib.Core.Path.{sym, ap, ◌∙◌}
+use mathlib.Core.Path.{sym, ◌∙◌}
+use Rattle.float.proofs.Refusals.{handed_on}
 use Rattle.newton.specs.Newton.{into_unit}
-use Rattle.newton.specs.Tests.{refined_answer}
 use Rattle.newton.proofs.Rounds.{refine_off, refine_stop, refine_end}
 use Rattle.newton.proofs.refine.Goals as goal
 
-pub returns-in_default : goal.returns-in_default
-unfolding refined_answer
-returns-in_default c =
-    refine_stop _ _ _ _ _ c.vertices_of-q.ensures (sym c.vertices_finite.ensures ∙ c.if-vertices_finite.true) _
-    (sym (ap refined_answer c.in_default.is) ∙ c.refine_rounds.ensures)
+pub returns-then-not-vertices_finite : goal.returns-then-not-vertices_finite
+returns-then-not-vertices_finite c = refine_off _ _ _ _ _ c.vertices_of-q.ensures (sym c.vertices_finite.ensures ∙ c.if-not-vertices_finite.true)
 
-pub returns-then-vertices_finite : goal.returns-then-vertices_finite
-unfolding refined_answer into_unit
-returns-then-vertices_finite c =
-    simp (c.min.ensures, c.max.ensures)
-    (refine_end _ _ _ _ _ c.vertices_of-q.ensures (sym c.vertices_finite.ensures ∙ c.if-vertices_finite.true) _
-    (sym (ap refined_answer c.in-At.is) ∙ c.refine_rounds.ensures))
+pub returns-in_err-u : goal.returns-in_err-u
+returns-in_err-u c =
+    handed_on _ _ c.from_residual.ensures.1
+    ∙ refine_stop _ _ _ _ _ c.vertices_of-q.ensures (sym c.vertices_finite.ensures ∙ c.if-not-vertices_finite.false) _ c.in_err-u.ensures
 
 pub returns : goal.returns
-unfolding refined_answer
-returns c = refine_off _ _ _ _ _ c.vertices_of-q.ensures (sym c.vertices_finite.ensures ∙ c.if-vertices_finite.false)
+unfolding into_unit
+returns c =
+    simp (c.min.ensures, c.max.ensures)
+    (refine_end _ _ _ _ _ c.vertices_of-q.ensures (sym c.vertices_finite.ensures ∙ c.if-not-vertices_finite.false) _ c.in_ok-u.ensures)

@@ -1,30 +1,24 @@
 -- `newton::refine_rounds` meets its contract: what is left to answer stays the same.
-use mathlib.Core.Path.{refl}
-use native.Mathlib.Omega.{arith}
-use Rattle.newton.specs.Tests.{refined_answer}
-use Rattle.newton.proofs.Rounds.{goes_next, goes_stop, goes_lost, at_end}
+use Rattle.std.proofs.Common.{sym, ◌∙◌, Ok, Err, Some, None, arith}
+use Rattle.float.proofs.Refusals.{handed_on}
+use Rattle.newton.specs.Tests.{onward}
+use Rattle.newton.proofs.Rounds.{turned, at_end}
 use Rattle.newton.proofs.refine_rounds.Goals as goal
 
-pub loop-left-init : goal.loop-left-init
-loop-left-init c = refl
+pub returns-in_err-v : goal.returns-in_err-v
+unfolding onward
+returns-in_err-v c =
+    handed_on _ _ c.from_residual.ensures.1
+    ∙ sym (turned _ _ _ _ _ _ _ c.loop.invariant c.loop-test.true (Err c.in_err-v.field-0.0) c.in_err-v.ensures)
 
-pub returns-in-Stop : goal.returns-in-Stop
-unfolding refined_answer
-returns-in-Stop c =
-    goes_stop _ _ _ _ _ _ _ c.loop-left.invariant c.loop-left-test.true c.round_at.ensures c.in-Stop.is
+pub returns-in_default : goal.returns-in_default
+unfolding onward
+returns-in_default c =
+    sym (turned _ _ _ _ _ _ _ c.loop.invariant c.loop-test.true (Ok None) (rw c.in_default.is at c.in_ok-v.ensures))
 
-pub returns-in-Lost : goal.returns-in-Lost
-unfolding refined_answer
-returns-in-Lost c =
-    goes_lost _ _ _ _ _ _ _ c.loop-left.invariant c.loop-left-test.true c.round_at.ensures c.in-Lost.is
-
-pub loop-left-smaller : goal.loop-left-smaller
-loop-left-smaller c = omega arith
-
-pub loop-left-preserved : goal.loop-left-preserved
-loop-left-preserved c =
-    goes_next _ _ _ _ _ _ _ c.loop-left.invariant c.loop-left-test.true c.round_at.ensures _ c.in-Next.is
+pub loop-preserved : goal.loop-preserved
+unfolding onward
+loop-preserved c = turned _ _ _ _ _ _ _ c.loop.invariant c.loop-test.true (Ok (Some c.in-Some.v)) (rw c.in-Some.is at c.in_ok-v.ensures)
 
 pub returns : goal.returns
-unfolding refined_answer
-returns c = at_end _ _ _ _ _ _ c.loop-left.invariant c.loop-left-test.false
+returns c = at_end _ _ _ _ _ _ c.loop.invariant (omega arith)
