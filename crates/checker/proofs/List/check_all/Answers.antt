@@ -3,14 +3,10 @@ use Prim.Native.Nat.{ℕ, ◌+◌}
 use native.Mathlib.Omega.{arith}
 use mathlib.Core.Path.{ap, ◌∙◌}
 use Rattle.marks.specs.Marks.{count}
-use Rattle.ring.proofs.Whole.{again-small}
 use Rattle.checker.specs.Inner.{verdict}
 use Rattle.checker.proofs.Turns.{halted}
 use Rattle.checker.proofs.Lists.{gate-passed, by_firsts, held, by_curves}
 use Rattle.checker.proofs.List.check_all.Goals as goal
-
-pub overflow_add-n : goal.overflow_add-n
-overflow_add-n c = let s = again-small c.args.self.now.outline in omega (arith, c.again.ensures)
 
 pub check_firsts-requires : goal.check_firsts-requires
 check_firsts-requires c =

@@ -3,17 +3,10 @@ use Prim.Native.Nat.{ℕ, ◌+◌}
 use native.Mathlib.Omega.{arith}
 use mathlib.Core.Path.{sym, ap, ◌∙◌}
 use Rattle.marks.specs.Marks.{count}
-use Rattle.ring.proofs.Whole.{again-small}
 use Rattle.checker.specs.Inner.{verdict}
 use Rattle.checker.proofs.Turns.{halted}
-use Rattle.checker.proofs.Curves.{Places, own, places, tested, fault_b, under, curve_halt, curve-rest}
+use Rattle.checker.proofs.Curves.{Places, places, tested, fault_b, under, curve_halt, curve-rest}
 use Rattle.checker.proofs.List.check_curve.Goals as goal
-
-pub overflow_add-n : goal.overflow_add-n
-overflow_add-n c = let s = again-small c.args.self.now.outline in omega (arith, c.again.ensures)
-
-pub curve_at-c-requires : goal.curve_at-c-requires
-curve_at-c-requires c = let a = c.args.self.now in (own a.outline a.form a.marks.now a.tolerance a.count a.curves.now a.firsts.now a.worsts.now a.params.now c.args.j c.requires).0
 
 pub last_at-last-requires : goal.last_at-last-requires
 last_at-last-requires c =
@@ -40,9 +33,6 @@ returns-then-not-is_run c =
     let a = c.args.self.now in
     (fault_b a.outline a.form a.marks.now a.tolerance a.count a.curves.now a.firsts.now a.worsts.now a.params.now (c.again.result + count c.args.self.now.marks.now) c.args.j bounds _ _ c.curve_at-c.ensures c.first_at-first.ensures _ _ _ _ c.last_at-last.ensures c.mark_at-p.ensures c.mark_round-q.ensures c.is_run.ensures c.if-not-is_run.true)
 
-pub stop_at-stop-requires : goal.stop_at-stop-requires
-stop_at-stop-requires c = let p = c.requires in (p.0, p.1.firsts)
-
 pub check_under-requires : goal.check_under-requires
 check_under-requires c =
     let bounds : Places c.args.self.now.outline c.args.self.now.marks.now (c.again.result + count c.args.self.now.marks.now) c.args.self.now.count c.args.self.now.firsts.now c.args.self.now.params.now c.args.j = let a = c.args.self.now in
@@ -57,11 +47,6 @@ returns-in_err-far c =
     let a = c.args.self.now in
     let t = tested a.outline a.form a.marks.now a.tolerance a.count a.curves.now a.firsts.now a.worsts.now a.params.now (c.again.result + count c.args.self.now.marks.now) c.args.j bounds _ _ c.curve_at-c.ensures c.first_at-first.ensures _ _ _ _ c.last_at-last.ensures c.mark_at-p.ensures c.mark_round-q.ensures c.is_run.ensures in
     ap verdict (halted _ _ c.from_residual.ensures.1) ∙ curve_halt a.outline a.form a.marks.now a.tolerance a.count a.curves.now a.firsts.now a.worsts.now a.params.now (c.again.result + count c.args.self.now.marks.now) c.args.j bounds _ _ c.curve_at-c.ensures c.first_at-first.ensures _ c.stop_at-stop.ensures (sym t ∙ c.if-not-is_run.false) _ c.in_err-far.ensures
-
-pub check_kept-requires : goal.check_kept-requires
-check_kept-requires c =
-    let a = c.args.self.now in
-    own a.outline a.form a.marks.now a.tolerance a.count a.curves.now a.firsts.now a.worsts.now a.params.now c.args.j c.requires
 
 pub returns : goal.returns
 returns c =
