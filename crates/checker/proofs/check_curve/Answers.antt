@@ -4,8 +4,9 @@ use native.Mathlib.Omega.{arith}
 use mathlib.Core.Path.{sym, ap, ◌∙◌}
 use Rattle.marks.specs.Marks.{count}
 use Rattle.ring.proofs.Whole.{again-small}
-use Rattle.checker.proofs.Turns.{by_fault}
-use Rattle.checker.proofs.Curves.{Places, own, places, tested, fault_b, under, curve-rest}
+use Rattle.checker.specs.Inner.{verdict}
+use Rattle.checker.proofs.Turns.{halted}
+use Rattle.checker.proofs.Curves.{Places, own, places, tested, fault_b, under, curve_halt, curve-rest}
 use Rattle.checker.proofs.check_curve.Goals as goal
 
 pub overflow_add-n : goal.overflow_add-n
@@ -37,17 +38,25 @@ returns-then-not-is_run c =
     let bounds : Places c.args.outline c.args.marks.now (c.again.result + count c.args.marks.now) c.args.count c.args.firsts.now c.args.params.now c.args.j = let a = c.args in
     places a.outline a.form a.marks.now a.tolerance a.count a.curves.now a.firsts.now a.worsts.now a.params.now (c.again.result + count c.args.marks.now) a.j (ap (λ (m : ℕ). m + count a.marks.now) c.again.ensures) c.requires in
     let a = c.args in
-    by_fault c.fault_b.ensures (fault_b a.outline a.form a.marks.now a.tolerance a.count a.curves.now a.firsts.now a.worsts.now a.params.now (c.again.result + count c.args.marks.now) a.j bounds _ _ c.curve_at-c.ensures c.first_at-first.ensures _ _ _ _ c.last_at-last.ensures c.mark_at-p.ensures c.mark_round-q.ensures c.is_run.ensures c.if-not-is_run.true)
+    (fault_b a.outline a.form a.marks.now a.tolerance a.count a.curves.now a.firsts.now a.worsts.now a.params.now (c.again.result + count c.args.marks.now) a.j bounds _ _ c.curve_at-c.ensures c.first_at-first.ensures _ _ _ _ c.last_at-last.ensures c.mark_at-p.ensures c.mark_round-q.ensures c.is_run.ensures c.if-not-is_run.true)
 
 pub stop_at-stop-requires : goal.stop_at-stop-requires
 stop_at-stop-requires c = let p = c.requires in (p.0, p.1.firsts)
 
-pub check_under-walked-requires : goal.check_under-walked-requires
-check_under-walked-requires c =
+pub check_under-requires : goal.check_under-requires
+check_under-requires c =
     let bounds : Places c.args.outline c.args.marks.now (c.again.result + count c.args.marks.now) c.args.count c.args.firsts.now c.args.params.now c.args.j = let a = c.args in
     places a.outline a.form a.marks.now a.tolerance a.count a.curves.now a.firsts.now a.worsts.now a.params.now (c.again.result + count c.args.marks.now) a.j (ap (λ (m : ℕ). m + count a.marks.now) c.again.ensures) c.requires in
     let a = c.args in
     under a.outline a.form a.marks.now a.tolerance a.count a.curves.now a.firsts.now a.worsts.now a.params.now (c.again.result + count c.args.marks.now) a.j bounds _ _ c.curve_at-c.ensures c.first_at-first.ensures _ c.stop_at-stop.ensures
+
+pub returns-in_err-far : goal.returns-in_err-far
+returns-in_err-far c =
+    let bounds : Places c.args.outline c.args.marks.now (c.again.result + count c.args.marks.now) c.args.count c.args.firsts.now c.args.params.now c.args.j = let a = c.args in
+    places a.outline a.form a.marks.now a.tolerance a.count a.curves.now a.firsts.now a.worsts.now a.params.now (c.again.result + count c.args.marks.now) a.j (ap (λ (m : ℕ). m + count a.marks.now) c.again.ensures) c.requires in
+    let a = c.args in
+    let t = tested a.outline a.form a.marks.now a.tolerance a.count a.curves.now a.firsts.now a.worsts.now a.params.now (c.again.result + count c.args.marks.now) a.j bounds _ _ c.curve_at-c.ensures c.first_at-first.ensures _ _ _ _ c.last_at-last.ensures c.mark_at-p.ensures c.mark_round-q.ensures c.is_run.ensures in
+    ap verdict (halted _ _ c.from_residual.ensures.1) ∙ curve_halt a.outline a.form a.marks.now a.tolerance a.count a.curves.now a.firsts.now a.worsts.now a.params.now (c.again.result + count c.args.marks.now) a.j bounds _ _ c.curve_at-c.ensures c.first_at-first.ensures _ c.stop_at-stop.ensures (sym t ∙ c.if-not-is_run.false) _ c.in_err-far.ensures
 
 pub check_kept-requires : goal.check_kept-requires
 check_kept-requires c =
@@ -60,4 +69,4 @@ returns c =
     places a.outline a.form a.marks.now a.tolerance a.count a.curves.now a.firsts.now a.worsts.now a.params.now (c.again.result + count c.args.marks.now) a.j (ap (λ (m : ℕ). m + count a.marks.now) c.again.ensures) c.requires in
     let a = c.args in
     let t = tested a.outline a.form a.marks.now a.tolerance a.count a.curves.now a.firsts.now a.worsts.now a.params.now (c.again.result + count c.args.marks.now) a.j bounds _ _ c.curve_at-c.ensures c.first_at-first.ensures _ _ _ _ c.last_at-last.ensures c.mark_at-p.ensures c.mark_round-q.ensures c.is_run.ensures in
-    curve-rest a.outline a.form a.marks.now a.tolerance a.count a.curves.now a.firsts.now a.worsts.now a.params.now (c.again.result + count c.args.marks.now) a.j bounds _ _ c.curve_at-c.ensures c.first_at-first.ensures _ c.stop_at-stop.ensures (sym t ∙ c.if-not-is_run.false) _ c.check_under-walked.ensures c.check_kept.ensures
+    curve-rest a.outline a.form a.marks.now a.tolerance a.count a.curves.now a.firsts.now a.worsts.now a.params.now (c.again.result + count c.args.marks.now) a.j bounds _ _ c.curve_at-c.ensures c.first_at-first.ensures _ c.stop_at-stop.ensures (sym t ∙ c.if-not-is_run.false) _ c.in_ok-far.ensures c.check_kept.ensures
