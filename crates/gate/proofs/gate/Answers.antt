@@ -15,5 +15,5 @@ overflow_add-n c = let s = again-small c.args.outline in omega (arith, c.again.e
 pub returns : goal.returns
 returns c =
     let a = c.args in
-    let wanted : c.one_fewer.result ≡ again a.outline + count a.marks.now - 1 = omega (arith, c.one_fewer.ensures, c.again.ensures) in
+    let wanted : c.saturating_sub.result ≡ again a.outline + count a.marks.now - 1 = omega (arith, c.saturating_sub.ensures, c.again.ensures) in
     wants a.top a.outline Nine a.marks.now a.tolerance a.curves a.firsts a.worsts a.params wanted c.gate_for.ensures
