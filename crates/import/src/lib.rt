@@ -16,7 +16,7 @@ ghost use Rattle.import.specs.Walk.{placed, Closes, draws_of, left_answer, walke
 
 use float::refusal::Refusal;
 use form::CURVE_NUMBERS;
-use marks::{Made, fit_line};
+use marks::fit_line;
 use numerals::{apart_at, byte_at, number_at, past_space};
 use path::{Letter, is_small};
 use plane::{Curve, Point, equal};
@@ -70,15 +70,12 @@ fn line(p: Point, q: Point) -> Curve
     requires { Marked p × Marked q }
     ensures { result ≡ (line_of p q).val }
 {
-    let Made::Of(c) = fit_line(p, q) else {
-        return Curve {
-            start: p,
-            cp1: p,
-            cp2: q,
-            end: q,
-        };
-    };
-    c
+    fit_line(p, q).unwrap_or(Curve {
+        start: p,
+        cp1: p,
+        cp2: q,
+        end: q,
+    })
 }
 
 // The line from p to the point at a place, if there is one.
