@@ -181,84 +181,74 @@ fn check_kept(
 
 // ---- the whole
 
-// B of curve j, then C and D of the marks under it, then E.
-fn check_curve(
+// A list as it is checked: `count` curves of a form for the marks of an outline, at a tolerance.
+#[derive(Clone, Copy)]
+struct List<'a> {
     outline: Outline,
     form: Form,
-    marks: &[f64],
+    marks: &'a [f64],
     tolerance: f64,
     count: usize,
-    curves: &[f64],
-    firsts: &[u32],
-    worsts: &[u32],
-    params: &[f64],
-    j: usize,
-) -> Result<(), Fault>
-    requires { (j < «count») × Listed form (whole outline marks.now) «count» curves.now firsts.now worsts.now params.now }
-    ensures { verdict result ≡ curve_checked form (whole outline marks.now) tolerance «count» curves.now firsts.now worsts.now params.now j }
-{
-    let given = marks.len() / 2;
-    let n = ring::again(outline) + given;
-    let c = faults::curve_at(form, curves, j);
-    let first = faults::first_at(firsts, j);
-    let at = Place {
-        curve: j,
-        mark: first,
-    };
-    let last = faults::last_at(firsts, n, count, j);
-    let p = marks::mark_at(marks, first);
-    let q = ring::mark_round(marks, last);
-    if !faults::is_run(c, p, q) {
-        return Err(Fault::B(at));
-    }
-    let stop = faults::stop_at(firsts, n, count, j);
-    let far = check_under(marks, params, n, j, first, stop, c, tolerance)?;
-    check_kept(far, form, curves, worsts, at)
+    curves: &'a [f64],
+    firsts: &'a [u32],
+    worsts: &'a [u32],
+    params: &'a [f64],
 }
 
-// Curve by curve.
-fn check_curves(
-    outline: Outline,
-    form: Form,
-    marks: &[f64],
-    tolerance: f64,
-    count: usize,
-    curves: &[f64],
-    firsts: &[u32],
-    worsts: &[u32],
-    params: &[f64],
-) -> Result<(), Fault>
-    requires { Listed form (whole outline marks.now) «count» curves.now firsts.now worsts.now params.now }
-    ensures { verdict result ≡ in_turn «count» (curve_checked form (whole outline marks.now) tolerance «count» curves.now firsts.now worsts.now params.now) }
-{
-    for j in 0..count {
-        check_curve(
-            outline, form, marks, tolerance, count, curves, firsts, worsts, params, j,
+impl List<'_> {
+    // B of curve j, then C and D of the marks under it, then E.
+    fn check_curve(&self, j: usize) -> Result<(), Fault>
+        requires { let l = self.now in (j < l.count) × Listed l.form (whole l.outline l.marks.now) l.count l.curves.now l.firsts.now l.worsts.now l.params.now }
+        ensures { let l = self.now in verdict result ≡ curve_checked l.form (whole l.outline l.marks.now) l.tolerance l.count l.curves.now l.firsts.now l.worsts.now l.params.now j }
+    {
+        let given = self.marks.len() / 2;
+        let n = ring::again(self.outline) + given;
+        let c = faults::curve_at(self.form, self.curves, j);
+        let first = faults::first_at(self.firsts, j);
+        let at = Place {
+            curve: j,
+            mark: first,
+        };
+        let last = faults::last_at(self.firsts, n, self.count, j);
+        let p = marks::mark_at(self.marks, first);
+        let q = ring::mark_round(self.marks, last);
+        if !faults::is_run(c, p, q) {
+            return Err(Fault::B(at));
+        }
+        let stop = faults::stop_at(self.firsts, n, self.count, j);
+        let far = check_under(
+            self.marks,
+            self.params,
+            n,
+            j,
+            first,
+            stop,
+            c,
+            self.tolerance,
         )?;
+        check_kept(far, self.form, self.curves, self.worsts, at)
     }
-    Ok(())
-}
 
-// A over the whole list, then curve by curve.
-fn check_all(
-    outline: Outline,
-    form: Form,
-    marks: &[f64],
-    tolerance: f64,
-    count: usize,
-    curves: &[f64],
-    firsts: &[u32],
-    worsts: &[u32],
-    params: &[f64],
-) -> Result<(), Fault>
-    requires { gate_for most_marks outline form «count» marks.now tolerance (length curves.now) (length firsts.now) (length worsts.now) (length params.now) ≡ 0 }
-    ensures { verdict result ≡ list_checked form (whole outline marks.now) tolerance «count» curves.now firsts.now worsts.now params.now }
-{
-    let n = ring::again(outline) + marks.len() / 2;
-    check_firsts(firsts, n, count)?;
-    check_curves(
-        outline, form, marks, tolerance, count, curves, firsts, worsts, params,
-    )
+    // Curve by curve.
+    fn check_curves(&self) -> Result<(), Fault>
+        requires { let l = self.now in Listed l.form (whole l.outline l.marks.now) l.count l.curves.now l.firsts.now l.worsts.now l.params.now }
+        ensures { let l = self.now in verdict result ≡ in_turn l.count (curve_checked l.form (whole l.outline l.marks.now) l.tolerance l.count l.curves.now l.firsts.now l.worsts.now l.params.now) }
+    {
+        for j in 0..self.count {
+            self.check_curve(j)?;
+        }
+        Ok(())
+    }
+
+    // A over the whole list, then curve by curve.
+    fn check_all(&self) -> Result<(), Fault>
+        requires { let l = self.now in gate_for most_marks l.outline l.form l.count l.marks.now l.tolerance (length l.curves.now) (length l.firsts.now) (length l.worsts.now) (length l.params.now) ≡ 0 }
+        ensures { let l = self.now in verdict result ≡ list_checked l.form (whole l.outline l.marks.now) l.tolerance l.count l.curves.now l.firsts.now l.worsts.now l.params.now }
+    {
+        let n = ring::again(self.outline) + self.marks.len() / 2;
+        check_firsts(self.firsts, n, self.count)?;
+        self.check_curves()
+    }
 }
 
 // Whether `count` curves are a sound list for the marks of an outline and this tolerance, or the first fault, with its curve's number and its mark's: the gate,
@@ -291,9 +281,18 @@ pub fn check(
     if let Err(refusal) = passes {
         return Checked::Refused(refusal);
     }
-    match check_all(
-        outline, form, marks, tolerance, count, curves, firsts, worsts, params,
-    ) {
+    let list = List {
+        outline,
+        form,
+        marks,
+        tolerance,
+        count,
+        curves,
+        firsts,
+        worsts,
+        params,
+    };
+    match list.check_all() {
         Ok(()) => Checked::Passed,
         Err(fault) => Checked::Faulty(fault),
     }

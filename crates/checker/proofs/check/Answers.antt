@@ -10,9 +10,6 @@ returns-in-Err c =
     let a = c.args in
     by_gate a.outline a.form a.marks.now a.tolerance a.count a.curves.now a.firsts.now a.worsts.now a.params.now _ c.in-Err.ensures
 
-pub check_all-requires : goal.check_all-requires
-check_all-requires c = sym c.in_default.ensures
-
 pub returns-in-Ok : goal.returns-in-Ok
 unfolding checked_answer
 returns-in-Ok c =
