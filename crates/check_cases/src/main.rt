@@ -88,11 +88,7 @@ fn said(r: Checked) -> Verdict {
 }
 
 fn plus_if(n: u64, b: bool) -> u64 {
-    if b {
-        n.wrapping_add(1)
-    } else {
-        n
-    }
+    if b { n.wrapping_add(1) } else { n }
 }
 
 fn note(t: Tally, s: Verdict) -> Tally {
@@ -365,10 +361,7 @@ fn record(s: Sizes, damage: u64) {
     let mut all = [0.0; 49153];
     let mut beside = [0u32; 8192];
     cases::read_floats(&mut all, s.numbers);
-    let marks = lent(
-        &mut beside,
-        s.firsts.wrapping_add(s.worsts),
-    );
+    let marks = lent(&mut beside, s.firsts.wrapping_add(s.worsts));
     read_beside(marks);
     answer(&mut all, marks, s, s.numbers, damage);
 }
