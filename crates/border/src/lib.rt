@@ -2,29 +2,23 @@
 #![tactic(auto)]
 
 ghost use Rattle.std.specs.Prelude.{◌≡◌};
-ghost use Rattle.fit.specs.Fit.{fitted_answer};
-ghost use Rattle.bezier.specs.Calls.{point_answer, number_answer, coefficients_answer, halves_answer};
+ghost use Rattle.float.specs.Refusal.{answer};
 ghost use Rattle.nearest.specs.Nearest.{nearest_answer};
 ghost use Rattle.checker.specs.Check.{checked_answer, place};
-ghost use Rattle.reader.specs.Reader.{read_answer};
-ghost use Rattle.writer.specs.Writer.{write_answer};
-ghost use Rattle.lines.specs.Handed.{listed_answer};
-ghost use Rattle.salvaging.specs.Salvage.{sizes, salvaged_answer};
-ghost use Rattle.border.specs.Crossing.{outline_for, form_for, crossed, count_crossed, number_crossed, point_crossed, coefficients_crossed, eight, parts, halves_crossed, nearest, nearest_crossed, fault_crossed, verdict_crossed, found, found_crossed, salvaged_crossed, drawn, drawn_crossed};
-ghost use Rattle.import.specs.Import.{imported_answer};
+ghost use Rattle.salvaging.specs.Salvage.{sizes};
+ghost use Rattle.border.specs.Crossing.{outline_for, form_for, crossed, crossing, count_crossed, number_crossed, point_crossed, coefficients_crossed, eight, parts, halves_crossed, nearest, nearest_crossed, fault_crossed, verdict_crossed, found, found_crossed, salvaged_crossed, drawn, drawn_crossed};
 
-use bezier::{CoefficientsAnswer, HalvesAnswer, NumberAnswer, PointAnswer};
 use checker::{Checked, Fault, Place};
-use cut::Fitted;
+use cubic::eval::Coefficients;
+use cubic::split::Halves;
+use float::refusal::Refusal;
 use form::Form;
 use import::Imported;
-use lines::Listed;
 use nearest::NearestPoint;
-use plane::Curve;
+use plane::{Curve, Point};
 use reader::Read;
 use ring::Outline;
 use salvaging::Salvaged;
-use writer::Wrote;
 
 // ---- what comes in
 
@@ -93,16 +87,7 @@ pub fn put_point(answer: Result<Point, Refusal>, point: &mut [f64; 2]) -> u32
 pub fn put_coefficients(answer: Result<Coefficients, Refusal>, coefficients: &mut [f64; 4]) -> u32
     ensures { crossed result coefficients.new ≡ coefficients_crossed (answer answer) }
 {
-    match answer {
-        CoefficientsAnswer::Are(k) => {
-            *coefficients = [k.a, k.b, k.c, k.d];
-            0
-        }
-        CoefficientsAnswer::Refused(q) => {
-            *coefficients = [0.0; 4];
-            q
-        }
-    }
+    put(answer.map(|k| [k.a, k.b, k.c, k.d]), [0.0; 4], coefficients)
 }
 
 // A curve's eight numbers.
@@ -119,15 +104,15 @@ pub fn put_halves(answer: Result<Halves, Refusal>, left: &mut [f64; 8], right: &
     ensures { crossed result (parts left.new right.new) ≡ halves_crossed (answer answer) }
 {
     match answer {
-        HalvesAnswer::Are(h) => {
+        Ok(h) => {
             *left = eight(h.left);
             *right = eight(h.right);
             0
         }
-        HalvesAnswer::Refused(q) => {
+        Err(refusal) => {
             *left = [0.0; 8];
             *right = [0.0; 8];
-            q
+            refusal.number()
         }
     }
 }
@@ -142,10 +127,10 @@ pub fn put_nearest(answer: NearestPoint, t: &mut f64, distance_sq: &mut f64) -> 
             *distance_sq = d;
             0
         }
-        NearestPoint::Refused(q) => {
+        NearestPoint::Refused(refusal) => {
             *t = 0.0;
             *distance_sq = 0.0;
-            q
+            refusal.number()
         }
     }
 }
@@ -181,7 +166,7 @@ pub fn put_checked(answer: Checked, curve: &mut usize, mark: &mut usize) -> u32
     match answer {
         Checked::Passed => put_place(0, Place { curve: 0, mark: 0 }, curve, mark),
         Checked::Faulty(fault) => put_fault(fault, curve, mark),
-        Checked::Refused(q) => put_place(q, Place { curve: 0, mark: 0 }, curve, mark),
+        Checked::Refused(refusal) => put_place(refusal.number(), Place { curve: 0, mark: 0 }, curve, mark),
     }
 }
 
@@ -208,63 +193,55 @@ pub fn put_read(
     ensures { crossed result (found nine.new tolerance.new mark_count.new curve_count.new) ≡ found_crossed (answer answer) }
 {
     match answer {
-        Read::File {
-            form,
-            tolerance: bits,
-            marks: n,
-            curves: k,
-        } => {
-            *nine = is_nine(form);
-            *tolerance = bits;
-            *mark_count = n;
-            *curve_count = k;
+        Ok(read) => {
+            *nine = is_nine(read.form);
+            *tolerance = read.tolerance;
+            *mark_count = read.marks;
+            *curve_count = read.curves;
             0
         }
-        Read::Refused(q) => {
+        Err(refusal) => {
             *nine = false;
             *tolerance = 0;
             *mark_count = 0;
             *curve_count = 0;
-            q
+            refusal.number()
         }
     }
 }
 
 // How many bytes a cleaned file has, and how many its list.
-pub fn put_salvaged(answer: Salvaged, size: &mut usize, report_size: &mut usize) -> u32
-    ensures { crossed result (sizes size.new report_size.new) ≡ salvaged_crossed (salvaged_answer answer) }
+pub fn put_salvaged(answer: Result<Salvaged, Refusal>, size: &mut usize, report_size: &mut usize) -> u32
+    ensures { crossed result (sizes size.new report_size.new) ≡ salvaged_crossed (answer answer) }
 {
     match answer {
-        Salvaged::Bytes { file, report } => {
-            *size = file;
-            *report_size = report;
+        Ok(sizes) => {
+            *size = sizes.file;
+            *report_size = sizes.report;
             0
         }
-        Salvaged::Refused(q) => {
+        Err(refusal) => {
             *size = 0;
             *report_size = 0;
-            q
+            refusal.number()
         }
     }
 }
 
 // How many curves path data draws, and whether it closes.
-pub fn put_imported(answer: Imported, count: &mut usize, closed: &mut bool) -> u32
-    ensures { crossed result (drawn «count».new closed.new) ≡ drawn_crossed (imported_answer answer) }
+pub fn put_imported(answer: Result<Imported, Refusal>, count: &mut usize, closed: &mut bool) -> u32
+    ensures { crossed result (drawn «count».new closed.new) ≡ drawn_crossed (answer answer) }
 {
     match answer {
-        Imported::Path {
-            count: k,
-            closed: z,
-        } => {
-            *count = k;
-            *closed = z;
+        Ok(path) => {
+            *count = path.count;
+            *closed = path.closed;
             0
         }
-        Imported::Refused(q) => {
+        Err(refusal) => {
             *count = 0;
             *closed = false;
-            q
+            refusal.number()
         }
     }
 }

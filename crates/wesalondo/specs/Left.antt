@@ -8,7 +8,8 @@ use Rattle.reader.specs.Reader.{Found, Outcome}
 use Rattle.writer.specs.Writer.{Writing}
 use Rattle.lines.specs.Handed.{Handed}
 use Rattle.salvaging.specs.Salvage.{Sizes, Salvage}
-use Rattle.import.specs.Import.{Drawn, Left}
+use Rattle.import.specs.Import.{Left}
+use Rattle.import.specs.declared.Imported.{Imported}
 use Rattle.border.specs.Crossing.{Crossed, count_crossed, found_crossed, salvaged_crossed, drawn_crossed}
 
 -- ---- a fit
@@ -90,10 +91,10 @@ left_by_salvage S = salvage_left (salvaged_crossed S.answer) S.out S.report
 -- ---- path data that is read
 
 pub record DrawnLeft : Type 0 where
-  pub answer : Crossed Drawn
+  pub answer : Crossed Imported
   pub curves : List Float
 
-abbrev pub drawn_left : Crossed Drawn → List Float → DrawnLeft
+abbrev pub drawn_left : Crossed Imported → List Float → DrawnLeft
 drawn_left a C = record { answer = a; curves = C }
 
 abbrev pub left_by_import : Left → DrawnLeft
