@@ -1,11 +1,8 @@
 -- `root::root_by_digits` meets its contract: the loop's invariant is `Digits`.
 use native.Mathlib.Omega.{arith}
-use Rattle.root.proofs.Digits.{top, start, turn_one, turn-zero, done, moved}
+use Rattle.root.proofs.Digits.{top, turn_one, turn-zero, moved}
 use Rattle.root.proofs.root_by_digits.Goals as goal
 use Rattle.root.proofs.root_by_digits.Goals.{then-trial-next, else-trial-next}
-
-pub loop-turn-init : goal.loop-turn-init
-loop-turn-init c = start c.args.a c.requires
 
 pub overflow_mul-next : goal.overflow_mul-next
 overflow_mul-next c = omega (arith, top _ _ _ _ _ c.loop-turn.invariant)
@@ -27,8 +24,3 @@ loop-turn-preserved c =
       | then-trial-next w ↦ moved w.root-is w.rest-is (turn_one a l.root l.rest l.left l._turn l.invariant c.loop-turn-test.true w.if-trial-next.true)
       | else-trial-next w ↦ moved w.root-is w.rest-is (turn-zero a l.root l.rest l.left l._turn l.invariant c.loop-turn-test.true w.if-trial-next.false)
     ]
-
-pub returns : goal.returns
-returns c =
-    let l = c.loop-turn in
-    done c.args.a l.root l.rest l.left l._turn l.invariant c.loop-turn-test.false
