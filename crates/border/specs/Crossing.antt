@@ -17,8 +17,9 @@ use Rattle.checker.specs.declared.Place.{Place}
 use Rattle.checker.specs.declared.Fault.{Fault}
 use Rattle.checker.specs.declared.Fault.TheVariants.{A, B, C, D, E}
 use Rattle.nearest.specs.Choose.{Nearest}
-use Rattle.reader.specs.Reader.{Found}
-use Rattle.salvaging.specs.Salvage.{Sizes, sizes}
+use Rattle.reader.specs.declared.Found.{Found}
+use Rattle.salvaging.specs.Salvage.{sizes}
+use Rattle.salvaging.specs.declared.Sizes.{Sizes}
 use Rattle.import.specs.declared.Imported.{Imported}
 
 -- ---- what comes in

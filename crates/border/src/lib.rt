@@ -16,9 +16,9 @@ use form::Form;
 use import::Imported;
 use nearest::NearestPoint;
 use plane::{Curve, Point};
-use reader::Read;
+use reader::Found;
 use ring::Outline;
-use salvaging::Salvaged;
+use salvaging::Sizes;
 
 // ---- what comes in
 
@@ -184,7 +184,7 @@ fn is_nine(form: Form) -> bool
 
 // What a file holds beside the slices.
 pub fn put_read(
-    answer: Result<Read, Refusal>,
+    answer: Result<Found, Refusal>,
     tolerance: &mut u64,
     mark_count: &mut usize,
     curve_count: &mut usize,
@@ -193,11 +193,11 @@ pub fn put_read(
     ensures { crossed result (found nine.new tolerance.new mark_count.new curve_count.new) ≡ found_crossed (answer answer) }
 {
     match answer {
-        Ok(read) => {
-            *nine = is_nine(read.form);
-            *tolerance = read.tolerance;
-            *mark_count = read.marks;
-            *curve_count = read.curves;
+        Ok(found) => {
+            *nine = is_nine(found.form);
+            *tolerance = found.tolerance;
+            *mark_count = found.marks;
+            *curve_count = found.curves;
             0
         }
         Err(refusal) => {
@@ -211,7 +211,7 @@ pub fn put_read(
 }
 
 // How many bytes a cleaned file has, and how many its list.
-pub fn put_salvaged(answer: Result<Salvaged, Refusal>, size: &mut usize, report_size: &mut usize) -> u32
+pub fn put_salvaged(answer: Result<Sizes, Refusal>, size: &mut usize, report_size: &mut usize) -> u32
     ensures { crossed result (sizes size.new report_size.new) ≡ salvaged_crossed (answer answer) }
 {
     match answer {

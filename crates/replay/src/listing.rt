@@ -23,7 +23,7 @@ fn take_curve(
     numbers: &mut [f64],
 ) -> Option<()> {
     *first = mark(words)?;
-    if form == Form::Nine {
+    if let Form::Nine = form {
         *worst = mark(words)?;
     }
     words.floats(numbers)

@@ -4,10 +4,12 @@ use Rattle.plane.specs.declared.Point.{Point}
 use Rattle.plane.specs.declared.Curve.{Curve}
 use Rattle.fit.specs.Fit.{Ending}
 use Rattle.flat_fit.specs.Flat.{FlatEnding}
-use Rattle.reader.specs.Reader.{Found, Outcome}
+use Rattle.reader.specs.Reader.{Outcome}
+use Rattle.reader.specs.declared.Found.{Found}
 use Rattle.writer.specs.Writer.{Writing}
 use Rattle.lines.specs.Handed.{Handed}
-use Rattle.salvaging.specs.Salvage.{Sizes, Salvage}
+use Rattle.salvaging.specs.Salvage.{Salvage}
+use Rattle.salvaging.specs.declared.Sizes.{Sizes}
 use Rattle.import.specs.Import.{Left}
 use Rattle.import.specs.declared.Imported.{Imported}
 use Rattle.border.specs.Crossing.{Crossed, count_crossed, found_crossed, salvaged_crossed, drawn_crossed}
