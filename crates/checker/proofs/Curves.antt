@@ -7,7 +7,7 @@ use mathlib.Core.List.{List}
 use lib.ListN.{length, drop}
 use lib.Seq.{get_or-drop}
 use lib.Ieee.{Float, nan}
-use Rattle.float.specs.Answer.{Answer, ok}
+use Rattle.std.specs.Prelude.{Ok, Err}
 use Rattle.plane.specs.declared.Point.{Point}
 use Rattle.plane.specs.declared.Curve.{Curve}
 use Rattle.marks.specs.Marks.{count, mark_at}
@@ -18,18 +18,18 @@ use Rattle.ring.specs.Ring.{again, whole, Even}
 use Rattle.ring.specs.declared.Outline.{Outline}
 use Rattle.ring.specs.declared.Outline.TheVariants.{Closed}
 use Rattle.ring.proofs.Whole.{again-small, whole-count, halves, given, as-closed}
-use Rattle.faults.specs.Tests.{first_at, curve_at, last_at, stop_at, runs, unmeasured, square_at, farthest}
+use Rattle.stages.specs.declared.worst.Worst.{Worst}
+use Rattle.faults.specs.Tests.{first_at, curve_at, last_at, stop_at, runs, unmeasured, square_at, farthest, kept}
 use Rattle.faults.proofs.Forms.{curve_within_is, worst_within}
 use Rattle.faults.proofs.Farther.{farther_same}
 use Rattle.faults.proofs.Firsts.{span}
-use Rattle.checker.specs.declared.Fault.TheVariants.{B}
-use Rattle.checker.specs.declared.Walked.{Walked}
-use Rattle.checker.specs.Check.{Verdict, fault, place, in_turn, mark_checked, curve_checked}
-use Rattle.checker.specs.Inner.{under_checked, walked_by, kept_checked, Listed, Under}
+use Rattle.checker.specs.declared.Fault.{Fault}
+use Rattle.checker.specs.declared.Fault.TheVariants.{B, E}
+use Rattle.checker.specs.Check.{Verdict, fault, place, must, ◌then◌, in_turn, mark_checked, curve_checked}
+use Rattle.checker.specs.Inner.{under_checked, walked_by, Listed, Under}
 use Rattle.checker.proofs.Turns.{turn_same}
 use Rattle.checker.proofs.Firsts.{risen}
-use Rattle.checker.proofs.Walks.{walk, square, over, same_square}
-use Rattle.checker.proofs.Kept.{kept-walked}
+use Rattle.checker.proofs.Walks.{far_is, stop_is, walk, square, over, same_square}
 
 -- the places of curve j's marks in the lists, of n marks that count
 pub record Places (o : Outline) (ms : List Float) (n k : ℕ) (fs : List ℕ) (ps : List Float) (j : ℕ) : Type 0 where
@@ -113,9 +113,21 @@ module _ (o : Outline) (form : Form) (ms : List Float) (tol : Float) (k : ℕ) (
             farther_same (unmeasured first) (square tol n j first c ms ps) (λ i. square_at (whole o ms) c ps (first + i)) first (stop - first) far,
           )
 
-      pub curve-rest : test ≡ true → (r : Walked) → r ≡ over tol n j first c ms ps (stop - first) → {a : Answer Verdict} → a ≡ ok (kept_checked form cs ws j first r) → a ≡ ok (curve_checked form (whole o ms) tol k cs fs ws ps j)
-      unfolding curve_checked
-      curve-rest t r is e =
-          e
-          ∙ ap (λ (x : Walked). ok (kept_checked form cs ws j first x)) (is ∙ farthest_is)
-          ∙ ap ok (kept-walked form cs ws j first tests (farthest (whole o ms) c ps first (stop - first)) ∙ rw (t, is_stop, b.all, is_first, is_c))
+      -- E of the curve, if the marks under it have no fault
+      abbrev end : Worst → Verdict
+      end w = must (E (place j first)) (kept form cs ws j w)
+
+      module _ (t : test ≡ true) where
+        all : tests then end (farthest (whole o ms) c ps first (stop - first)) ≡ curve_checked form (whole o ms) tol k cs fs ws ps j
+        unfolding curve_checked
+        all = rw (t, is_stop, b.all, is_first, is_c)
+
+        pub curve_halt : (f : Fault) → Err f ≡ over tol n j first c ms ps (stop - first) → fault f ≡ curve_checked form (whole o ms) tol k cs fs ws ps j
+        curve_halt f e =
+            let h = stop_is tests (farthest (whole o ms) c ps first (stop - first)) (sym (e ∙ farthest_is)) in
+            ap (λ (v : Verdict). v then end (farthest (whole o ms) c ps first (stop - first))) (sym h) ∙ all
+
+        pub curve-rest : (w : Worst) → Ok w ≡ over tol n j first c ms ps (stop - first) → {v : Verdict} → v ≡ end w → v ≡ curve_checked form (whole o ms) tol k cs fs ws ps j
+        curve-rest w is e =
+            let h = far_is tests (farthest (whole o ms) c ps first (stop - first)) (sym (is ∙ farthest_is)) in
+            e ∙ ap end (sym h.1) ∙ ap (λ (v : Verdict). v then end (farthest (whole o ms) c ps first (stop - first))) (sym h.0) ∙ all

@@ -2,6 +2,5 @@ pub mod Turns
 pub mod Firsts
 pub mod Under
 pub mod Walks
-pub mod Kept
 pub mod Curves
 pub mod Lists

@@ -6,31 +6,20 @@ use native.Mathlib.Omega.{arith}
 use mathlib.Core.Path.{◌≡◌, refl, ap, ◌∙◌}
 use mathlib.Core.Logic.{◌⊎◌, inl, inr}
 use mathlib.Core.Bool.{Bool, true, false}
-use Rattle.float.specs.Answer.{ok}
+use Rattle.std.specs.Prelude.{Result, Err}
+use Rattle.std.specs.Result.{IsErrAnd}
+use Rattle.std.proofs.lemmas.Result.{err_from_is_err_and}
 use Rattle.checker.specs.declared.Fault.{Fault}
-use Rattle.checker.specs.declared.Checked.{Checked}
-use Rattle.checker.specs.declared.Checked.TheVariants.{Passed, Faulty, Refused}
-use Rattle.checker.specs.Check.{Verdict, checked_answer, passed, fault, must, ◌then◌, in_turn}
+use Rattle.checker.specs.Check.{Verdict, passed, fault, must, ◌then◌, in_turn}
 
 never_fault : {f : Fault} {A : Type 0} → fault f ≡ passed → A
 never_fault e = let z : ◌≡◌ {A = ℕ} 0 1 = cc in absurd (omega arith)
 
--- an answer that is a fault, where the verdict is that fault
-pub by_fault : {r : Checked} {f : Fault} {v : Verdict} → r ≡ Faulty f → fault f ≡ v → checked_answer r ≡ ok v
-unfolding checked_answer
-by_fault e h = ap checked_answer e ∙ ap ok h
-
--- an answer with a verdict, by its cases
-pub passed_is : {r : Checked} {v : Verdict} → checked_answer r ≡ ok v → r ≡ Passed → v ≡ passed
-unfolding checked_answer
-passed_is {r} {v} h e = let g : checked_answer r ≡ ok passed = ap checked_answer e in cc
-
--- the arm of an answer that is not Passed
-pub other_is : (r : Checked) {v : Verdict} → checked_answer r ≡ ok v → (r ≡ Passed → ⊥) → (f : Fault) × (v ≡ fault f)
-unfolding checked_answer
-other_is Passed h n = absurd (n refl)
-other_is (Faulty f) h n = (f, cc)
-other_is (Refused q) h n = let z : ◌≡◌ {A = ℕ} 0 1 = cc in absurd (omega arith)
+-- what a `?` hands on is the fault of the call
+pub halted : {A : Type 0} (r : Result A Fault) (f : Fault) → IsErrAnd r (λ y. y ≡ f) → r ≡ Err f
+halted r f h =
+    let p = err_from_is_err_and r h in
+    p.1 ∙ ap Err p.2
 
 pub must-true : (f : Fault) (b : Bool) → must f b ≡ passed → b ≡ true
 must-true f true h = refl

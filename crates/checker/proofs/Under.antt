@@ -7,6 +7,7 @@ use mathlib.Core.Bool.{Bool, true, false}
 use mathlib.Core.List.{List}
 use lib.ListN.{length, get_or}
 use lib.Ieee.{Float, nan, binary64}
+use Rattle.std.specs.Prelude.{Result, Ok, Err}
 use Rattle.root.specs.Root.{sqrt}
 use Rattle.plane.specs.declared.Curve.{Curve}
 use Rattle.marks.specs.Marks.{mark_at}
@@ -15,8 +16,6 @@ use Rattle.stages.specs.declared.worst.Worst.{Worst}
 use Rattle.faults.specs.Tests.{timed, within, near, distance_at, square_at, farther}
 use Rattle.checker.specs.declared.Fault.{Fault}
 use Rattle.checker.specs.declared.Fault.TheVariants.{C, D}
-use Rattle.checker.specs.declared.Walked.{Walked}
-use Rattle.checker.specs.declared.Walked.TheVariants.{Far, Stopped}
 use Rattle.checker.specs.Check.{Verdict, passed, fault, place, in_turn}
 use Rattle.checker.specs.Inner.{under_checked, walked_by, walked}
 use Rattle.checker.proofs.Turns.{turn_next, turn_stop}
@@ -25,7 +24,7 @@ module _ (tol : Float) (n j first from : ℕ) (c : Curve) (us ts : List Float) (
   abbrev steps : ℕ → Verdict
   steps = under_checked tol n j first from c us ts
 
-  abbrev whole : Walked
+  abbrev whole : Result Worst Fault
   whole = walked (length ts) steps w (square_at us c ts) from
 
   -- the first i marks have no fault, and far is the farthest of them
@@ -33,21 +32,21 @@ module _ (tol : Float) (n j first from : ℕ) (c : Curve) (us ts : List Float) (
   Faultless far i = (i ≤ length ts) × (in_turn i steps ≡ passed) × (far ≡ farther w (square_at us c ts) from i)
 
   module _ (far : Worst) (i : ℕ) (inv : Faultless far i) (l : i < length ts) (a : Bool) (time : a ≡ timed n first (from + i) (get_or ts i nan)) where
-    stops : (x : Fault) → steps i ≡ fault x → Stopped x ≡ whole
+    stops : (x : Fault) → steps i ≡ fault x → Err x ≡ whole
     stops x h = sym (ap (λ (v : Verdict). walked_by v (farther w (square_at us c ts) from (length ts))) (turn_stop steps (length ts) i x l inv.1 h))
 
-    pub fault_c : {r : Walked} → r ≡ Stopped (C (place j (from + i))) → a ≡ false → r ≡ whole
+    pub fault_c : a ≡ false → Err (C (place j (from + i))) ≡ whole
     unfolding under_checked
-    fault_c e f = e ∙ stops (C (place j (from + i))) (rw (← time, f))
+    fault_c f = stops (C (place j (from + i))) (rw (← time, f))
 
     module _ (t : a ≡ true) (square : Float) (is : square ≡ (error_of (mark_at us i) c (get_or ts i nan)).val) (b : Bool) (dist : b ≡ within tol (sqrt binary64 square)) where
       near_is : b ≡ near tol (mark_at us i) c (get_or ts i nan)
       unfolding near distance_at
       near_is = dist ∙ rw is
 
-      pub fault_d : {r : Walked} → r ≡ Stopped (D (place j (from + i))) → b ≡ false → r ≡ whole
+      pub fault_d : b ≡ false → Err (D (place j (from + i))) ≡ whole
       unfolding under_checked
-      fault_d e f = e ∙ stops (D (place j (from + i))) (rw (← time, t, ← near_is, f))
+      fault_d f = stops (D (place j (from + i))) (rw (← time, t, ← near_is, f))
 
       pub faultless : b ≡ true → (next : Worst) → next ≡ larger far square (from + i) → Faultless next (i + 1)
       unfolding under_checked farther square_at
@@ -55,7 +54,7 @@ module _ (tol : Float) (n j first from : ℕ) (c : Curve) (us ts : List Float) (
           let v : in_turn (i + 1) steps ≡ passed = turn_next steps i inv.1 (rw (← time, t, ← near_is, g)) in
           (omega arith, v, e ∙ rw (add-one, ← inv.2, ← is))
 
-  pub faultless_end : (far : Worst) (i : ℕ) → Faultless far i → length ts ≤ i → Far far ≡ whole
+  pub faultless_end : (far : Worst) (i : ℕ) → Faultless far i → length ts ≤ i → Ok far ≡ whole
   faultless_end far i inv h =
       let e : i ≡ length ts = let l = inv.0 in omega arith in
-      rw (← e, inv.1) (ap Far inv.2)
+      rw (← e, inv.1) (ap Ok inv.2)

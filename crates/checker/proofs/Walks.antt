@@ -6,6 +6,7 @@ use mathlib.Core.List.{List}
 use lib.ListN.{length, take, drop, get_or, length-take, length-drop}
 use lib.Seq.{get_or-drop, get_or-take}
 use lib.Ieee.{Float, nan}
+use Rattle.std.specs.Prelude.{Result, Ok, Err}
 use Rattle.plane.specs.declared.Point.{Point}
 use Rattle.plane.specs.declared.Curve.{Curve}
 use Rattle.marks.specs.Marks.{count, mark_at}
@@ -18,8 +19,6 @@ use Rattle.stages.specs.declared.worst.Worst.{Worst}
 use Rattle.faults.specs.Tests.{square_at, farther, unmeasured}
 use Rattle.faults.proofs.Farther.{farther_same}
 use Rattle.checker.specs.declared.Fault.{Fault}
-use Rattle.checker.specs.declared.Walked.{Walked}
-use Rattle.checker.specs.declared.Walked.TheVariants.{Far, Stopped}
 use Rattle.checker.specs.Check.{Verdict, passed, fault, in_turn}
 use Rattle.checker.specs.Inner.{under_checked, walked_by, walked}
 use Rattle.checker.proofs.Turns.{turn_last, turn_halted, turn_one, turn_same}
@@ -37,20 +36,20 @@ walk_asks n from stop a e ms ps us ts is_us is-ts s o l m p =
 
 -- ---- what a walk gave, by its cases
 
-far_is : (v : Verdict) (w : Worst) {x : Worst} → walked_by v w ≡ Far x → (v ≡ passed) × (w ≡ x)
+pub far_is : (v : Verdict) (w : Worst) {x : Worst} → walked_by v w ≡ Ok x → (v ≡ passed) × (w ≡ x)
 far_is passed w h = (refl, cc)
 far_is (fault f) w h = let z : ◌≡◌ {A = ℕ} 0 1 = cc in absurd (omega arith)
 
-stop_is : (v : Verdict) (w : Worst) {f : Fault} → walked_by v w ≡ Stopped f → v ≡ fault f
+pub stop_is : (v : Verdict) (w : Worst) {f : Fault} → walked_by v w ≡ Err f → v ≡ fault f
 stop_is passed w h = let z : ◌≡◌ {A = ℕ} 0 1 = cc in absurd (omega arith)
 stop_is (fault f) w h = cc
 
 module _ (steps : ℕ → Verdict) (w : Worst) (squares : ℕ → Float) (from m : ℕ) where
   -- one mark more, after a fault and after none
-  walked_halted : {f : Fault} → walked m steps w squares from ≡ Stopped f → Stopped f ≡ walked (suc m) steps w squares from
+  walked_halted : {f : Fault} → walked m steps w squares from ≡ Err f → Err f ≡ walked (suc m) steps w squares from
   walked_halted {f} h = rw (turn_halted steps m f (stop_is (in_turn m steps) (farther w squares from m) h))
 
-  walked_next : {x : Worst} → walked m steps w squares from ≡ Far x → walked (suc m) steps w squares from ≡ walked_by (steps m) (larger x (squares m) (from + m))
+  walked_next : {x : Worst} → walked m steps w squares from ≡ Ok x → walked (suc m) steps w squares from ≡ walked_by (steps m) (larger x (squares m) (from + m))
   unfolding farther
   walked_next h =
       let f = far_is (in_turn m steps) (farther w squares from m) h in
@@ -75,7 +74,7 @@ module _ (tol : Float) (n j first : ℕ) (c : Curve) (ms ps : List Float) where
   square = square_at (drop (2 * first) (whole Closed ms)) c (drop first ps)
 
   -- the walk over the first m marks
-  abbrev pub over : ℕ → Walked
+  abbrev pub over : ℕ → Result Worst Fault
   over m = walked m walk (unmeasured first) square first
 
   pub same_square : (us ts vs qs : List Float) (i m : ℕ) → mark_at us i ≡ mark_at vs m → get_or ts i nan ≡ get_or qs m nan → square_at us c ts i ≡ square_at vs c qs m
@@ -96,7 +95,7 @@ module _ (tol : Float) (n j first : ℕ) (c : Curve) (ms ps : List Float) where
 
   -- marks that were given
   pub walk-given : (stop : ℕ) (us ts : List Float) → us ≡ take (2 * stop - 2 * first) (drop (2 * first) ms) → ts ≡ take (stop - first) (drop first ps) → stop ≤ count ms → stop ≤ length ps
-      → {a : Walked} → a ≡ walked (length ts) (under_checked tol n j first first c us ts) (unmeasured first) (square_at us c ts) first → a ≡ over (stop - first)
+      → {a : Result Worst Fault} → a ≡ walked (length ts) (under_checked tol n j first first c us ts) (unmeasured first) (square_at us c ts) first → a ≡ over (stop - first)
   walk-given stop us ts is_us is-ts l p e =
       let s = part_length first stop ps p is-ts in
       e ∙ walked_same (under_checked tol n j first first c us ts) (unmeasured first) (square_at us c ts) first (length ts) walk square (λ i m. one i (rw s at m)) ∙ ap over s
@@ -111,12 +110,12 @@ module _ (tol : Float) (n j first : ℕ) (c : Curve) (ms ps : List Float) where
     one_more : over (stop - first) ≡ over (suc (count ms - first))
     one_more = let e : stop - first ≡ suc (count ms - first) = omega arith in ap over e
 
-    pub walk_halted : {r : Walked} → r ≡ over (count ms - first) → {f : Fault} → r ≡ Stopped f → Stopped f ≡ over (stop - first)
+    pub walk_halted : {r : Result Worst Fault} → r ≡ over (count ms - first) → {f : Fault} → r ≡ Err f → Err f ≡ over (stop - first)
     walk_halted e h = walked_halted walk (unmeasured first) square first (count ms - first) (sym e ∙ h) ∙ sym one_more
 
     pub walk-again : Even ms → (last : ℕ) (us ts : List Float) → last ≡ count ms → us ≡ take (2 * (stop - count ms) - 2 * (last - count ms)) (drop (2 * (last - count ms)) ms)
-        → ts ≡ take (stop - last) (drop last ps) → stop ≤ length ps → {x : Worst} → over (count ms - first) ≡ Far x
-        → {a : Walked} → a ≡ walked (length ts) (under_checked tol n j first last c us ts) x (square_at us c ts) last → a ≡ over (stop - first)
+        → ts ≡ take (stop - last) (drop last ps) → stop ≤ length ps → {x : Worst} → over (count ms - first) ≡ Ok x
+        → {a : Result Worst Fault} → a ≡ walked (length ts) (under_checked tol n j first last c us ts) x (square_at us c ts) last → a ≡ over (stop - first)
     walk-again even last us ts end is_us is-ts p {x} h e =
         let s = part_length last stop ps p is-ts in
         let one : length ts ≡ 1 = omega arith in

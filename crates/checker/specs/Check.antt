@@ -3,6 +3,7 @@
 use Rattle.std.specs.Prelude.{ℕ, zero, suc, ◌+◌, ◌-◌, Bool, true, false, ◌&&◌, cond, List, length, get_or, leb, ltb, eqb, Float}
 use Rattle.std.specs.Float.{nan}
 use Rattle.float.specs.Answer.{Answer, ok, refused}
+use Rattle.float.specs.Refusal.{number}
 use Rattle.limits.specs.Limits.{most_marks}
 use Rattle.marks.specs.Marks.{count, mark_at}
 use Rattle.form.specs.declared.Form.{Form}
@@ -24,7 +25,7 @@ pub data Verdict : Type 0 where
 unfoldable pub checked_answer : Checked → Answer Verdict
 checked_answer checked.Passed = ok passed
 checked_answer (checked.Faulty f) = ok (fault f)
-checked_answer (checked.Refused q) = refused q
+checked_answer (checked.Refused q) = refused (number q)
 
 abbrev pub place : ℕ → ℕ → Place
 place curve mark = record { curve = curve; mark = mark }

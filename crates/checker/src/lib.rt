@@ -2,15 +2,17 @@
 #![tactic(auto)]
 
 ghost use Rattle.std.specs.Prelude.{◌≡◌, ◌+◌, ◌-◌, ◌*◌, ◌≤◌, ◌<◌, length, drop, []};
-ghost use Rattle.float.specs.Answer.{ok};
 ghost use Rattle.ring.specs.Ring.{whole};
 ghost use Rattle.ring.specs.declared.Outline.TheVariants as outlines;
+ghost use Rattle.gate.specs.Gate.{gate_for};
+ghost use Rattle.limits.specs.Limits.{most_marks};
 ghost use Rattle.form.specs.Form.{width, worsts_for};
 ghost use Rattle.form.specs.declared.Form.TheVariants as forms;
-ghost use Rattle.faults.specs.Tests.{square_at, unmeasured};
-ghost use Rattle.checker.specs.Check.{checked_answer, place, in_turn, listed, curve_checked, check_of};
-ghost use Rattle.checker.specs.Inner.{under_checked, walked, kept_checked, Under, Listed};
+ghost use Rattle.faults.specs.Tests.{square_at, unmeasured, kept};
+ghost use Rattle.checker.specs.Check.{checked_answer, place, must, in_turn, listed, curve_checked, list_checked, check_of};
+ghost use Rattle.checker.specs.Inner.{verdict, under_checked, walked, Under, Listed};
 
+use float::refusal::Refusal;
 use form::Form;
 use limits::MOST_MARKS;
 use plane::Curve;
@@ -40,70 +42,28 @@ pub enum Fault {
 pub enum Checked {
     Passed,
     Faulty(Fault),
-    Refused(u32),
-}
-
-// The farthest mark of those walked over, with the square of its distance, or the first fault.
-#[derive(Clone, Copy)]
-enum Walked {
-    Far(Worst),
-    Stopped(Fault),
-}
-
-// ---- faults, each made in one place
-
-fn fault_a(curve: usize) -> Checked
-    ensures { result ≡ Checked.Faulty (Fault.A (place curve 0)) }
-{
-    Checked::Faulty(Fault::A(Place { curve, mark: 0 }))
-}
-
-fn fault_b(curve: usize, mark: usize) -> Checked
-    ensures { result ≡ Checked.Faulty (Fault.B (place curve mark)) }
-{
-    Checked::Faulty(Fault::B(Place { curve, mark }))
-}
-
-fn fault_c(curve: usize, mark: usize) -> Walked
-    ensures { result ≡ Walked.Stopped (Fault.C (place curve mark)) }
-{
-    Walked::Stopped(Fault::C(Place { curve, mark }))
-}
-
-fn fault_d(curve: usize, mark: usize) -> Walked
-    ensures { result ≡ Walked.Stopped (Fault.D (place curve mark)) }
-{
-    Walked::Stopped(Fault::D(Place { curve, mark }))
-}
-
-fn fault_e(curve: usize, mark: usize) -> Checked
-    ensures { result ≡ Checked.Faulty (Fault.E (place curve mark)) }
-{
-    Checked::Faulty(Fault::E(Place { curve, mark }))
+    Refused(Refusal),
 }
 
 // ---- A: the first marks
 
 // A over the whole list.
-fn check_firsts(firsts: &[u32], n: usize, count: usize) -> Checked
+fn check_firsts(firsts: &[u32], n: usize, count: usize) -> Result<(), Fault>
     requires { («count» ≤ length firsts.now) × (2 ≤ n) }
-    ensures { checked_answer result ≡ ok (listed n «count» firsts.now) }
+    ensures { verdict result ≡ listed n «count» firsts.now }
 {
     if count == 0 {
-        return fault_a(0);
+        return Err(Fault::A(Place { curve: 0, mark: 0 }));
     }
     if count >= n {
-        return fault_a(0);
+        return Err(Fault::A(Place { curve: 0, mark: 0 }));
     }
-    let mut j = 0;
-    while j < count {
-        if faults::rises_at(firsts, n, j) {
-            j += 1;
-        } else {
-            return fault_a(j);
+    for j in 0..count {
+        if !faults::rises_at(firsts, n, j) {
+            return Err(Fault::A(Place { curve: j, mark: 0 }));
         }
     }
-    Checked::Passed
+    Ok(())
 }
 
 // ---- C and D: the marks under a curve
@@ -120,26 +80,23 @@ fn check_marks(
     c: Curve,
     tolerance: f64,
     before: Worst,
-) -> Walked
+) -> Result<Worst, Fault>
     requires { (length under.now ≡ 2 * length params.now) × (from + length params.now ≤ n) }
     ensures { result ≡ walked (length params.now) (under_checked tolerance n j first from c under.now params.now) before (square_at under.now c params.now) from }
 {
     let mut far = before;
-    let mut i = 0;
-    while i < params.len() {
-        let t = params[i];
+    for (i, &t) in params.iter().enumerate() {
         let mark = from + i;
         if !faults::is_timed(n, first, mark, t) {
-            return fault_c(j, mark);
+            return Err(Fault::C(Place { curve: j, mark }));
         }
         let square = stages::error_at(under, c, i, t);
         if !faults::is_near(square, tolerance) {
-            return fault_d(j, mark);
+            return Err(Fault::D(Place { curve: j, mark }));
         }
         far = stages::larger(far, square, mark);
-        i += 1;
     }
-    Walked::Far(far)
+    Ok(far)
 }
 
 // C and D over all marks under curve j, from mark `first` up to mark `stop`. Mark 0, where it counts again, has a walk of its own, so that no slice is
@@ -153,7 +110,7 @@ fn check_under(
     stop: usize,
     c: Curve,
     tolerance: f64,
-) -> Walked
+) -> Result<Worst, Fault>
     requires { Under marks.now params.now n first stop }
     ensures { result ≡ walked (stop - first) (under_checked tolerance n j first first c (drop (2 * first) (whole outlines.Closed marks.now)) (drop first params.now)) (unmeasured first) (square_at (drop (2 * first) (whole outlines.Closed marks.now)) c (drop first params.now)) first }
 {
@@ -177,7 +134,7 @@ fn check_under(
         );
     }
     let most = faults::marks_under(marks, first, given);
-    let walked = check_marks(
+    let far = check_marks(
         most,
         &params[first..given],
         n,
@@ -187,10 +144,7 @@ fn check_under(
         c,
         tolerance,
         none,
-    );
-    let Walked::Far(far) = walked else {
-        return walked;
-    };
+    )?;
     let last = stop - 1;
     let again = faults::marks_under(marks, last - given, stop - given);
     check_marks(
@@ -208,88 +162,93 @@ fn check_under(
 
 // ---- E: what is kept of the marks under a curve
 
-// E of curve j, whose first mark is `first`, after the walk over its marks.
+// E of the curve whose number and first mark are in `at`, by the farthest mark under it.
 fn check_kept(
-    walked: Walked,
+    far: Worst,
     form: Form,
     curves: &[f64],
     worsts: &[u32],
-    j: usize,
-    first: usize,
-) -> Checked
-    requires { (width form * j + width form ≤ length curves.now) × (worsts_for form (j + 1) ≤ length worsts.now) }
-    ensures { checked_answer result ≡ ok (kept_checked form curves.now worsts.now j first walked) }
+    at: Place,
+) -> Result<(), Fault>
+    requires { (width form * at.curve + width form ≤ length curves.now) × (worsts_for form (at.curve + 1) ≤ length worsts.now) }
+    ensures { verdict result ≡ must (Fault.E at) (kept form curves.now worsts.now at.curve far) }
 {
-    match walked {
-        Walked::Stopped(fault) => Checked::Faulty(fault),
-        Walked::Far(far) => {
-            if faults::is_kept(form, curves, worsts, j, far) {
-                return Checked::Passed;
-            }
-            fault_e(j, first)
-        }
+    if !faults::is_kept(form, curves, worsts, at.curve, far) {
+        return Err(Fault::E(at));
     }
+    Ok(())
 }
 
 // ---- the whole
 
-// B of curve j, then C and D of the marks under it, then E.
-fn check_curve(
+// A list as it is checked: `count` curves of a form for the marks of an outline, at a tolerance.
+#[derive(Clone, Copy)]
+struct List<'a> {
     outline: Outline,
     form: Form,
-    marks: &[f64],
+    marks: &'a [f64],
     tolerance: f64,
     count: usize,
-    curves: &[f64],
-    firsts: &[u32],
-    worsts: &[u32],
-    params: &[f64],
-    j: usize,
-) -> Checked
-    requires { (j < «count») × Listed form (whole outline marks.now) «count» curves.now firsts.now worsts.now params.now }
-    ensures { checked_answer result ≡ ok (curve_checked form (whole outline marks.now) tolerance «count» curves.now firsts.now worsts.now params.now j) }
-{
-    let given = marks.len() / 2;
-    let n = ring::again(outline) + given;
-    let c = faults::curve_at(form, curves, j);
-    let first = faults::first_at(firsts, j);
-    let last = faults::last_at(firsts, n, count, j);
-    let p = marks::mark_at(marks, first);
-    let q = ring::mark_round(marks, last);
-    if !faults::is_run(c, p, q) {
-        return fault_b(j, first);
-    }
-    let stop = faults::stop_at(firsts, n, count, j);
-    let walked = check_under(marks, params, n, j, first, stop, c, tolerance);
-    check_kept(walked, form, curves, worsts, j, first)
+    curves: &'a [f64],
+    firsts: &'a [u32],
+    worsts: &'a [u32],
+    params: &'a [f64],
 }
 
-// Curve by curve.
-fn check_curves(
-    outline: Outline,
-    form: Form,
-    marks: &[f64],
-    tolerance: f64,
-    count: usize,
-    curves: &[f64],
-    firsts: &[u32],
-    worsts: &[u32],
-    params: &[f64],
-) -> Checked
-    requires { Listed form (whole outline marks.now) «count» curves.now firsts.now worsts.now params.now }
-    ensures { checked_answer result ≡ ok (in_turn «count» (curve_checked form (whole outline marks.now) tolerance «count» curves.now firsts.now worsts.now params.now)) }
-{
-    let mut j = 0;
-    while j < count {
-        let one = check_curve(
-            outline, form, marks, tolerance, count, curves, firsts, worsts, params, j,
-        );
-        let Checked::Passed = one else {
-            return one;
+impl List<'_> {
+    // B of curve j, then C and D of the marks under it, then E.
+    fn check_curve(&self, j: usize) -> Result<(), Fault>
+        requires { let l = self.now in (j < l.count) × Listed l.form (whole l.outline l.marks.now) l.count l.curves.now l.firsts.now l.worsts.now l.params.now }
+        ensures { let l = self.now in verdict result ≡ curve_checked l.form (whole l.outline l.marks.now) l.tolerance l.count l.curves.now l.firsts.now l.worsts.now l.params.now j }
+    {
+        let given = self.marks.len() / 2;
+        let n = ring::again(self.outline) + given;
+        let c = faults::curve_at(self.form, self.curves, j);
+        let first = faults::first_at(self.firsts, j);
+        let at = Place {
+            curve: j,
+            mark: first,
         };
-        j += 1;
+        let last = faults::last_at(self.firsts, n, self.count, j);
+        let p = marks::mark_at(self.marks, first);
+        let q = ring::mark_round(self.marks, last);
+        if !faults::is_run(c, p, q) {
+            return Err(Fault::B(at));
+        }
+        let stop = faults::stop_at(self.firsts, n, self.count, j);
+        let far = check_under(
+            self.marks,
+            self.params,
+            n,
+            j,
+            first,
+            stop,
+            c,
+            self.tolerance,
+        )?;
+        check_kept(far, self.form, self.curves, self.worsts, at)
     }
-    Checked::Passed
+
+    // Curve by curve.
+    fn check_curves(&self) -> Result<(), Fault>
+        requires { let l = self.now in Listed l.form (whole l.outline l.marks.now) l.count l.curves.now l.firsts.now l.worsts.now l.params.now }
+        ensures { let l = self.now in verdict result ≡ in_turn l.count (curve_checked l.form (whole l.outline l.marks.now) l.tolerance l.count l.curves.now l.firsts.now l.worsts.now l.params.now) }
+    {
+        for j in 0..self.count {
+            self.check_curve(j)?;
+        }
+        Ok(())
+    }
+
+    // A over the whole list, then curve by curve.
+    fn check_all(&self) -> Result<(), Fault>
+        requires { let l = self.now in gate_for most_marks l.outline l.form l.count l.marks.now l.tolerance (length l.curves.now) (length l.firsts.now) (length l.worsts.now) (length l.params.now) ≡ 0 }
+        ensures { let l = self.now in verdict result ≡ list_checked l.form (whole l.outline l.marks.now) l.tolerance l.count l.curves.now l.firsts.now l.worsts.now l.params.now }
+    {
+        let n = ring::again(self.outline) + self.marks.len() / 2;
+        check_firsts(self.firsts, n, self.count)?;
+        self.check_curves()
+    }
 }
 
 // Whether `count` curves are a sound list for the marks of an outline and this tolerance, or the first fault, with its curve's number and its mark's: the gate,
@@ -307,7 +266,7 @@ pub fn check(
 ) -> Checked
     ensures { checked_answer result ≡ check_of outline form marks.now tolerance «count» curves.now firsts.now worsts.now params.now }
 {
-    let refusal = gate::gate_for(
+    let passes = gate::gate_for(
         outline,
         form,
         marks,
@@ -319,17 +278,24 @@ pub fn check(
         worsts.len(),
         params.len(),
     );
-    if refusal != 0 {
+    if let Err(refusal) = passes {
         return Checked::Refused(refusal);
     }
-    let n = ring::again(outline) + marks.len() / 2;
-    let risen = check_firsts(firsts, n, count);
-    let Checked::Passed = risen else {
-        return risen;
+    let list = List {
+        outline,
+        form,
+        marks,
+        tolerance,
+        count,
+        curves,
+        firsts,
+        worsts,
+        params,
     };
-    check_curves(
-        outline, form, marks, tolerance, count, curves, firsts, worsts, params,
-    )
+    match list.check_all() {
+        Ok(()) => Checked::Passed,
+        Err(fault) => Checked::Faulty(fault),
+    }
 }
 
 // The same for a list of eight numbers a curve over an open outline, from its first mark to its last.

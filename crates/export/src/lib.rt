@@ -2,17 +2,17 @@
 #![tactic(auto)]
 
 ghost use Rattle.std.specs.Prelude.{◌≡◌, ◌+◌, ◌*◌, ◌≤◌, length};
+ghost use Rattle.float.specs.Refusal.{answer};
 ghost use Rattle.form.specs.Form.{width};
 ghost use Rattle.faults.specs.Tests.{curve_at};
-ghost use Rattle.lines.specs.Handed.{handed, listed_answer};
+ghost use Rattle.lines.specs.Handed.{handed};
 ghost use Rattle.path.specs.Range.{within, point_within, curve_within, every};
 ghost use Rattle.export.specs.Export.{whole_in, meets, export_of};
 ghost use Rattle.export.specs.Tests.{passes, ahead};
 
 use faults::{curve_at, is_finite, is_same};
-use float::refusal::{NO_ROOM, NOT_JOINED, OUT_OF_RANGE, TOO_LARGE};
+use float::refusal::Refusal;
 use form::Form;
-use lines::Listed;
 use path_text::{path_length, put_path};
 use plane::{Curve, Point};
 
@@ -69,10 +69,8 @@ fn all_pass(test: Test, form: Form, curves: &[f64], n: usize) -> bool
     ensures { result ≡ every n (passes test (curve_at form curves.now)) }
 {
     let mut all = true;
-    let mut i = 0;
-    while i < n {
+    for i in 0..n {
         all = all & is_passed(test, form, curves, i);
-        i += 1;
     }
     all
 }
@@ -82,10 +80,7 @@ fn whole_in(form: Form, numbers: usize, count: usize) -> usize
     ensures { result ≡ whole_in form numbers «count» }
 {
     let whole = numbers / form::width(form);
-    if count < whole {
-        return count;
-    }
-    whole
+    count.min(whole)
 }
 
 // Whether there are curves, and they meet; of a ring that is held whole the last one also meets the first.
@@ -114,24 +109,30 @@ fn all_meet(form: Form, curves: &[f64], count: usize, held: usize, ring: bool) -
 
 // Writes the first `count` curves of a list as path data into the first bytes of `out`: M and the first start, C for each curve, and Z for a ring. Each number is the
 // exact value in thousandths, halves away from zero. Where it is refused `out` stays as it is.
-pub fn export_path(form: Form, curves: &[f64], count: usize, ring: bool, out: &mut [u8]) -> Listed
-    ensures { handed (listed_answer result) out.new ≡ export_of form curves.now «count» ring out.old }
+pub fn export_path(
+    form: Form,
+    curves: &[f64],
+    count: usize,
+    ring: bool,
+    out: &mut [u8],
+) -> Result<usize, Refusal>
+    ensures { handed (answer result) out.new ≡ export_of form curves.now «count» ring out.old }
 {
     let held = whole_in(form, curves.len(), count);
     if !all_pass(Test::Finite, form, curves, held) {
-        return Listed::Refused(OUT_OF_RANGE);
+        return Err(Refusal::OutOfRange);
     }
     if !all_pass(Test::Within, form, curves, held) {
-        return Listed::Refused(TOO_LARGE);
+        return Err(Refusal::TooLarge);
     }
     if !all_meet(form, curves, count, held, ring) {
-        return Listed::Refused(NOT_JOINED);
+        return Err(Refusal::NotJoined);
     }
     if held < count {
-        return Listed::Refused(NO_ROOM);
+        return Err(Refusal::NoRoom);
     }
     if out.len() < path_length(form, curves, count, ring) {
-        return Listed::Refused(NO_ROOM);
+        return Err(Refusal::NoRoom);
     }
-    Listed::Bytes(put_path(out, form, curves, count, ring))
+    Ok(put_path(out, form, curves, count, ring))
 }

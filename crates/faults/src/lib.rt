@@ -15,19 +15,12 @@ use stages::Worst;
 
 // ---- what a list holds
 
-// A u32 as a usize.
-fn wide(x: u32) -> usize
-    ensures { result ≡ x }
-{
-    x as usize
-}
-
 // The first mark of curve j.
 pub fn first_at(firsts: &[u32], j: usize) -> usize
     requires { j < length firsts.now }
     ensures { result ≡ first_at firsts.now j }
 {
-    wide(firsts[j])
+    firsts[j] as usize
 }
 
 // The curve at the front of these numbers.
@@ -66,10 +59,7 @@ pub fn last_at(firsts: &[u32], n: usize, count: usize, j: usize) -> usize
     requires { (j < «count») × ((«count» ≤ length firsts.now) × (2 ≤ n)) }
     ensures { result ≡ last_at n «count» firsts.now j }
 {
-    if j + 1 < count {
-        return first_at(firsts, j + 1);
-    }
-    n - 1
+    stop_at(firsts, n - 1, count, j)
 }
 
 // The first mark that is not measured under curve j: a joint is measured under its later curve.

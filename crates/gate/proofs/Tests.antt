@@ -1,16 +1,19 @@
--- The loop over the marks' numbers, and what a passed gate says. Assumes nothing.
-use Prim.Native.Nat.{ℕ, suc, ◌+◌, ◌-◌, ◌*◌, ◌/◌, ◌%◌, ◌≤◌, ◌<◌}
+-- The marks' numbers, looked through, and what a passed gate says. Assumes nothing.
+use Prim.Native.Nat.{ℕ, zero, suc, ◌+◌, ◌-◌, ◌*◌, ◌/◌, ◌%◌, ◌≤◌, ◌<◌}
 use native.Mathlib.Omega.{arith}
-use native.Mathlib.Numerals.{add-one}
 use mathlib.Core.Path.{◌≡◌, refl, sym, ap, ◌∙◌}
 use mathlib.Core.Bool.{Bool, true, false, not, ◌&&◌}
-use mathlib.Core.List.{List}
-use lib.ListN.{length, drop, get_or, drop_of_length-le}
-use lib.Seq.{drop-cons}
+use mathlib.Core.List.{List, [], ◌∷◌}
+use lib.ListN.{length, get_or}
 use lib.Dec.{ltb, leb, eqb}
 use lib.Ieee.{Float, nan}
 use borrow.Author.Tests.{ltb-false, leb-true, leb-false, eqb-true, eq-eqb, ne_eqb, lt-ltb, le-ltb, le-leb, not-false}
-use Rattle.float.proofs.Truth.{and_left, and_right}
+use Rattle.std.specs.Bool.{MatchBool}
+use Rattle.std.specs.List.{AllWithin, HoldsAt}
+use Rattle.float.specs.Refusal.{number}
+use Rattle.float.specs.declared.refusal.Refusal.{Refusal}
+use Rattle.float.specs.declared.refusal.Refusal.TheVariants.{TooFew, TooMany, Odd, NoRoom, OutOfRange, NotFinite, TooDeep, BadlyFormed, TooLarge, NoPath, NotJoined}
+use Rattle.float.proofs.Truth.{both, and_left, and_right}
 use Rattle.plane.specs.Range.{coordinate}
 use Rattle.marks.specs.Marks.{count}
 use Rattle.form.specs.Form.{width, worsts_for}
@@ -20,21 +23,27 @@ use Rattle.ring.specs.Ring.{again, Even}
 use Rattle.ring.specs.declared.Outline.{Outline}
 use Rattle.gate.specs.Gate.{in_range, tolerable, refuse, room_for, gate_for}
 
-module _ (ms : List Float) (i : ℕ) (inv : in_range (drop i ms) ≡ in_range ms) where
-  next : i < length ms → in_range (drop i ms) ≡ coordinate (get_or ms i nan) && in_range (drop (i + 1) ms)
-  unfolding in_range
-  next h = rw (add-one, drop-cons ms i nan)
+-- ---- every number of a slice, looked at in turn
 
-  module _ (b : Bool) (h : i < length ms) (e : b ≡ coordinate (get_or ms i nan)) where
-    pub range-more : b ≡ true → in_range (drop (i + 1) ms) ≡ in_range ms
-    range-more t = sym (next h ∙ rw (← e, t)) ∙ inv
+all_near : (ms : List Float) → ((k : ℕ) → k < length ms → coordinate (get_or ms k nan) ≡ true) → in_range ms ≡ true
+unfolding in_range
+all_near [] h = refl
+all_near (x ∷ ms) h = both _ _ (h 0 (omega arith)) (all_near ms (λ k l. h (suc k) (omega arith)))
 
-    pub range_stop : b ≡ false → false ≡ in_range ms
-    range_stop t = sym (next h ∙ rw (← e, t)) ∙ inv
+one_far : (ms : List Float) (k : ℕ) → k < length ms → coordinate (get_or ms k nan) ≡ false → in_range ms ≡ false
+unfolding in_range
+one_far [] k l h = absurd (omega arith)
+one_far (x ∷ ms) zero l h = rw h
+one_far (x ∷ ms) (suc k) l h = rw (one_far ms k (omega arith) h) (and_false (coordinate x))
+  where
+    and_false : (b : Bool) → b && false ≡ false
+    and_false true = refl
+    and_false false = refl
 
-  pub range_end : length ms ≤ i → true ≡ in_range ms
-  unfolding in_range
-  range_end h = rw (drop_of_length-le ms {i = i} h) at inv
+pub looked_through : (ms : List Float) (b : Bool) → MatchBool b (AllWithin (λ x. coordinate x ≡ true) ms 0 (length ms)) ((k : ℕ) × (k < length ms) × HoldsAt (λ x. coordinate x ≡ false) ms k)
+    → b ≡ in_range ms
+looked_through ms true h = sym (all_near ms (λ k l. h k nan (omega arith) l))
+looked_through ms false (k, l, h) = sym (one_far ms k l (h nan))
 
 past : (b : Bool) (q n : ℕ) → refuse b (suc q) n ≡ 0 → (b ≡ false) × (n ≡ 0)
 past true q n h = absurd (omega arith)
@@ -101,6 +110,20 @@ module _ (top : ℕ) (o : Outline) (form : Form) (k : ℕ) (ms : List Float) (to
               pub lets_pass : u ≡ true → 0 ≡ gate_for top o form k ms tol c f w p
               unfolding gate_for
               lets_pass h = rw (eq-eqb (length ms % 2) 0 even, le-ltb (count ms) (again o + 2) two, le-ltb top (count ms) most, ← e, t, le-ltb p (again o + count ms) params, ← near, is, ← usable, h)
+
+-- 0 is no refusal's number
+pub never_zero : (q : Refusal) → number q ≡ 0 → ⊥
+never_zero TooFew h = omega arith
+never_zero TooMany h = omega arith
+never_zero Odd h = omega arith
+never_zero NoRoom h = omega arith
+never_zero OutOfRange h = omega arith
+never_zero NotFinite h = omega arith
+never_zero TooDeep h = omega arith
+never_zero BadlyFormed h = omega arith
+never_zero TooLarge h = omega arith
+never_zero NoPath h = omega arith
+never_zero NotJoined h = omega arith
 
 -- by the number of curves that room is asked for
 pub wants : (top : ℕ) (o : Outline) (form : Form) (ms : List Float) (tol : Float) (c f w p : ℕ) {k k' : ℕ} → k ≡ k' → {r : ℕ} → r ≡ gate_for top o form k ms tol c f w p → r ≡ gate_for top o form k' ms tol c f w p

@@ -3,9 +3,10 @@
 
 ghost use Rattle.std.specs.Prelude.{◌≡◌, ◌-◌, length, replicate};
 ghost use Rattle.float.specs.Number.{f0};
+ghost use Rattle.float.specs.Refusal.{refusal};
 ghost use Rattle.gate.specs.Gate.{in_range, tolerable, room_for, gate_for, gate_of};
 
-use float::refusal::{NO_ROOM, ODD, OUT_OF_RANGE, TOO_FEW, TOO_MANY};
+use float::refusal::Refusal;
 use form::Form;
 use ring::Outline;
 
@@ -13,15 +14,7 @@ use ring::Outline;
 pub fn all_in_range(marks: &[f64]) -> bool
     ensures { result ≡ in_range marks.now }
 {
-    let mut i = 0;
-    while i < marks.len() {
-        if plane::is_coordinate(marks[i]) {
-            i += 1;
-        } else {
-            return false;
-        }
-    }
-    true
+    marks.iter().all(|x| plane::is_coordinate(*x))
 }
 
 // Whether x may be a tolerance: finite and not below zero.
@@ -41,7 +34,7 @@ fn has_room(form: Form, wanted: usize, curves: usize, firsts: usize, worsts: usi
 }
 
 // The refusal before a run over the marks of an outline, at most `top` of them, with so many numbers of curves, first marks, worst marks and parameters,
-// where room for `wanted` curves is asked; 0 if there is none.
+// where room for `wanted` curves is asked.
 pub fn gate_for(
     outline: Outline,
     form: Form,
@@ -53,44 +46,34 @@ pub fn gate_for(
     firsts: usize,
     worsts: usize,
     params: usize,
-) -> u32
-    ensures { result ≡ gate_for «top» outline form «wanted» marks.now tolerance «curves» «firsts» «worsts» «params» }
+) -> Result<(), Refusal>
+    ensures { refusal result ≡ gate_for «top» outline form «wanted» marks.now tolerance «curves» «firsts» «worsts» «params» }
 {
     let len = marks.len();
     if len % 2 != 0 {
-        return ODD;
+        return Err(Refusal::Odd);
     }
     let n = len / 2;
     let more = ring::again(outline);
     if n < more + 2 {
-        return TOO_FEW;
+        return Err(Refusal::TooFew);
     }
     if n > top {
-        return TOO_MANY;
+        return Err(Refusal::TooMany);
     }
     if !has_room(form, wanted, curves, firsts, worsts) {
-        return NO_ROOM;
+        return Err(Refusal::NoRoom);
     }
     if params < more + n {
-        return NO_ROOM;
+        return Err(Refusal::NoRoom);
     }
     if !all_in_range(marks) {
-        return OUT_OF_RANGE;
+        return Err(Refusal::OutOfRange);
     }
     if !is_tolerable(tolerance) {
-        return OUT_OF_RANGE;
+        return Err(Refusal::OutOfRange);
     }
-    0
-}
-
-// One fewer than n, for none none.
-fn one_fewer(n: usize) -> usize
-    ensures { result ≡ n - 1 }
-{
-    if n == 0 {
-        return n;
-    }
-    n - 1
+    Ok(())
 }
 
 // The same with room for the records of as many curves as these marks can have: the refusal before a fit.
@@ -103,8 +86,8 @@ pub fn gate(
     firsts: usize,
     worsts: usize,
     params: usize,
-) -> u32
-    ensures { result ≡ gate_of «top» outline marks.now tolerance «curves» «firsts» «worsts» «params» }
+) -> Result<(), Refusal>
+    ensures { refusal result ≡ gate_of «top» outline marks.now tolerance «curves» «firsts» «worsts» «params» }
 {
     let n = ring::again(outline) + marks.len() / 2;
     gate_for(
@@ -113,7 +96,7 @@ pub fn gate(
         marks,
         tolerance,
         top,
-        one_fewer(n),
+        n.saturating_sub(1),
         curves,
         firsts,
         worsts,
@@ -125,20 +108,12 @@ pub fn gate(
 pub fn zero_floats(s: &mut [f64])
     ensures { s.new ≡ replicate (length s.old) f0 }
 {
-    let mut k = 0;
-    while k < s.len() {
-        s[k] = 0.0;
-        k += 1;
-    }
+    s.fill(0.0);
 }
 
 // Every number zero.
 pub fn zero_numbers(s: &mut [u32])
     ensures { s.new ≡ replicate (length s.old) 0 }
 {
-    let mut j = 0;
-    while j < s.len() {
-        s[j] = 0;
-        j += 1;
-    }
+    s.fill(0);
 }

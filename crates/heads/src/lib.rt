@@ -12,15 +12,12 @@ use form::Form;
 use house::bytes::{four, two};
 use house::sizes;
 
-// How a file stores its curves, and how many marks and curves it has; or that the bytes are no file.
+// How a file stores its curves, and how many marks and curves it has.
 #[derive(Clone, Copy)]
-pub enum Layout {
-    Counts {
-        form: Form,
-        marks: usize,
-        curves: usize,
-    },
-    Broken,
+pub struct Layout {
+    pub form: Form,
+    pub marks: usize,
+    pub curves: usize,
 }
 
 // Whether the record at `at` has this length and this kind.
@@ -53,14 +50,11 @@ fn records_lead(b: &[u8], at: usize, body: usize, kind: u64, k: usize) -> bool
 {
     let step = sizes::HEAD_BYTES + body;
     let size = (sizes::KIND_FIELD + body) as u64;
-    let mut i = 0;
-    while i < k {
+    for i in 0..k {
         let head = at + step * i;
-        if has_head(b, head, size, kind) {
-            i += 1;
-            continue;
+        if !has_head(b, head, size, kind) {
+            return false;
         }
-        return false;
     }
     true
 }
@@ -91,38 +85,38 @@ fn ends_with(b: &[u8], form: Form, n: usize, k: usize) -> bool
 }
 
 // How the bytes are laid out, if they are a file.
-pub fn find_layout(b: &[u8]) -> Layout
+pub fn find_layout(b: &[u8]) -> Option<Layout>
     ensures { result ≡ layout_of b.now }
 {
     let len = b.len();
     if len < sizes::MARKS_AT {
-        return Layout::Broken;
+        return None;
     }
     let n = four(b, sizes::MARKS_HEAD) as usize / sizes::MARK_BYTES;
     if starts_with(b, n) {
         let end = sizes::MARKS_AT + sizes::MARK_BYTES * n;
         if len == end {
-            return Layout::Counts {
+            return Some(Layout {
                 form: Form::Eight,
                 marks: n,
                 curves: 0,
-            };
+            });
         }
         let least = end + sizes::HEAD_BYTES + sizes::NUMBER_FIELD * n;
         if len < least {
-            return Layout::Broken;
+            return None;
         }
         let field = sizes::field_for(n);
         let form = sizes::form_of(field, two(b, end + sizes::LENGTH_FIELD));
         let k = (len - least) / (sizes::HEAD_BYTES + sizes::body_bytes(form, field));
         if ends_with(b, form, n, k) {
-            return Layout::Counts {
+            return Some(Layout {
                 form,
                 marks: n,
                 curves: k,
-            };
+            });
         }
-        return Layout::Broken;
+        return None;
     }
-    Layout::Broken
+    None
 }

@@ -61,10 +61,8 @@ pub fn copy_words(b: &[u8], at: usize, n: usize, out: &mut [u64])
     requires { (at + number_field * n ≤ length b.now) × (n ≤ length out.old) }
     ensures { out.new ≡ written (words n (drop at b.now)) out.old }
 {
-    let mut i = 0;
-    while i < n {
+    for i in 0..n {
         out[i] = eight(b, at + sizes::NUMBER_FIELD * i);
-        i += 1;
     }
 }
 
@@ -120,9 +118,7 @@ pub fn put_words(out: &mut [u8], at: usize, xs: &[u64], n: usize)
     requires { (at + number_field * n ≤ length out.old) × (n ≤ length xs.now) }
     ensures { out.new ≡ sets out.old at (les (take n xs.now)) }
 {
-    let mut i = 0;
-    while i < n {
+    for i in 0..n {
         put_eight(out, at + sizes::NUMBER_FIELD * i, xs[i]);
-        i += 1;
     }
 }

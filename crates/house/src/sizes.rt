@@ -1,6 +1,5 @@
 // Where things stand in a house file, and how much room they take.
 ghost use Rattle.std.specs.Prelude.{◌≡◌, ◌+◌, ◌*◌, ◌^◌, ◌<◌};
-ghost use Rattle.form.specs.declared.Form.TheVariants.{Eight, Nine};
 ghost use Rattle.house.specs.Limits.{field_for, mark_field, number_field, curve_kind, beside_bytes, body_bytes};
 ghost use Rattle.house.specs.Bytes.{fits};
 ghost use Rattle.house.specs.Layout.{size_for};
@@ -85,33 +84,15 @@ pub fn mark_fits(field: Field, x: u64) -> bool
     }
 }
 
-// The kind of a curve of eight numbers.
-fn eight_kind(field: Field) -> u64
-    ensures { result ≡ curve_kind Eight field }
-{
-    match field {
-        Field::Two => 3,
-        Field::Four => 5,
-    }
-}
-
-// The kind of a curve of nine numbers.
-fn nine_kind(field: Field) -> u64
-    ensures { result ≡ curve_kind Nine field }
-{
-    match field {
-        Field::Two => 6,
-        Field::Four => 7,
-    }
-}
-
 // The kind of a curve.
 pub fn curve_kind(form: Form, field: Field) -> u64
     ensures { result ≡ curve_kind form field }
 {
-    match form {
-        Form::Eight => eight_kind(field),
-        Form::Nine => nine_kind(field),
+    match (form, field) {
+        (Form::Eight, Field::Two) => 3,
+        (Form::Eight, Field::Four) => 5,
+        (Form::Nine, Field::Two) => 6,
+        (Form::Nine, Field::Four) => 7,
     }
 }
 
@@ -119,7 +100,7 @@ pub fn curve_kind(form: Form, field: Field) -> u64
 pub fn form_of(field: Field, kind: u64) -> Form
     ensures { result ≡ form_of field kind }
 {
-    if kind == nine_kind(field) {
+    if kind == curve_kind(Form::Nine, field) {
         return Form::Nine;
     }
     Form::Eight

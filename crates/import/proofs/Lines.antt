@@ -1,11 +1,16 @@
 -- The line of two points of a path is a run that is fine: no number is above 2 ^ 30 in size. Assumes nothing.
 use Prim.Native.Nat.{ℕ}
-use mathlib.Core.Path.{◌≡◌, refl, ap}
+use mathlib.Core.Path.{◌≡◌, refl, sym, ◌∙◌}
 use mathlib.Core.Bool.{true, ◌&&◌}
 use native.Mathlib.Omega.{arith}
 use lib.Dec.{lit≤}
 use lib.Ieee.{Float, binary64, of_bits}
+use Rattle.std.proofs.Common.{Result}
+use Rattle.std.specs.Result.{result_unwrap_or}
 use Rattle.float.specs.Answer.{ok, outcome}
+use Rattle.float.specs.Refusal.{answer}
+use Rattle.float.specs.declared.refusal.Refusal.{Refusal}
+use Rattle.float.proofs.Refusals.{accepted}
 use Rattle.float.proofs.Truth.{both}
 use Rattle.plane.specs.declared.Point.{Point}
 use Rattle.plane.specs.declared.Curve.{Curve}
@@ -13,9 +18,6 @@ use Rattle.plane.specs.Plane.{plus, minus, times}
 use Rattle.plane.specs.Range.{point_finite}
 use Rattle.plane.proofs.Fine.{good_point}
 use Rattle.marks.specs.Line.{f033, f066, line_of}
-use Rattle.marks.specs.Answers.{made_answer}
-use Rattle.marks.specs.declared.Made.{Made}
-use Rattle.marks.specs.declared.Made.TheVariants as made
 use Rattle.marks.proofs.Fine.{line_made}
 use Rattle.numbers.proofs.Bounds.{W, w_fin, w_up, round_w, mul_w, add_w, sub_w}
 use Rattle.path.specs.Decimals.{nearest_to}
@@ -67,15 +69,6 @@ module _ (p q : Point) (h : Marked p) (k : Marked q) where
   line_ok : ok (line_of p q).val ≡ outcome (line_of p q)
   line_ok = line_made p q (line_of p q).val refl (controls p q (marked_w p h) (marked_w q k))
 
-  -- what the fit of the line answers
-  pub line_is : (r : Made) {c : Curve} → made_answer r ≡ outcome (line_of p q) → r ≡ made.Of c → c ≡ (line_of p q).val
-  unfolding made_answer
-  line_is r e g = let o = line_ok in let f = ap made_answer g in cc
-
-  pub line_not_lost : {A : Type 0} (r : Made) → made_answer r ≡ outcome (line_of p q) → r ≡ made.Lost → A
-  unfolding made_answer
-  line_not_lost r e g =
-      let o = line_ok in
-      let f = ap made_answer g in
-      let n : ◌≡◌ {A = ℕ} 0 1 = cc in
-      absurd (omega arith)
+  -- the fit of the line answers with it
+  pub line_is : (r : Result Curve Refusal) (d : Curve) → answer r ≡ outcome (line_of p q) → result_unwrap_or r d ≡ (line_of p q).val
+  line_is r d e = rw (accepted r _ (e ∙ sym line_ok)) refl

@@ -7,7 +7,10 @@ use native.Mathlib.Omega.{arith}
 use borrow.Author.Tests.{le-leb, lt-leb, leb-true, eq-eqb, ne_eqb}
 use lib.Ieee.{Float}
 use lib.ListN.{length, drop, get_or, length-drop}
+use Rattle.std.proofs.Common.{Option, Some, None, ok_or}
 use Rattle.float.specs.Answer.{Answer, ok, refused, ◌>>=◌}
+use Rattle.float.specs.Refusal.{answer}
+use Rattle.float.specs.declared.refusal.Refusal.TheVariants.{NoPath}
 use Rattle.float.proofs.Truth.{and_left, and_right}
 use Rattle.plane.specs.declared.Point.{Point}
 use Rattle.path.specs.Decimals.{most, small}
@@ -22,9 +25,8 @@ use Rattle.path.specs.declared.Letter.TheVariants as letters
 use Rattle.numerals.specs.Numerals.{cap, capped}
 use Rattle.numerals.proofs.Leading.{front_at, behind_at, past_at}
 use Rattle.import.specs.declared.Walked.{Walked}
-use Rattle.import.specs.declared.Walked.TheVariants as walked
 use Rattle.import.specs.Drawn.{capped_place, capped_segment, Standing, standing}
-use Rattle.import.specs.Walk.{filled, capped_segments, draws_of, Done, left, left_answer, walked_answer, wholly, wholly_answer, seen, seen_answer, seen_of}
+use Rattle.import.specs.Walk.{filled, capped_segments, draws_of, Done, left, left_answer, walked_answer, wholly, wholly_answer, seen, seen_of}
 use Rattle.import.proofs.Pieces.{From}
 use Rattle.import.proofs.Rooms.{filled-written}
 use Rattle.import.proofs.Shorter.{pair_shorter}
@@ -68,14 +70,14 @@ module _ (T : List ℕ) (C : List Float) {k : ℕ} (is : k ≡ 0 + leading is_sp
 
 -- ---- without a place to put a curve
 
-pub surveyed : (r : Walked) (C D : List Float) (a : Answer Path) → walked_answer r D ≡ wholly_answer C a → seen_answer r ≡ seen_of a
+pub surveyed : (r : Option Walked) (C D : List Float) (a : Answer Path) → walked_answer r D ≡ wholly_answer C a → answer (ok_or r NoPath) ≡ seen_of a
 unfolding wholly left
-surveyed (walked.Path k z s) C D (ok p) h =
-    let e : ◌≡◌ {A = Done} (record { count = k; closed = z; small = s; out = D }) (wholly C p) = cc in
+surveyed (Some w) C D (ok p) h =
+    let e : ◌≡◌ {A = Done} (record { count = w.count; closed = w.closed; small = w.small; out = D }) (wholly C p) = cc in
     ap ok (ap seen e)
-surveyed (walked.Path k z s) C D (refused q) h = let n : ◌≡◌ {A = ℕ} 0 1 = cc in absurd (omega arith)
-surveyed walked.Nothing C D (ok p) h = let n : ◌≡◌ {A = ℕ} 0 1 = cc in absurd (omega arith)
-surveyed walked.Nothing C D (refused q) h = cc
+surveyed (Some w) C D (refused q) h = let n : ◌≡◌ {A = ℕ} 0 1 = cc in absurd (omega arith)
+surveyed None C D (ok p) h = let n : ◌≡◌ {A = ℕ} 0 1 = cc in absurd (omega arith)
+surveyed None C D (refused q) h = cc
 
 -- ---- small numbers are not capped
 
@@ -108,7 +110,7 @@ same_segments (g ∷ gs) h = rw (same_segment g (and_left (segment_small g) (seg
 record Sees (a : Answer Path) (k : ℕ) (z s : Bool) : Type 0 where
   path : Path
   found : a ≡ ok path
-  is : record { count = k; closed = z; small = s } ≡ seen (wholly [] path)
+  is : ◌≡◌ {A = Walked} (record { count = k; closed = z; small = s }) (seen (wholly [] path))
 
 sees : (a : Answer Path) {k : ℕ} {z s : Bool} → ok (record { count = k; closed = z; small = s }) ≡ seen_of a → Sees a k z s
 sees (ok p) h = record { path = p; found = refl; is = cc }
@@ -123,20 +125,20 @@ module _ (p : Path) (h : path_small p ≡ true) where
   unfolding wholly left path_small curves_of
   whole_is C = rw (same_place p.start (and_left (place_small p.start) (segments_small p.segments) h), same_segments p.segments (and_right (place_small p.start) (segments_small p.segments) h)) refl
 
-left_out : (r : Walked) (D : List Float) (d : Done) → walked_answer r D ≡ ok d → D ≡ d.out
-left_out (walked.Path k z s) D d h =
-    let e : ◌≡◌ {A = Done} (record { count = k; closed = z; small = s; out = D }) d = cc in
+left_out : (r : Option Walked) (D : List Float) (d : Done) → walked_answer r D ≡ ok d → D ≡ d.out
+left_out (Some w) D d h =
+    let e : ◌≡◌ {A = Done} (record { count = w.count; closed = w.closed; small = w.small; out = D }) d = cc in
     ap (λ d. d.out) e
-left_out walked.Nothing D d h = let n : ◌≡◌ {A = ℕ} 0 1 = cc in absurd (omega arith)
+left_out None D d h = let n : ◌≡◌ {A = ℕ} 0 1 = cc in absurd (omega arith)
 
 module _ (T : List ℕ) (C : List Float) where
-  pub none_read : refused no_path ≡ seen_of (path_of T) → import.left (refused 11) C ≡ import_of T C
+  pub none_read : (q : ℕ) → refused q ≡ seen_of (path_of T) → import.left (refused q) C ≡ import_of T C
   unfolding import_of read_of
-  none_read h = go (path_of T) refl h
+  none_read q h = go (path_of T) refl h
     where
-      go : (a : Answer Path) → path_of T ≡ a → refused no_path ≡ seen_of a → import.left (refused 11) C ≡ import_of T C
+      go : (a : Answer Path) → path_of T ≡ a → refused q ≡ seen_of a → import.left (refused q) C ≡ import_of T C
       go (ok p) e h = let n : ◌≡◌ {A = ℕ} 0 1 = cc in absurd (omega arith)
-      go (refused q) e h = let i : q ≡ 11 = cc in rw (e, i) refl
+      go (refused r) e h = let i : q ≡ r = cc in rw (e, i) refl
 
   module _ {k : ℕ} {z s : Bool} (h : ok (record { count = k; closed = z; small = s }) ≡ seen_of (path_of T)) where
     pub too_large : s ≡ false → import.left (refused 10) C ≡ import_of T C
@@ -163,7 +165,7 @@ module _ (T : List ℕ) (C : List Float) where
       unfolding import_of read_of fitting
       no_room l = rw (sight.found, all_small, lt-leb (8 * length (curves_of sight.path)) (length C) (omega (arith, count_is))) refl
 
-      pub imported : {D : List Float} (r : Walked) → k ≤ length C / 8 → walked_answer r D ≡ wholly_answer C (path_of T) → import.left (ok (record { count = k; closed = z })) D ≡ import_of T C
+      pub imported : {D : List Float} (r : Option Walked) → k ≤ length C / 8 → walked_answer r D ≡ wholly_answer C (path_of T) → import.left (ok (record { count = k; closed = z })) D ≡ import_of T C
       unfolding import_of read_of fitting
       imported {D} r l w =
           let room : 8 * length (curves_of sight.path) ≤ length C = omega (arith, count_is) in

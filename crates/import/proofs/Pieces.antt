@@ -6,7 +6,6 @@ use mathlib.Core.List.{List}
 use native.Mathlib.Omega.{arith}
 use borrow.Author.Tests.{le-leb, lt-leb, leb-true, leb-false}
 use lib.Dec.{leb}
-use lib.ListN.{drop}
 use lib.Ieee.{Float}
 use Rattle.float.specs.Answer.{Answer, ok, refused}
 use Rattle.plane.specs.declared.Point.{Point}
@@ -19,12 +18,8 @@ use Rattle.path.specs.Grammar.{Place, apart, pair, arguments}
 use Rattle.path.specs.Curves.{place_small, segment_small, point_at, curve_from}
 use Rattle.path.specs.declared.Decimal.{Decimal}
 use Rattle.path.specs.declared.Letter.TheVariants as letters
-use Rattle.numerals.specs.Numerals.{cap, capped, mapped, read, numeral_answer}
-use Rattle.numerals.specs.declared.Numeral.{Numeral}
-use Rattle.numerals.specs.declared.Numeral.TheVariants as numeral
-use Rattle.import.specs.Drawn.{capped_place, capped_segment, Marked, Standing, standing, bent, pair_answer}
-use Rattle.import.specs.declared.Pair.{Pair}
-use Rattle.import.specs.declared.Pair.TheVariants as pairs
+use Rattle.numerals.specs.Numerals.{cap, capped, mapped}
+use Rattle.import.specs.Drawn.{capped_place, capped_segment, Marked, Standing, standing, bent}
 
 -- ---- answers that hold what was made of a value
 
@@ -53,13 +48,6 @@ small-capped d = go (leb d.thousandths most) refl
     go true e = let m : d.thousandths ≤ most = leb-true d.thousandths most e in le-leb (cap d.thousandths) most (omega arith) ∙ sym e
     go false e = let m : most < d.thousandths = leb-false d.thousandths most e in lt-leb (cap d.thousandths) most (omega arith) ∙ sym e
 
-module _ (T : List ℕ) (at : ℕ) (r : Numeral) (says : numeral_answer T r ≡ read (number (drop at T))) where
-  pub number_from_is : {d : Decimal} {k : ℕ} → r ≡ numeral.Number d k → From capped (number (drop at T)) d (drop k T)
-  number_from_is e = from capped (number (drop at T)) (sym (ap (numeral_answer T) e) ∙ says)
-
-  pub number_none : r ≡ numeral.Nothing → number (drop at T) ≡ refused no_path
-  number_none e = none capped (number (drop at T)) (sym (ap (numeral_answer T) e) ∙ says)
-
 pub fits : {a : Answer (Taken Decimal)} {d : Decimal} {t : List ℕ} → From capped a d t → d.thousandths ≤ 2 ^ 53
 unfolding capped
 fits f = let e = ap (λ d. d.thousandths) f.is in omega arith
@@ -84,13 +72,6 @@ module _ (s : List ℕ) where
         let k = hx ∙ ap nearest_to f.is in
         let l = hy ∙ ap nearest_to g.is in
         rw (f.found, ← b, g.found, i, j, k, l) refl
-
-module _ (T : List ℕ) (at : ℕ) (r : Pair) (says : pair_answer T r ≡ mapped standing (pair (drop at T))) where
-  pub pair_from : {p : Point} {b : Bool} {k : ℕ} → r ≡ pairs.At p b k → From standing (pair (drop at T)) (record { point = p; small = b }) (drop k T)
-  pair_from e = from standing (pair (drop at T)) (sym (ap (pair_answer T) e) ∙ says)
-
-  pub pair_none : r ≡ pairs.Nothing → pair (drop at T) ≡ refused no_path
-  pair_none e = none standing (pair (drop at T)) (sym (ap (pair_answer T) e) ∙ says)
 
 pub marked : {a : Answer (Taken Place)} {s : Standing} {t : List ℕ} → From standing a s t → Marked s.point
 unfolding standing

@@ -9,33 +9,30 @@ use lib.Dec.{eqb}
 use lib.ListN.{length, drop, get_or, length-drop}
 use Rattle.float.specs.Answer.{Answer, ok, refused, unless}
 use Rattle.plane.specs.declared.Point.{Point}
-use Rattle.plane.specs.declared.Curve.{Curve}
 use Rattle.path.specs.Range.{no_path}
-use Rattle.path.specs.Numbers.{front, is_space, leading, past}
+use Rattle.path.specs.Numbers.{taken, front, is_space, leading, past}
 use Rattle.path.specs.Grammar as grammar
 use Rattle.path.specs.Grammar.{apart, arguments, drawn_by, step}
 use Rattle.path.specs.declared.Letter.{Letter}
 use Rattle.path.specs.declared.Letter.TheVariants as letters
 use Rattle.numerals.specs.Numerals.{mapped}
 use Rattle.numerals.proofs.Leading.{front_at, behind_at, past_at}
-use Rattle.import.specs.Drawn.{bent, Next, drawn, closed, ended, next_answer, closed_by, drawn_answer}
-use Rattle.import.specs.declared.Drawn.{Drawn}
-use Rattle.import.specs.declared.Drawn.TheVariants as reached
-use Rattle.import.proofs.Pieces.{From, from, none}
+use Rattle.import.specs.Drawn.{Bent, bent, Next, drawn, closed, ended, next_answer, closed_by}
+use Rattle.import.proofs.Pieces.{from, none}
 
 -- ---- a letter's numbers
 
-module _ (T : List ℕ) (at : ℕ) (l : Letter) (p : Point) (r : Drawn) (says : drawn_answer T r ≡ mapped (bent p) (arguments l (drop at T))) where
-  pub drawn_none : r ≡ reached.Nothing → refused no_path ≡ next_answer p (drawn_by l (drop at T))
+module _ (l : Letter) (p : Point) (s : List ℕ) where
+  pub drawn_none : refused no_path ≡ mapped (bent p) (arguments l s) → refused no_path ≡ next_answer p (drawn_by l s)
   unfolding drawn_by
-  drawn_none e = rw (none (bent p) (arguments l (drop at T)) (sym (ap (drawn_answer T) e) ∙ says)) refl
+  drawn_none h = rw (none (bent p) (arguments l s) h) refl
 
-  pub drawn_some : {c : Curve} {b : Bool} {k : ℕ} → r ≡ reached.Curve c b k → ok (drawn l (record { curve = c; small = b }) (drop k T)) ≡ next_answer p (drawn_by l (drop at T))
+  pub drawn_some : {b : Bent} {t : List ℕ} → ok (taken b t) ≡ mapped (bent p) (arguments l s) → ok (drawn l b t) ≡ next_answer p (drawn_by l s)
   unfolding drawn_by
-  drawn_some {c} {b} {k} e = go (from (bent p) (arguments l (drop at T)) (sym (ap (drawn_answer T) e) ∙ says))
+  drawn_some h = let f = from (bent p) (arguments l s) h in drew f.found f.is
     where
-      go : From (bent p) (arguments l (drop at T)) (record { curve = c; small = b }) (drop k T) → ok (drawn l (record { curve = c; small = b }) (drop k T)) ≡ next_answer p (drawn_by l (drop at T))
-      go f = rw (f.found, f.is) refl
+      drew : {g : grammar.Segment} {b : Bent} {t : List ℕ} → arguments l s ≡ ok (taken g t) → b ≡ bent p g → ok (drawn l b t) ≡ next_answer p (drawn_by l s)
+      drew e h = rw (e, h) refl
 
 -- ---- the ways of a step
 

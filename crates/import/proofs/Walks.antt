@@ -6,6 +6,7 @@ use mathlib.Core.List.{List, [], ◌∷◌}
 use native.Mathlib.Omega.{arith}
 use lib.Ieee.{Float}
 use lib.ListN.{length, drop}
+use Rattle.std.proofs.Common.{Some}
 use Rattle.float.specs.Answer.{Answer, ok, refused, ◌>>=◌}
 use Rattle.plane.specs.Plane.{equal}
 use Rattle.plane.specs.declared.Point.{Point}
@@ -18,6 +19,7 @@ use Rattle.marks.specs.Line.{line_of}
 use Rattle.path.specs.Curves.{segment_small, segments_small, closing, curve_from, curves_from}
 use Rattle.import.specs.Drawn.{capped_segment, Bent, bent, drawn, closed, ended, next_answer, step_answer, Marked}
 use Rattle.import.specs.Walk.{placed, filled, capped_segments, draws_of, Done, left, left_answer, Closes}
+use Rattle.import.specs.declared.Drawn.{Drawn}
 use Rattle.import.specs.declared.Step.{Step}
 use Rattle.import.specs.declared.Step.TheVariants as steps
 use Rattle.import.proofs.Shorter.{ShorterStep, step_shorter}
@@ -109,30 +111,30 @@ unfolding bent capped_segment curve_from line_of
 end_marked p (line q) = record { place = q; is = refl }
 end_marked p (curve a b c) = record { place = c; is = refl }
 
-module _ (T : List ℕ) (at : ℕ) (l : Letter) (p : Point) (r : Step) (says : step_answer T r ≡ next_answer p (step l (drop at T))) where
-  module _ {by : Letter} {c : Curve} {b : Bool} {j : ℕ} (e : r ≡ steps.Drawn by c b j) where
-    found : Drew p (step l (drop at T)) by (record { curve = c; small = b }) (drop j T)
-    found = drew p (step l (drop at T)) (sym (ap (step_answer T) e) ∙ says)
+module _ (T : List ℕ) (at : ℕ) (l : Letter) (p : Point) (r : Step) (says : step_answer T (Some r) ≡ next_answer p (step l (drop at T))) where
+  module _ {by : Letter} {d : Drawn} (e : r ≡ steps.Drawn by d) where
+    found : Drew p (step l (drop at T)) by (record { curve = d.curve; small = d.small }) (drop d.rest T)
+    found = drew p (step l (drop at T)) (sym (ap (λ r. step_answer T (Some r)) e) ∙ says)
 
-    pub turn_marked : Marked c.end
+    pub turn_marked : Marked d.curve.end
     turn_marked = rw (ap (λ b. b.curve.end) found.is) (end_marked p found.segment)
 
-    pub turn_shorter : length (drop j T) < length (drop at T)
+    pub turn_shorter : length (drop d.rest T) < length (drop at T)
     turn_shorter = rw found.found at (step_shorter l (drop at T))
 
-    pub turn : {total : Answer Done} (m : Point) (k : ℕ) (s : Bool) (C : List Float) {D : List Float} → total ≡ left_answer m p k s C (draws_of l (drop at T)) → D ≡ placed C k c → total ≡ left_answer m c.end (k + 1) (s && b) D (draws_of by (drop j T))
-    turn m k s C h f = h ∙ ap (left_answer m p k s C) (draws-step l (drop at T) ∙ ap (λ a. ◌>>=◌ a (then draws_of)) found.found) ∙ turned m p k s C found.segment (draws_of by (drop j T)) ∙ rw (← found.is, f) refl
+    pub turn : {total : Answer Done} (m : Point) (k : ℕ) (s : Bool) (C : List Float) {D : List Float} → total ≡ left_answer m p k s C (draws_of l (drop at T)) → D ≡ placed C k d.curve → total ≡ left_answer m d.curve.end (k + 1) (s && d.small) D (draws_of by (drop d.rest T))
+    turn m k s C h f = h ∙ ap (left_answer m p k s C) (draws-step l (drop at T) ∙ ap (λ a. ◌>>=◌ a (then draws_of)) found.found) ∙ turned m p k s C found.segment (draws_of by (drop d.rest T)) ∙ rw (← found.is, f) refl
 
   module _ {total : Answer Done} (m : Point) (k : ℕ) (s : Bool) (C : List Float) (h : total ≡ left_answer m p k s C (draws_of l (drop at T))) where
     pub turn-closed : {n : ℕ} {D : List Float} → r ≡ steps.Closed → Closes m p k C n D → ok (record { count = n; closed = true; small = s; out = D }) ≡ total
     turn-closed e z =
         rw (z.count, z.out)
-        (sym (h ∙ ap (left_answer m p k s C) (draws-step l (drop at T) ∙ ap (λ a. ◌>>=◌ a (then draws_of)) (was_closed p (step l (drop at T)) (sym (ap (step_answer T) e) ∙ says))) ∙ ap ok (left_closed m p k s C)))
+        (sym (h ∙ ap (left_answer m p k s C) (draws-step l (drop at T) ∙ ap (λ a. ◌>>=◌ a (then draws_of)) (was_closed p (step l (drop at T)) (sym (ap (λ r. step_answer T (Some r)) e) ∙ says))) ∙ ap ok (left_closed m p k s C)))
 
     pub turn-ended : r ≡ steps.Ended → ok (record { count = k; closed = false; small = s; out = C }) ≡ total
     turn-ended e =
-        sym (h ∙ ap (left_answer m p k s C) (draws-step l (drop at T) ∙ ap (λ a. ◌>>=◌ a (then draws_of)) (was_ended p (step l (drop at T)) (sym (ap (step_answer T) e) ∙ says))) ∙ ap ok (left_open m p k s C))
+        sym (h ∙ ap (left_answer m p k s C) (draws-step l (drop at T) ∙ ap (λ a. ◌>>=◌ a (then draws_of)) (was_ended p (step l (drop at T)) (sym (ap (λ r. step_answer T (Some r)) e) ∙ says))) ∙ ap ok (left_open m p k s C))
 
-    pub turn-refused : r ≡ steps.Nothing → refused no_path ≡ total
-    turn-refused e =
-        sym (h ∙ ap (left_answer m p k s C) (draws-step l (drop at T) ∙ ap (λ a. ◌>>=◌ a (then draws_of)) (was_refused p (step l (drop at T)) (sym (ap (step_answer T) e) ∙ says))))
+pub turn-refused : (T : List ℕ) (at : ℕ) (l : Letter) (p : Point) → refused no_path ≡ next_answer p (step l (drop at T)) → {total : Answer Done} (m : Point) (k : ℕ) (s : Bool) (C : List Float) → total ≡ left_answer m p k s C (draws_of l (drop at T)) → refused no_path ≡ total
+turn-refused T at l p says m k s C h =
+    sym (h ∙ ap (left_answer m p k s C) (draws-step l (drop at T) ∙ ap (λ a. ◌>>=◌ a (then draws_of)) (was_refused p (step l (drop at T)) says)))

@@ -1,5 +1,5 @@
 -- What the code reads of a path at a place of its text: numbers are capped, so that what is too large is known and nothing overflows. Definitions only.
-use Rattle.std.specs.Prelude.{ℕ, Bool, List, ◌≡◌, length, drop, eqb}
+use Rattle.std.specs.Prelude.{ℕ, Bool, List, ◌≡◌, length, drop, eqb, Option, Some, None}
 use Rattle.float.specs.Answer.{Answer, ok, refused, unless}
 use Rattle.plane.specs.declared.Point.{Point}
 use Rattle.plane.specs.declared.Curve.{Curve}
@@ -11,9 +11,7 @@ use Rattle.path.specs.Curves.{place_small, segment_small, point_at, curve_from}
 use Rattle.path.specs.declared.Letter.{Letter}
 use Rattle.numerals.specs.Numerals.{capped}
 use Rattle.import.specs.declared.Pair.{Pair}
-use Rattle.import.specs.declared.Pair.TheVariants as pair
 use Rattle.import.specs.declared.Drawn.{Drawn}
-use Rattle.import.specs.declared.Drawn.TheVariants as reached
 use Rattle.import.specs.declared.Step.{Step}
 use Rattle.import.specs.declared.Step.TheVariants as step
 
@@ -38,9 +36,9 @@ pub record Standing : Type 0 where
 unfoldable pub standing : Place → Standing
 standing p = record { point = point_at (capped_place p); small = place_small p }
 
-abbrev pub pair_answer : List ℕ → Pair → Answer (Taken Standing)
-pair_answer T (pair.At p s rest) = ok (taken (record { point = p; small = s }) (drop rest T))
-pair_answer T pair.Nothing = refused no_path
+abbrev pub pair_answer : List ℕ → Option Pair → Answer (Taken Standing)
+pair_answer T (Some p) = ok (taken (record { point = p.point; small = p.small }) (drop p.rest T))
+pair_answer T None = refused no_path
 
 -- ---- a letter's numbers
 
@@ -52,9 +50,9 @@ pub record Bent : Type 0 where
 unfoldable pub bent : Point → Segment → Bent
 bent p g = record { curve = curve_from p (capped_segment g); small = segment_small g }
 
-abbrev pub drawn_answer : List ℕ → Drawn → Answer (Taken Bent)
-drawn_answer T (reached.Curve c s rest) = ok (taken (record { curve = c; small = s }) (drop rest T))
-drawn_answer T reached.Nothing = refused no_path
+abbrev pub drawn_answer : List ℕ → Option Drawn → Answer (Taken Bent)
+drawn_answer T (Some d) = ok (taken (record { curve = d.curve; small = d.small }) (drop d.rest T))
+drawn_answer T None = refused no_path
 
 -- ---- a step
 
@@ -72,11 +70,11 @@ abbrev pub next_answer : Point → Answer grammar.Step → Answer Next
 next_answer p (ok s) = ok (next_of p s)
 next_answer p (refused q) = refused q
 
-abbrev pub step_answer : List ℕ → Step → Answer Next
-step_answer T (step.Drawn l c s rest) = ok (drawn l (record { curve = c; small = s }) (drop rest T))
-step_answer T step.Closed = ok closed
-step_answer T step.Ended = ok ended
-step_answer T step.Nothing = refused no_path
+abbrev pub step_answer : List ℕ → Option Step → Answer Next
+step_answer T (Some (step.Drawn l d)) = ok (drawn l (record { curve = d.curve; small = d.small }) (drop d.rest T))
+step_answer T (Some step.Closed) = ok closed
+step_answer T (Some step.Ended) = ok ended
+step_answer T None = refused no_path
 
 -- behind Z
 unfoldable pub closed_by : List ℕ → Answer Next

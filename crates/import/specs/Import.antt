@@ -8,23 +8,13 @@ use Rattle.path.specs.Grammar.{path_of}
 use Rattle.path.specs.Curves.{path_small, curves_of, eights}
 use Rattle.path.specs.Range.{no_room, too_large}
 use Rattle.import.specs.declared.Imported.{Imported}
-use Rattle.import.specs.declared.Imported.TheVariants as imported
-
--- how many curves there are, and whether Z closed them
-pub record Drawn : Type 0 where
-  pub count : ℕ
-  pub closed : Bool
-
-abbrev pub imported_answer : Imported → Answer Drawn
-imported_answer (imported.Path k z) = ok (record { count = k; closed = z })
-imported_answer (imported.Refused q) = refused q
 
 -- the answer, and the lent numbers as they are left
 pub record Left : Type 0 where
-  pub answer : Answer Drawn
+  pub answer : Answer Imported
   pub curves : List Float
 
-abbrev pub left : Answer Drawn → List Float → Left
+abbrev pub left : Answer Imported → List Float → Left
 left a C = record { answer = a; curves = C }
 
 pub record Read : Type 0 where

@@ -1,5 +1,5 @@
 -- The walk along a path's text, which counts its curves and puts those that there is room for. Definitions only.
-use Rattle.std.specs.Prelude.{ℕ, suc, ◌+◌, ◌*◌, ◌/◌, Bool, true, ◌&&◌, cond, ◌≡◌, List, [], ◌∷◌, ◌++◌, ltb, Float, length, take, drop}
+use Rattle.std.specs.Prelude.{ℕ, suc, ◌+◌, ◌*◌, ◌/◌, Bool, true, ◌&&◌, cond, ◌≡◌, List, [], ◌∷◌, ◌++◌, ltb, Float, length, take, drop, Option, Some, None}
 use Rattle.float.specs.Answer.{Answer, ok, refused}
 use Rattle.float.specs.Slices.{written}
 use Rattle.plane.specs.declared.Point.{Point}
@@ -10,7 +10,6 @@ use Rattle.path.specs.Grammar.{Segment, Drawing, drawing, draws, Path}
 use Rattle.path.specs.Curves.{place_small, segments_small, point_at, closing, curves_from, eights}
 use Rattle.path.specs.declared.Letter.{Letter}
 use Rattle.import.specs.declared.Walked.{Walked}
-use Rattle.import.specs.declared.Walked.TheVariants as walked
 use Rattle.import.specs.Drawn.{capped_place, capped_segment}
 
 -- curve k's eight numbers at their place, if there is room for them
@@ -55,9 +54,9 @@ abbrev pub left_answer : Point → Point → ℕ → Bool → List Float → Ans
 left_answer m p k s C (ok d) = ok (left m p k s C d)
 left_answer m p k s C (refused q) = refused q
 
-abbrev pub walked_answer : Walked → List Float → Answer Done
-walked_answer (walked.Path k z s) C = ok (record { count = k; closed = z; small = s; out = C })
-walked_answer walked.Nothing C = refused no_path
+abbrev pub walked_answer : Option Walked → List Float → Answer Done
+walked_answer (Some w) C = ok (record { count = w.count; closed = w.closed; small = w.small; out = C })
+walked_answer None C = refused no_path
 
 -- a whole path
 unfoldable pub wholly : List Float → Path → Done
@@ -68,18 +67,9 @@ wholly_answer C (ok p) = ok (wholly C p)
 wholly_answer C (refused q) = refused q
 
 -- the same without a place to put a curve
-pub record Seen : Type 0 where
-  pub count : ℕ
-  pub closed : Bool
-  pub small : Bool
-
-abbrev pub seen_answer : Walked → Answer Seen
-seen_answer (walked.Path k z s) = ok (record { count = k; closed = z; small = s })
-seen_answer walked.Nothing = refused no_path
-
-abbrev pub seen : Done → Seen
+abbrev pub seen : Done → Walked
 seen d = record { count = d.count; closed = d.closed; small = d.small }
 
-abbrev pub seen_of : Answer Path → Answer Seen
+abbrev pub seen_of : Answer Path → Answer Walked
 seen_of (ok p) = ok (seen (wholly [] p))
 seen_of (refused q) = refused q

@@ -1,7 +1,9 @@
 -- A tangent turned about, and what goes on with the direction at a joint, by what the code's calls answer. Assumes nothing.
 use mathlib.Core.Path.{◌≡◌, refl, sym, ap, ◌∙◌}
 use mathlib.Core.Bool.{true, false}
+use Prim.Native.Nat.{ℕ}
 use lib.Ieee.{of_bits, neg}
+use Rattle.std.proofs.Common.{Option}
 use Rattle.float.specs.Number.{finite, f1}
 use Rattle.float.specs.Calc.{Calc, ◌>>=◌}
 use Rattle.float.specs.Answer.{Answer, ok, refused, outcome}
@@ -12,10 +14,6 @@ use Rattle.plane.specs.Plane.{times}
 use Rattle.plane.specs.Range.{point_finite}
 use Rattle.plane.specs.declared.Point.{Point}
 use Rattle.plane.proofs.Fine.{times_same}
-use Rattle.plane.specs.declared.Direction.{Direction}
-use Rattle.marks.specs.Answers.{bearing_answer}
-use Rattle.marks.specs.declared.tangent.Bearing.{Bearing}
-use Rattle.marks.specs.declared.tangent.Bearing.TheVariants as bearing
 use Rattle.joints.specs.declared.Joint.{Joint}
 use Rattle.joints.specs.Joints.{opposite, through}
 
@@ -33,21 +31,14 @@ module _ (t u : Point) (is : u ≡ (times t (neg f1)).val) where
   pub too_far : point_finite u ≡ false → refused 6 ≡ outcome (opposite t)
   too_far g = sym (outcome_no (opposite t) (whole ∙ g))
 
--- a run that goes on with what a call answered: refused where that is, else what goes on with its value
-module _ {A B : Type 0} (m : Calc A) (f : A → Calc B) {a : Answer A} (h : a ≡ outcome m) where
-  pub lost : a ≡ refused 6 → refused 6 ≡ outcome (◌>>=◌ m f)
-  lost e = sym (outcome-then m f ∙ ap (λ x. chain x (λ a. outcome (f a))) (sym h ∙ e))
+-- a run that goes on with what another came to: refused where that is, else what goes on with its value
+module _ {A B : Type 0} (m : Calc A) (f : A → Calc B) where
+  pub lost : (q : ℕ) → refused q ≡ outcome m → refused q ≡ outcome (◌>>=◌ m f)
+  lost q e = sym (outcome-then m f ∙ ap (λ x. chain x (λ a. outcome (f a))) (sym e))
 
-  pub goes_on : (t : A) → a ≡ ok t → outcome (f t) ≡ outcome (◌>>=◌ m f)
-  goes_on t e = sym (outcome-then m f ∙ ap (λ x. chain x (λ a. outcome (f a))) (sym h ∙ e))
+  pub goes_on : (t : A) → ok t ≡ outcome m → outcome (f t) ≡ outcome (◌>>=◌ m f)
+  goes_on t e = sym (outcome-then m f ∙ ap (λ x. chain x (λ a. outcome (f a))) (sym e))
 
--- ---- where two blocks meet: what goes on with the direction there, by what the call about it answered
-module _ (j : Joint) (f : Direction → Calc Point) (r : Bearing) (h : bearing_answer r ≡ outcome (through j)) where
-  pub no_bearing : r ≡ bearing.Lost → refused 6 ≡ outcome (◌>>=◌ (through j) f)
-  unfolding bearing_answer
-  no_bearing e = lost (through j) f h (ap bearing_answer e)
-
-  -- d is the direction that was answered, e is which it is
-  pub by_bearing : {d : Direction} {w : Answer Point} (e : Direction) → r ≡ bearing.Of d → d ≡ e → w ≡ outcome (f e) → w ≡ outcome (◌>>=◌ (through j) f)
-  unfolding bearing_answer
-  by_bearing e i k g = g ∙ goes_on (through j) f h e (ap bearing_answer (i ∙ ap bearing.Of k))
+-- ---- where two blocks meet: what goes on with the direction there; d is the direction that was answered, e is which it is
+pub by_direction : (j : Joint) (f : Option Point → Calc Point) {d : Option Point} {w : Answer Point} (e : Option Point) → ok d ≡ outcome (through j) → d ≡ e → w ≡ outcome (f e) → w ≡ outcome (◌>>=◌ (through j) f)
+by_direction j f e h k g = g ∙ goes_on (through j) f e (ap ok (sym k) ∙ h)

@@ -1,12 +1,10 @@
 -- Where two blocks meet: with which tangent the left one ends and the right one starts. Definitions only.
-use Rattle.std.specs.Prelude.{ℕ, ◌+◌, ◌-◌, ◌<◌, List, Float}
+use Rattle.std.specs.Prelude.{ℕ, ◌+◌, ◌-◌, ◌<◌, List, Float, Option, Some, None}
 use Rattle.std.specs.Float.Ieee.{neg}
 use Rattle.float.specs.Number.{f1}
 use Rattle.float.specs.Calc.{Calc, give, ◌>>=◌}
 use Rattle.plane.specs.Plane.{times}
 use Rattle.plane.specs.declared.Point.{Point}
-use Rattle.plane.specs.declared.Direction.{Direction}
-use Rattle.plane.specs.declared.Direction.TheVariants.{Toward, Nowhere}
 use Rattle.marks.specs.Marks.{count, mark_at}
 use Rattle.marks.specs.Tangent.{direction_between, along}
 use Rattle.ring.specs.Ring.{again, Even}
@@ -27,7 +25,7 @@ abbrev pub seam_of : List Float → ℕ → Joint
 seam_of ms n = record { before = mark_at ms (n - 2); at = mark_at ms 0; after = mark_at ms 1 }
 
 -- the direction there, if there is one: tangent_between's
-abbrev pub through : Joint → Calc Direction
+abbrev pub through : Joint → Calc (Option Point)
 through j = direction_between j.before j.at j.after
 
 -- a tangent times -1
@@ -36,13 +34,13 @@ opposite t = times t (neg f1)
 
 -- The two blocks share that direction: the left one ends with it, and the right one starts with it times -1. Where there is none, each takes the direction of the chord
 -- to the neighbour inside it, which is not turned, and zero only if that has none either.
-unfoldable pub end_by : Joint → Direction → Calc Point
-end_by j (Toward t) = give t
-end_by j Nowhere = along j.at j.before
+unfoldable pub end_by : Joint → Option Point → Calc Point
+end_by j (Some t) = give t
+end_by j None = along j.at j.before
 
-unfoldable pub start_by : Joint → Direction → Calc Point
-start_by j (Toward t) = opposite t
-start_by j Nowhere = along j.at j.after
+unfoldable pub start_by : Joint → Option Point → Calc Point
+start_by j (Some t) = opposite t
+start_by j None = along j.at j.after
 
 unfoldable pub left_end : Joint → Calc Point
 left_end j = do end_by j (← through j)

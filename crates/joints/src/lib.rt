@@ -3,14 +3,14 @@
 
 ghost use Rattle.std.specs.Prelude.{◌≡◌, ◌+◌};
 ghost use Rattle.float.specs.Answer.{outcome};
-ghost use Rattle.marks.specs.Answers.{way_answer};
+ghost use Rattle.float.specs.Refusal.{answer};
 ghost use Rattle.marks.specs.Marks.{count};
 ghost use Rattle.ring.specs.Ring.{whole, Even};
 ghost use Rattle.ring.specs.declared.Outline.TheVariants as outline;
 ghost use Rattle.joints.specs.Joints.{Inner, joint_at, seam_of, opposite, left_end, right_start};
 
-use marks::{Bearing, Way};
-use plane::{Direction, Point};
+use float::refusal::Refusal;
+use plane::Point;
 
 // A mark with the one before it and the one after it: where two blocks meet, the first lies in the left block and the second in the right one.
 #[derive(Clone, Copy)]
@@ -46,39 +46,33 @@ pub fn seam_of(marks: &[f64]) -> Joint
 }
 
 // A tangent turned about, for what starts where another ended with it.
-pub fn opposite(tangent: Point) -> Way
-    ensures { way_answer result ≡ outcome (opposite tangent) }
+pub fn opposite(tangent: Point) -> Result<Point, Refusal>
+    ensures { answer result ≡ outcome (opposite tangent) }
 {
     let turned = plane::scale(tangent, -1.0);
     if plane::point_finite(turned) {
-        return Way::Toward(turned);
+        return Ok(turned);
     }
-    Way::Lost
+    Err(Refusal::NotFinite)
 }
 
 // The tangent with which the left block ends where two meet. Without a direction there it is that of the chord to the block's own neighbour of the joint.
-pub fn left_end(joint: Joint) -> Way
-    ensures { way_answer result ≡ outcome (left_end joint) }
+pub fn left_end(joint: Joint) -> Result<Point, Refusal>
+    ensures { answer result ≡ outcome (left_end joint) }
 {
-    let Bearing::Of(direction) = marks::direction_between(joint.before, joint.at, joint.after)
-    else {
-        return Way::Lost;
-    };
-    let Direction::Toward(end) = direction else {
+    let direction = marks::direction_between(joint.before, joint.at, joint.after)?;
+    let Some(end) = direction else {
         return marks::along(joint.at, joint.before);
     };
-    Way::Toward(end)
+    Ok(end)
 }
 
 // The tangent with which the right block starts there: that direction turned about. The chord to its own neighbour points into the block already, and is not turned.
-pub fn right_start(joint: Joint) -> Way
-    ensures { way_answer result ≡ outcome (right_start joint) }
+pub fn right_start(joint: Joint) -> Result<Point, Refusal>
+    ensures { answer result ≡ outcome (right_start joint) }
 {
-    let Bearing::Of(direction) = marks::direction_between(joint.before, joint.at, joint.after)
-    else {
-        return Way::Lost;
-    };
-    let Direction::Toward(end) = direction else {
+    let direction = marks::direction_between(joint.before, joint.at, joint.after)?;
+    let Some(end) = direction else {
         return marks::along(joint.at, joint.after);
     };
     opposite(end)

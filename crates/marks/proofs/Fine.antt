@@ -3,6 +3,7 @@ use mathlib.Core.Path.{◌≡◌, refl, sym, ap, ◌∙◌}
 use mathlib.Core.Bool.{Bool, true, false, ◌&&◌}
 use mathlib.Core.List.{List}
 use Prim.Native.Nat.{◌-◌}
+use Rattle.std.proofs.Common.{Option, Some, None}
 use lib.Ieee.{Float}
 use Rattle.float.specs.Number.{finite}
 use Rattle.float.specs.Calc.{Calc, give, ◌>>=◌}
@@ -15,8 +16,6 @@ use Rattle.plane.specs.Plane.{plus, minus, magnitude_of, unit_of, direction_by, 
 use Rattle.plane.specs.Range.{point_finite}
 use Rattle.plane.specs.declared.Point.{Point}
 use Rattle.plane.specs.declared.Curve.{Curve}
-use Rattle.plane.specs.declared.Direction.{Direction}
-use Rattle.plane.specs.declared.Direction.TheVariants.{Toward, Nowhere}
 use Rattle.plane.proofs.Fine.{Good, plus-fine, minus-fine, times-fine, good_point, point_good, direction_same, none_finite, unit_good, direction_good}
 use Rattle.marks.specs.Marks.{count, mark_at}
 use Rattle.marks.specs.Line.{line_of}
@@ -60,35 +59,35 @@ module _ (v : Point) (m : Float) (is : m ≡ (magnitude_of v).val) where
   pub far_off : finite m ≡ false → refused 6 ≡ outcome (direction_of v)
   far_off h = sym (outcome_no (direction_of v) (direction_same v ∙ ap (λ (b : Bool). b && point_finite (or_zero (direction_by v (magnitude_of v).val).val)) (rw is at h)))
 
-  module _ (near : Fin m) (d : Direction) (by : d ≡ (direction_by v m).val) where
+  module _ (near : Fin m) (d : Option Point) (by : d ≡ (direction_by v m).val) where
     whole : (direction_of v).fine ≡ point_finite (or_zero d)
     whole =
         direction_same v
         ∙ ap (λ (b : Bool). b && point_finite (or_zero (direction_by v (magnitude_of v).val).val)) (rw is at near)
-        ∙ ap (λ (x : Direction). point_finite (or_zero x)) (ap (λ (x : Float). (direction_by v x).val) (sym is) ∙ sym by)
+        ∙ ap (λ (x : Option Point). point_finite (or_zero x)) (ap (λ (x : Float). (direction_by v x).val) (sym is) ∙ sym by)
 
     found : point_finite (or_zero d) ≡ true → ok d ≡ outcome (direction_of v)
     unfolding direction_of
     found h = ap ok (by ∙ ap (λ (x : Float). (direction_by v x).val) is) ∙ sym (outcome_ok (direction_of v) (whole ∙ h))
 
-    pub nowhere : d ≡ Nowhere → ok Nowhere ≡ outcome (direction_of v)
-    nowhere e = ap ok (sym e) ∙ found (ap (λ (x : Direction). point_finite (or_zero x)) e ∙ none_finite)
+    pub nowhere : d ≡ None → ok None ≡ outcome (direction_of v)
+    nowhere e = ap ok (sym e) ∙ found (ap (λ (x : Option Point). point_finite (or_zero x)) e ∙ none_finite)
 
-    pub toward_on : (u : Point) → d ≡ Toward u → point_finite u ≡ true → ok (Toward u) ≡ outcome (direction_of v)
+    pub toward_on : (u : Point) → d ≡ Some u → point_finite u ≡ true → ok (Some u) ≡ outcome (direction_of v)
     unfolding or_zero
-    toward_on u e h = ap ok (sym e) ∙ found (ap (λ (x : Direction). point_finite (or_zero x)) e ∙ h)
+    toward_on u e h = ap ok (sym e) ∙ found (ap (λ (x : Option Point). point_finite (or_zero x)) e ∙ h)
 
-    pub toward_off : (u : Point) → d ≡ Toward u → point_finite u ≡ false → refused 6 ≡ outcome (direction_of v)
+    pub toward_off : (u : Point) → d ≡ Some u → point_finite u ≡ false → refused 6 ≡ outcome (direction_of v)
     unfolding or_zero
-    toward_off u e h = sym (outcome_no (direction_of v) (whole ∙ ap (λ (x : Direction). point_finite (or_zero x)) e ∙ h))
+    toward_off u e h = sym (outcome_no (direction_of v) (whole ∙ ap (λ (x : Option Point). point_finite (or_zero x)) e ∙ h))
 
 -- ---- tangents: unit vectors, zero where there is no direction
-unit_is : (v : Point) → chain (outcome (direction_of v)) (λ (d : Direction). ok (or_zero d)) ≡ outcome (unit_of v)
+unit_is : (v : Point) → chain (outcome (direction_of v)) (λ (d : Option Point). ok (or_zero d)) ≡ outcome (unit_of v)
 unfolding outcome unit_of
-unit_is v = sym (outcome-then (direction_of v) (λ (d : Direction). give (or_zero d)))
+unit_is v = sym (outcome-then (direction_of v) (λ (d : Option Point). give (or_zero d)))
 
-pub unit_by : (v : Point) {a : Answer Direction} {w : Answer Point} → w ≡ chain a (λ (d : Direction). ok (or_zero d)) → a ≡ outcome (direction_of v) → w ≡ outcome (unit_of v)
-unit_by v h e = h ∙ ap (λ (x : Answer Direction). chain x (λ (d : Direction). ok (or_zero d))) e ∙ unit_is v
+pub unit_by : (v : Point) {a : Answer (Option Point)} {w : Answer Point} → w ≡ chain a (λ (d : Option Point). ok (or_zero d)) → a ≡ outcome (direction_of v) → w ≡ outcome (unit_of v)
+unit_by v h e = h ∙ ap (λ (x : Answer (Option Point)). chain x (λ (d : Option Point). ok (or_zero d))) e ∙ unit_is v
 
 -- what a vector's unit vector or direction comes to tells whether the vector was worked out with no refusal
 through : {A : Type 0} (m : Calc Point) (f : Point → Calc A) → (Good m.val → Fine m) → ((v : Point) → Fine (f v) → Good v) → outcome (◌>>=◌ m f) ≡ outcome (f m.val)

@@ -41,12 +41,9 @@ module _ (n size : ℕ) (d : Down n size) where
       go : n % (50 + suc (size - 51)) < 50 → size_from (suc (size - 51)) n ≡ size_from (size - 51) n
       go k = unfold size_from in sym (passed (50 + suc (size - 51)) (size_from (size - 51) n) (lt-leb 50 (n % (50 + suc (size - 51))) k))
 
-  pub end : size ≤ 50 → size ≡ block_size n
-  end h = fifty ∙ sym (d.same ∙ ap (λ (k : ℕ). size_from k n) none ∙ zero_is)
+  pub end : size ≤ 50 → 50 ≡ block_size n
+  end h = sym (d.same ∙ ap (λ (k : ℕ). size_from k n) none ∙ zero_is)
     where
-      fifty : size ≡ 50
-      fifty = let l = d.low in omega arith
-
       none : size - 50 ≡ 0
       none = omega arith
 

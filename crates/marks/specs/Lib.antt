@@ -2,4 +2,3 @@ pub mod Marks
 pub mod Block
 pub mod Tangent
 pub mod Line
-pub mod Answers

@@ -1,11 +1,10 @@
 -- start_tangent, end_tangent and tangent_between of fit.rs, and whether the last has a direction. Definitions only.
-use Rattle.std.specs.Prelude.{List, ◌-◌, Float}
+use Rattle.std.specs.Prelude.{List, ◌-◌, Float, Option}
 use Rattle.std.specs.Float.{binary64}
 use Rattle.std.specs.Float.Ieee.{of_bits}
 use Rattle.float.specs.Calc.{Calc, ◌>>=◌}
 use Rattle.plane.specs.Plane.{plus, minus, times, unit_of, direction_of}
 use Rattle.plane.specs.declared.Point.{Point}
-use Rattle.plane.specs.declared.Direction.{Direction}
 use Rattle.marks.specs.Marks.{count, mark_at}
 
 -- 0.5
@@ -28,7 +27,7 @@ between p1 p2 p3 = do
 unfoldable pub tangent_between : Point → Point → Point → Calc Point
 tangent_between p1 p2 p3 = do unit_of (← between p1 p2 p3)
 
-unfoldable pub direction_between : Point → Point → Point → Calc Direction
+unfoldable pub direction_between : Point → Point → Point → Calc (Option Point)
 direction_between p1 p2 p3 = do direction_of (← between p1 p2 p3)
 
 -- the tangent along the chord from p to q

@@ -30,14 +30,12 @@ fn by_count_down(num_points: usize) -> usize
     requires { 200 ≤ num_points }
     ensures { result ≡ block_size num_points }
 {
-    let mut size = MAX_POINTS_TO_FIT;
-    while size > MIN_POINTS_TO_FIT {
+    for size in (MIN_POINTS_TO_FIT + 1..=MAX_POINTS_TO_FIT).rev() {
         if num_points % size >= MIN_POINTS_TO_FIT {
             return size;
         }
-        size -= 1;
     }
-    size
+    MIN_POINTS_TO_FIT
 }
 
 // The size of a block for so many marks: the largest that leaves a quarter of a block at the end, or more.

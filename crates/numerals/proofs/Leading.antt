@@ -44,6 +44,10 @@ module _ (p : ℕ → Bool) (none : p 0 ≡ false) (T : List ℕ) (i : ℕ) wher
       go true e = rw (drop-cons T i 0 (ltb-true i (length T) e), h)
       go false e = rw (drop_of_length-le T (ltb-false i (length T) e))
 
+-- what the code's test of a byte tells of the place that the byte was read from
+pub read_as : (p : ℕ → Bool) {n b : ℕ} {s t : Bool} → b ≡ n → s ≡ p b → s ≡ t → p n ≡ t
+read_as p e h k = ap p (sym e) ∙ sym h ∙ k
+
 -- ---- lengths
 
 pub leading_within : (p : ℕ → Bool) (s : List ℕ) → leading p s ≤ length s

@@ -7,6 +7,7 @@ use native.Mathlib.Omega.{arith}
 use borrow.Author.Tests.{lt-ltb, eq-eqb, ne_eqb}
 use lib.Dec.{ltb, leb}
 use lib.ListN.{length, drop, get_or}
+use Rattle.std.proofs.Common.{Option}
 use Rattle.float.specs.Answer.{Answer, ok, unless}
 use Rattle.path.specs.Decimals.{signed}
 use Rattle.path.specs.Range.{no_path}
@@ -39,7 +40,7 @@ spelled_at T s v w p rest = rw (some w p) (go ((ltb 0 w || ltb 0 p) && leb p 3) 
     go true e = rw e (ap (λ d. ok (taken d (drop rest T))) (ap (signed s) (cap_scaled v p (second w p e)) ∙ signed-cap s (v * 10 ^ (3 - p))))
     go false e = rw e refl
 
-module _ (T : List ℕ) (s : Bool) (w f : List ℕ) (v a b rest : ℕ) {r : Numeral} where
+module _ (T : List ℕ) (s : Bool) (w f : List ℕ) (v a b rest : ℕ) {r : Option Numeral} where
   as-spelled : r ≡ numeral_of s v a b rest → v ≡ cap (value_from 0 (w ++ f)) → a ≡ length w → b ≡ length f → numeral_answer T r ≡ read (spelled s w f (drop rest T))
   unfolding spelled
   as-spelled h e k l = ap (numeral_answer T) (h ∙ same) ∙ spelled_at T s (value_from 0 (w ++ f)) (length w) (length f) rest
@@ -72,7 +73,7 @@ module _ (T : List ℕ) (at : ℕ) (s : Bool) {whole : Digits} (is : whole ≡ d
   behind_is = sym (behind_at T whole.end) ∙ ap behind rest_is
 
   -- with a point
-  pub pointed : {all : Digits} {r : Numeral} → b ≡ 46 → all ≡ digits_of T (whole.end + 1) whole.value → r ≡ numeral_of s all.value (whole.end - at) (all.end - (whole.end + 1)) all.end → numeral_answer T r ≡ read (unsigned s (drop at T))
+  pub pointed : {all : Digits} {r : Option Numeral} → b ≡ 46 → all ≡ digits_of T (whole.end + 1) whole.value → r ≡ numeral_of s all.value (whole.end - at) (all.end - (whole.end + 1)) all.end → numeral_answer T r ≡ read (unsigned s (drop at T))
   pointed {all} h e k =
       as-spelled T s (those is_digit (drop at T)) (those is_digit (drop (whole.end + 1) T)) all.value (whole.end - at) (all.end - (whole.end + 1)) all.end k value
       (digits_count T at 0 is) (digits_count T (whole.end + 1) whole.value e)
@@ -86,7 +87,7 @@ module _ (T : List ℕ) (at : ℕ) (s : Bool) {whole : Digits} (is : whole ≡ d
           ∙ ap cap (sym (value_append (those is_digit (drop at T)) (those is_digit (drop (whole.end + 1) T)) 0))
 
   -- without
-  pub pointless : {r : Numeral} → (b ≡ 46 → ⊥) → r ≡ numeral_of s whole.value (whole.end - at) 0 whole.end → numeral_answer T r ≡ read (unsigned s (drop at T))
+  pub pointless : {r : Option Numeral} → (b ≡ 46 → ⊥) → r ≡ numeral_of s whole.value (whole.end - at) 0 whole.end → numeral_answer T r ≡ read (unsigned s (drop at T))
   pointless h k =
       as-spelled T s (those is_digit (drop at T)) [] whole.value (whole.end - at) 0 whole.end k
       (ap (λ d. d.value) is ∙ ap (λ l. cap (value_from 0 l)) (sym (append-nil (those is_digit (drop at T)))))

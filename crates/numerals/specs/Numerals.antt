@@ -1,5 +1,5 @@
 -- What reading a number at a place of a text answers. Definitions only.
-use Rattle.std.specs.Prelude.{ℕ, suc, ◌+◌, ◌-◌, ◌*◌, ◌^◌, min, Bool, ◌&&◌, ◌||◌, cond, List, ltb, leb, drop}
+use Rattle.std.specs.Prelude.{ℕ, suc, ◌+◌, ◌-◌, ◌*◌, ◌^◌, min, Bool, ◌&&◌, ◌||◌, cond, List, ltb, leb, drop, Option, Some, None}
 use Rattle.float.specs.Answer.{Answer, ok, refused}
 use Rattle.path.specs.Decimals.{most, signed}
 use Rattle.path.specs.Range.{no_path}
@@ -7,7 +7,6 @@ use Rattle.path.specs.Numbers.{Taken, taken, is_digit, leading, those, value_fro
 use Rattle.path.specs.declared.Decimal.{Decimal}
 use Rattle.numerals.specs.declared.Digits.{Digits}
 use Rattle.numerals.specs.declared.Numeral.{Numeral}
-use Rattle.numerals.specs.declared.Numeral.TheVariants.{Number, Nothing}
 
 -- a count that goes no further than one above 1,000,000,000 in thousandths: all above that are refused alike
 abbrev pub cap : ℕ → ℕ
@@ -18,8 +17,8 @@ abbrev pub digits_of : List ℕ → ℕ → ℕ → Digits
 digits_of T at v = record { value = cap (value_from v (those is_digit (drop at T))); end = at + leading is_digit (drop at T) }
 
 -- the number of w digits before the point and p behind it, which make v
-unfoldable pub numeral_of : Bool → ℕ → ℕ → ℕ → ℕ → Numeral
-numeral_of s v w p rest = cond ((ltb 0 w || ltb 0 p) && leb p 3) (Number (signed s (cap (v * 10 ^ (3 - p)))) rest) Nothing
+unfoldable pub numeral_of : Bool → ℕ → ℕ → ℕ → ℕ → Option Numeral
+numeral_of s v w p rest = cond ((ltb 0 w || ltb 0 p) && leb p 3) (Some (record { decimal = signed s (cap (v * 10 ^ (3 - p))); rest = rest })) None
 
 unfoldable pub capped : Decimal → Decimal
 capped d = record { negative = d.negative; thousandths = cap d.thousandths }
@@ -30,9 +29,9 @@ mapped f (ok n) = ok (taken (f n.value) n.rest)
 mapped f (refused q) = refused q
 
 -- a number, and the text behind it
-abbrev pub numeral_answer : List ℕ → Numeral → Answer (Taken Decimal)
-numeral_answer T (Number d rest) = ok (taken d (drop rest T))
-numeral_answer T Nothing = refused no_path
+abbrev pub numeral_answer : List ℕ → Option Numeral → Answer (Taken Decimal)
+numeral_answer T (Some n) = ok (taken n.decimal (drop n.rest T))
+numeral_answer T None = refused no_path
 
 -- the definition's answer, with its number capped
 abbrev pub read : Answer (Taken Decimal) → Answer (Taken Decimal)

@@ -10,11 +10,11 @@ ghost use Rattle.numerals.specs.Numerals.{cap, digits_of, numeral_of, numeral_an
 
 use path::{Decimal, MOST};
 
-// A number and the place behind it, or that there is none.
+// A number and the place behind it.
 #[derive(Clone, Copy)]
-pub enum Numeral {
-    Number { decimal: Decimal, rest: usize },
-    Nothing,
+pub struct Numeral {
+    pub decimal: Decimal,
+    pub rest: usize,
 }
 
 // What a row of digits makes, up to one more than MOST, and the place behind it.
@@ -28,10 +28,7 @@ pub struct Digits {
 pub fn byte_at(text: &[u8], i: usize) -> u8
     ensures { result ≡ get_or text.now i 0 }
 {
-    if i < text.len() {
-        return text[i];
-    }
-    0
+    text.get(i).copied().unwrap_or(0)
 }
 
 // Whether a byte is white space.
@@ -53,6 +50,7 @@ pub fn past_space(text: &[u8], at: usize) -> usize
     ensures { result ≡ at + leading is_space (drop at text.now) }
 {
     let mut i = at;
+    // A while: past the end a byte is read that is no space, so the walk has no end of its own.
     while is_space(byte_at(text, i)) {
         i += 1;
     }
@@ -95,6 +93,7 @@ fn digits_from(text: &[u8], at: usize, value: u64) -> Digits
 {
     let mut i = at;
     let mut v = value;
+    // A while: past the end a byte is read that is no digit, so the walk has no end of its own.
     while is_digit(byte_at(text, i)) {
         v = grown(v, byte_at(text, i));
         i += 1;
@@ -119,8 +118,14 @@ fn scale(places: usize) -> u64
     1
 }
 
-// The number that so many digits before the point and behind it make. Of zero no sign is kept.
-fn numeral_of(negative: bool, value: u64, whole: usize, places: usize, rest: usize) -> Numeral
+// The number that so many digits before the point and behind it make, if they make one. Of zero no sign is kept.
+fn numeral_of(
+    negative: bool,
+    value: u64,
+    whole: usize,
+    places: usize,
+    rest: usize,
+) -> Option<Numeral>
     requires { value ≤ suc most }
     ensures { result ≡ numeral_of negative value whole places rest }
 {
@@ -130,13 +135,13 @@ fn numeral_of(negative: bool, value: u64, whole: usize, places: usize, rest: usi
             negative: negative & (0 < thousandths),
             thousandths,
         };
-        return Numeral::Number { decimal, rest };
+        return Some(Numeral { decimal, rest });
     }
-    Numeral::Nothing
+    None
 }
 
-// The number behind its sign.
-fn unsigned_at(text: &[u8], at: usize, negative: bool) -> Numeral
+// The number behind its sign, if there is one.
+fn unsigned_at(text: &[u8], at: usize, negative: bool) -> Option<Numeral>
     ensures { numeral_answer text.now result ≡ read (unsigned negative (drop at text.now)) }
 {
     let whole = digits_from(text, at, 0);
@@ -149,8 +154,8 @@ fn unsigned_at(text: &[u8], at: usize, negative: bool) -> Numeral
     numeral_of(negative, whole.value, point - at, 0, point)
 }
 
-// The number at a place.
-pub fn number_at(text: &[u8], at: usize) -> Numeral
+// The number at a place, if there is one.
+pub fn number_at(text: &[u8], at: usize) -> Option<Numeral>
     ensures { numeral_answer text.now result ≡ read (number (drop at text.now)) }
 {
     let sign = byte_at(text, at);

@@ -20,10 +20,8 @@ fn copy_firsts(b: &[u8], form: Form, n: usize, k: usize, firsts: &mut [u32])
     requires { (entry_at form n k ≤ length b.now) × (k ≤ length firsts.old) }
     ensures { firsts.new ≡ written (firsts_in b.now form n k) firsts.old }
 {
-    let mut i = 0;
-    while i < k {
+    for i in 0..k {
         firsts[i] = four(b, packed::first_place(form, n, i)) as u32;
-        i += 1;
     }
 }
 
@@ -34,10 +32,8 @@ fn copy_worsts(b: &[u8], form: Form, n: usize, k: usize, worsts: &mut [u32])
 {
     let kept = worsts_for(form, k);
     let behind = packed::PACKED_MARK + sizes::NUMBER_FIELD * packed::rest_numbers(form);
-    let mut i = 0;
-    while i < kept {
+    for i in 0..kept {
         worsts[i] = four(b, packed::entry_at(form, n, i) + behind) as u32;
-        i += 1;
     }
 }
 
@@ -62,11 +58,9 @@ fn copy_numbers(b: &[u8], form: Form, n: usize, k: usize, curves: &mut [u64])
     ensures { curves.new ≡ written (numbers_in b.now form n k) curves.old }
 {
     let step = width(form);
-    let mut i = 0;
-    while i < k {
+    for i in 0..k {
         let j = step * i;
         copy_curve(b, form, n, i, &mut curves[j..]);
-        i += 1;
     }
 }
 

@@ -17,7 +17,8 @@ use Rattle.house.specs.Bytes.{fits, all_fit, row}
 use Rattle.house.specs.Held.{marks_held}
 use Rattle.house.specs.Layout.{head_at}
 use Rattle.grammar.proofs.Records.{head_in}
-use Rattle.heads.specs.declared.Layout.TheVariants as layout
+use Rattle.std.proofs.Common.{Some, None}
+use Rattle.heads.proofs.Ways.{found}
 use Rattle.packed.specs.Each.{each}
 use Rattle.packed.specs.Packed.{entry_bytes, rest_numbers}
 use Rattle.packed.specs.Unpacked.{entry_at, first_place, worst_place, firsts_in, worsts_in, packed_form, packed_curves, is_packed}
@@ -88,11 +89,11 @@ module _ (b : List ℕ) (form : Form) (n k : ℕ) {field : Field} {step first : 
 
 -- ---- the layout
 
-pub packed_counted : (b : List ℕ) {form : Form} {n k : ℕ} → all_fit 1 b ≡ true → PackedLaid b form n k → layout.Counts form n k ≡ packed_layout_of b
+pub packed_counted : (b : List ℕ) {form : Form} {n k : ℕ} → all_fit 1 b ≡ true → PackedLaid b form n k → Some (found form n k) ≡ packed_layout_of b
 unfolding packed_layout_of
 packed_counted b g l = rw (laid_packed g l, packed_marks l, packed_form_is l, packed_curves_is l)
 
-pub packed_broken : (b : List ℕ) (form : Form) (n k : ℕ) → marks_held b ≡ n → packed_form b n ≡ form → packed_curves b form n ≡ k → (PackedLaid b form n k → ⊥) → layout.Broken ≡ packed_layout_of b
+pub packed_broken : (b : List ℕ) (form : Form) (n k : ℕ) → marks_held b ≡ n → packed_form b n ≡ form → packed_curves b form n ≡ k → (PackedLaid b form n k → ⊥) → None ≡ packed_layout_of b
 unfolding packed_layout_of
 packed_broken b form n k en ef ek never = rw (not_so (is_packed b) (λ h. never (rw (en, ef, ek) at (packed_laid h))))
 

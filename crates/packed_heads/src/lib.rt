@@ -10,7 +10,7 @@ ghost use Rattle.packed.specs.Each.{each};
 ghost use Rattle.packed.specs.Packed.{flag};
 ghost use Rattle.packed.specs.Unpacked.{entry_at, firsts_in, worsts_in};
 ghost use Rattle.packed.specs.Layout.{leads_packed, marks_packed, ends_packed};
-ghost use Rattle.packed_heads.specs.Layout.{packed_layout_of, once_of, held_layout_of};
+ghost use Rattle.packed_heads.specs.Layout.{packed_layout_of, held_layout_of};
 
 use form::{Form, worsts_for};
 use heads::{Layout, find_layout, has_head, starts_with};
@@ -28,16 +28,11 @@ pub enum Joints {
     Once,
 }
 
-// How a file in either form stores its joints and its curves, and how many marks and curves it has; or that the bytes are no file.
+// How a file in either form stores its joints, and how it is laid out.
 #[derive(Clone, Copy)]
-pub enum Held {
-    Counts {
-        joints: Joints,
-        form: Form,
-        marks: usize,
-        curves: usize,
-    },
-    Broken,
+pub struct Held {
+    pub joints: Joints,
+    pub layout: Layout,
 }
 
 // Whether the leading byte is the one that goes with the form.
@@ -62,13 +57,10 @@ fn all_fit(b: &[u8], at: usize, step: usize, k: usize, field: Field) -> bool
     requires { (at + step * k + 4 ≤ length b.now + step) × (4 ≤ step) }
     ensures { result ≡ all_fit (mark_field field) (each k (λ i. row 4 1 (drop (at + step * i) b.now))) }
 {
-    let mut i = 0;
-    while i < k {
-        if sizes::mark_fits(field, four(b, at + step * i)) {
-            i += 1;
-            continue;
+    for i in 0..k {
+        if !sizes::mark_fits(field, four(b, at + step * i)) {
+            return false;
         }
-        return false;
     }
     true
 }
@@ -151,22 +143,22 @@ fn form_at(b: &[u8], at: usize) -> Form
 }
 
 // How the bytes are laid out, if they are a packed file.
-pub fn find_packed(b: &[u8]) -> Layout
+pub fn find_packed(b: &[u8]) -> Option<Layout>
     ensures { result ≡ packed_layout_of b.now }
 {
     let len = b.len();
     if len < sizes::MARKS_AT {
-        return Layout::Broken;
+        return None;
     }
     let n = four(b, sizes::MARKS_HEAD) as usize / sizes::MARK_BYTES;
     if starts_with(b, n) {
         let end = sizes::MARKS_AT + sizes::MARK_BYTES * n;
         if len == end {
-            return Layout::Counts {
+            return Some(Layout {
                 form: Form::Eight,
                 marks: n,
                 curves: 0,
-            };
+            });
         }
         let least = end
             + sizes::HEAD_BYTES
@@ -174,57 +166,36 @@ pub fn find_packed(b: &[u8]) -> Layout
             + sizes::HEAD_BYTES
             + sizes::NUMBER_FIELD * n;
         if len < least {
-            return Layout::Broken;
+            return None;
         }
         let form = form_at(b, end + sizes::HEAD_BYTES);
         let k = (len - least) / entry_bytes(form);
         if ends_packed(b, form, n, k) {
-            return Layout::Counts {
+            return Some(Layout {
                 form,
                 marks: n,
                 curves: k,
-            };
+            });
         }
-        return Layout::Broken;
+        return None;
     }
-    Layout::Broken
-}
-
-// A layout in which each joint stands once, or none.
-fn once(layout: Layout) -> Held
-    ensures { result ≡ once_of layout }
-{
-    match layout {
-        Layout::Counts {
-            form,
-            marks,
-            curves,
-        } => Held::Counts {
-            joints: Joints::Once,
-            form,
-            marks,
-            curves,
-        },
-        Layout::Broken => Held::Broken,
-    }
+    None
 }
 
 // How the bytes are laid out, if they are a file in either form.
-pub fn find_held(b: &[u8]) -> Held
+#[tactic(auto, unfolding(crate::specs::Layout::held_layout_of))]
+pub fn find_held(b: &[u8]) -> Option<Held>
     ensures { result ≡ held_layout_of b.now }
 {
-    let layout = find_layout(b);
-    match layout {
-        Layout::Counts {
-            form,
-            marks,
-            curves,
-        } => Held::Counts {
+    if let Some(layout) = find_layout(b) {
+        return Some(Held {
             joints: Joints::Twice,
-            form,
-            marks,
-            curves,
-        },
-        Layout::Broken => once(find_packed(b)),
+            layout,
+        });
     }
+    let layout = find_packed(b)?;
+    Some(Held {
+        joints: Joints::Once,
+        layout,
+    })
 }

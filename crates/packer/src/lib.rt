@@ -4,15 +4,16 @@
 mod records;
 
 ghost use Rattle.std.specs.Prelude.{◌≡◌};
-ghost use Rattle.lines.specs.Handed.{handed, listed_answer};
+ghost use Rattle.float.specs.Refusal.{answer};
+ghost use Rattle.lines.specs.Handed.{handed};
 ghost use Rattle.house.specs.Limits.{length_field};
 ghost use Rattle.house.specs.Bytes.{fits};
 ghost use Rattle.packer.specs.Packer.{pack_of};
 
-use float::refusal::{BADLY_FORMED, NO_ROOM, NOT_JOINED};
-use heads::{Layout, find_layout};
+use float::refusal::Refusal;
+use heads::find_layout;
 use house::sizes;
-use lines::{Listed, hand_over};
+use lines::hand_over;
 use packed::entry_at;
 use records::{curves_meet, packed_length, put_packed};
 
@@ -24,18 +25,15 @@ fn length_fits(size: usize) -> bool
 }
 
 // Packs a house file into the first bytes of `out`, which stay as they are where it is refused. A file without curves stays as it is.
-pub fn pack_file(file: &[u8], out: &mut [u8]) -> Listed
-    ensures { handed (listed_answer result) out.new ≡ pack_of file.now out.old }
+pub fn pack_file(file: &[u8], out: &mut [u8]) -> Result<usize, Refusal>
+    ensures { handed (answer result) out.new ≡ pack_of file.now out.old }
 {
-    let found = find_layout(file);
-    let Layout::Counts {
-        form,
-        marks: n,
-        curves: k,
-    } = found
-    else {
-        return Listed::Refused(BADLY_FORMED);
+    let Some(layout) = find_layout(file) else {
+        return Err(Refusal::BadlyFormed);
     };
+    let form = layout.form;
+    let n = layout.marks;
+    let k = layout.curves;
     if k == 0 {
         return hand_over(file, out);
     }
@@ -43,12 +41,12 @@ pub fn pack_file(file: &[u8], out: &mut [u8]) -> Listed
         if curves_meet(file, form, n, k) {
             let size = entry_at(form, n, k) + sizes::HEAD_BYTES + sizes::NUMBER_FIELD * n;
             if out.len() < size {
-                return Listed::Refused(NO_ROOM);
+                return Err(Refusal::NoRoom);
             }
             put_packed(file, form, n, k, out);
-            return Listed::Bytes(size);
+            return Ok(size);
         }
-        return Listed::Refused(NOT_JOINED);
+        return Err(Refusal::NotJoined);
     }
-    Listed::Refused(BADLY_FORMED)
+    Err(Refusal::BadlyFormed)
 }

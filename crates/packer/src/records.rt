@@ -1,12 +1,11 @@
 // Curves that meet, and their one record put together of what stands in theirs.
-ghost use Rattle.std.specs.Prelude.{◌≡◌, ◌+◌, ◌*◌, ◌^◌, ◌<◌, ◌≤◌, eqb, length, drop};
+ghost use Rattle.std.specs.Prelude.{◌≡◌, ◌+◌, ◌*◌, ◌^◌, ◌<◌, ◌≤◌, eqb, length, drop, Some};
 ghost use Rattle.std.proofs.lemmas.List.Edits.{sets};
 ghost use Rattle.float.specs.Slices.{written};
 ghost use Rattle.house.specs.Limits.{field_for, mark_field, number_field, mark_numbers, worst_marks, head_bytes, mark_bytes};
 ghost use Rattle.house.specs.Bytes.{le, row, words, row_bytes, les, same};
 ghost use Rattle.house.specs.Held.{marks_end, file_at};
 ghost use Rattle.heads.specs.Layout.{layout_of};
-ghost use Rattle.heads.specs.declared.Layout.TheVariants.{Counts};
 ghost use Rattle.packed.specs.Each.{each};
 ghost use Rattle.packed.specs.Packed.{flag_field, flag, packed_mark, entry_bytes, mark_at, entry_of, packed_bytes, meets};
 ghost use Rattle.packed.specs.Unpacked.{entry_at};
@@ -91,14 +90,11 @@ pub fn curves_meet(file: &[u8], form: Form, n: usize, k: usize) -> bool
     requires { (record_at form n k ≤ length file.now) × (0 < k) }
     ensures { result ≡ meets (file_at file.now form n k) }
 {
-    let mut i = 0;
-    while i < k - 1 {
+    for i in 0..k - 1 {
         let end = numbers_at(form, n, i) + sizes::NUMBER_FIELD * BEFORE_END;
-        if same_point(file, end, numbers_at(form, n, i + 1)) {
-            i += 1;
-            continue;
+        if !same_point(file, end, numbers_at(form, n, i + 1)) {
+            return false;
         }
-        return false;
     }
     true
 }
@@ -144,10 +140,8 @@ fn put_entries(file: &[u8], form: Form, n: usize, k: usize, out: &mut [u8], at: 
     ensures { out.new ≡ sets out.old at (each k (entry_of (file_at file.now form n k))) }
 {
     let step = entry_bytes(form);
-    let mut i = 0;
-    while i < k {
+    for i in 0..k {
         put_entry(file, form, n, k, i, out, at + step * i);
-        i += 1;
     }
 }
 
@@ -188,7 +182,7 @@ fn put_lead(file: &[u8], form: Form, n: usize, k: usize, out: &mut [u8])
 
 // The whole file, in the first bytes, which have room for it.
 pub fn put_packed(file: &[u8], form: Form, n: usize, k: usize, out: &mut [u8])
-    requires { (layout_of file.now ≡ Counts form n k) × ((0 < k) × (packed_size form n k ≤ length out.old)) }
+    requires { (layout_of file.now ≡ Some (record { form = form; marks = n; curves = k })) × ((0 < k) × (packed_size form n k ≤ length out.old)) }
     ensures { out.new ≡ written (packed_bytes (file_at file.now form n k)) out.old }
 {
     let end = sizes::MARKS_AT + sizes::MARK_BYTES * n;

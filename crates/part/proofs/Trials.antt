@@ -6,74 +6,53 @@ use Prim.Native.Nat.{ℕ, suc, ◌-◌, ◌*◌, ◌/◌, ◌≤◌, ◌<◌}
 use native.Mathlib.Omega.{arith}
 use borrow.Author.Tests.{le-leb, lt-leb}
 use lib.ListN.{length, set}
+use Rattle.std.proofs.Common.{Result, Ok, Err}
 use lib.Ieee.{Float, binary64, lt, le, div}
 use Rattle.float.specs.Number.{f0, f1, finite}
 use Rattle.float.specs.Calc.{Calc, give, ◌>>=◌, ◌/!◌}
 use Rattle.float.specs.Answer.{Answer, ok, refused, outcome}
 use Rattle.float.specs.Answer.{◌>>=◌ as chain}
-use Rattle.float.proofs.Answers.{outcome_ok, outcome_no, outcome-then, only_six}
+use Rattle.float.proofs.Answers.{outcome_ok, outcome_no, outcome-then, not_refused}
+use Rattle.float.specs.Refusal.{answer, number}
+use Rattle.float.specs.declared.refusal.Refusal.{Refusal}
 use Rattle.plane.specs.declared.Point.{Point}
 use Rattle.plane.specs.declared.Curve.{Curve}
 use Rattle.marks.specs.Marks.{mark_at}
 use Rattle.marks.specs.Line.{line_of}
-use Rattle.marks.specs.Answers.{made_answer}
-use Rattle.marks.specs.declared.Made.{Made}
-use Rattle.marks.specs.declared.Made.TheVariants as made
 use Rattle.stages.specs.Chords.{chords_of}
 use Rattle.stages.specs.Newton.{reparam}
-use Rattle.stages.specs.Worst.{no_worst, max_error, far_answer}
+use Rattle.stages.specs.Worst.{no_worst, max_error}
 use Rattle.stages.specs.declared.worst.Worst.{Worst}
-use Rattle.stages.specs.declared.worst.Far.{Far}
-use Rattle.stages.specs.declared.worst.Far.TheVariants as far
 use Rattle.squares.specs.Squares.{generate_of}
 use Rattle.part.specs.Trial.{Trial, attempt, enough, improve, tried}
 use Rattle.part.specs.Part.{fits, cuts, pick, lined, judged, part_of}
 use Rattle.part.specs.Answers.{SolvesAs, Solves, trial_of, Did, pick_tried, verdict}
 use Rattle.part.specs.declared.Solved.{Solved}
-use Rattle.part.specs.declared.Solution.{Solution}
-use Rattle.part.specs.declared.Solution.TheVariants as solution
 use Rattle.part.specs.declared.Tried.{Tried}
-use Rattle.part.specs.declared.Tried.TheVariants as answer
+use Rattle.part.specs.declared.Tried.TheVariants.{Good, Cut}
 
--- ---- answers of the inner calls
-pub made_of : (r : Made) (m : Answer Curve) (c : Curve) → made_answer r ≡ m → r ≡ made.Of c → m ≡ ok c
-unfolding made_answer
-made_of r m c h e = sym h ∙ ap made_answer e
+-- ---- answers of the rounds
+pub solves_no : (m : Calc Trial) (r : Result Solved Refusal) (p : List Float) (q : ℕ) → outcome m ≡ refused q → answer r ≡ refused q → Solves m r p
+solves_no m r p q e h = rw e h
 
-pub made_lost : (r : Made) (m : Answer Curve) → made_answer r ≡ m → r ≡ made.Lost → m ≡ refused 6
-unfolding made_answer
-made_lost r m h e = sym h ∙ ap made_answer e
-
-pub far-mark : (r : Far) (m : Answer Worst) (w : Worst) → far_answer r ≡ m → r ≡ far.Mark w → m ≡ ok w
-unfolding far_answer
-far-mark r m w h e = sym h ∙ ap far_answer e
-
-pub far_lost : (r : Far) (m : Answer Worst) → far_answer r ≡ m → r ≡ far.Lost → m ≡ refused 6
-unfolding far_answer
-far_lost r m h e = sym h ∙ ap far_answer e
-
-pub solves_no : (m : Calc Trial) (p : List Float) → outcome m ≡ refused 6 → Solves m solution.Lost p
-solves_no m p e = rw e refl
-
-pub solves_ok : (m : Calc Trial) (s : Solved) (p : List Float) → outcome m ≡ ok (trial_of s p) → Solves m (solution.Found s) p
+pub solves_ok : (m : Calc Trial) (s : Solved) (p : List Float) → outcome m ≡ ok (trial_of s p) → Solves m (Ok s) p
 solves_ok m s p e = rw e (refl, refl)
 
-found_as : (A : Answer Trial) (r : Solution) (p : List Float) (s : Solved) → SolvesAs A r p → r ≡ solution.Found s → A ≡ ok (trial_of s p)
-found_as (ok a) r p s h e =
-    let f : solution.Found (record { curve = a.curve; far = a.far }) ≡ solution.Found s = sym h.0 ∙ e in
+found_as : (A : Answer Trial) (p : List Float) (s : Solved) → SolvesAs A (Ok s) p → A ≡ ok (trial_of s p)
+found_as (ok a) p s h =
     let g : record { curve = a.curve; far = a.far } ≡ s = cc in
     λ i. ok (record { curve = (g i).curve; params = sym h.1 i; far = (g i).far })
-found_as (refused q) r p s h e = let z : ◌≡◌ {A = ℕ} 0 1 = cc in absurd (omega arith)
+found_as (refused q) p s h = not_refused q h
 
-pub found : (m : Calc Trial) (r : Solution) (p : List Float) (s : Solved) → Solves m r p → r ≡ solution.Found s → outcome m ≡ ok (trial_of s p)
-found m r p s h e = found_as (outcome m) r p s h e
+pub found : (m : Calc Trial) (p : List Float) (s : Solved) → Solves m (Ok s) p → outcome m ≡ ok (trial_of s p)
+found m p s h = found_as (outcome m) p s h
 
-lost_as : (A : Answer Trial) (r : Solution) (p : List Float) → SolvesAs A r p → r ≡ solution.Lost → (q : ℕ) × (A ≡ refused q)
-lost_as (ok a) r p h e = let f = h.0 in let z : ◌≡◌ {A = ℕ} 0 1 = cc in absurd (omega arith)
-lost_as (refused q) r p h e = (q, refl)
+lost_as : (A : Answer Trial) (p : List Float) (q : Refusal) → SolvesAs A (Err q) p → A ≡ refused (number q)
+lost_as (ok a) p q h = cc
+lost_as (refused n) p q h = sym (ap (λ (x : Answer Solved). chain x (λ s. ok (trial_of s p))) h)
 
-pub lost : (m : Calc Trial) (r : Solution) (p : List Float) → Solves m r p → r ≡ solution.Lost → outcome m ≡ refused 6
-lost m r p h e = let w = lost_as (outcome m) r p h e in only_six m w.0 (sym w.1)
+pub lost : (m : Calc Trial) (p : List Float) (q : Refusal) → Solves m (Err q) p → outcome m ≡ refused (number q)
+lost m p q h = lost_as (outcome m) p q h
 
 -- ---- one round
 module _ (ms : List Float) (st et : Point) (c : Curve) (ts : List Float) where
@@ -102,19 +81,19 @@ module _ (ms : List Float) (st et : Point) (c : Curve) (ts : List Float) where
           ∙ ap (λ us. outcome (stepped us)) (sym eu)
           ∙ outcome-then (generate_of ms us st et) (measured us)
 
-      pub attempt_unmade : outcome (generate_of ms us st et) ≡ refused 6 → outcome (attempt ms st et c ts) ≡ refused 6
-      attempt_unmade g = on ∙ ap (λ a. chain a (λ d. outcome (measured us d))) g
+      pub attempt_unmade : (q : ℕ) → refused q ≡ outcome (generate_of ms us st et) → outcome (attempt ms st et c ts) ≡ refused q
+      attempt_unmade q g = on ∙ ap (λ a. chain a (λ d. outcome (measured us d))) (sym g)
 
-      module _ (d : Curve) (g : outcome (generate_of ms us st et) ≡ ok d) where
+      module _ (d : Curve) (g : ok d ≡ outcome (generate_of ms us st et)) where
         on_made : outcome (attempt ms st et c ts) ≡ chain (outcome (max_error ms d us)) (λ w. outcome (last us d w))
-        on_made = on ∙ ap (λ a. chain a (λ d. outcome (measured us d))) g ∙ outcome-then (max_error ms d us) (last us d)
+        on_made = on ∙ ap (λ a. chain a (λ d. outcome (measured us d))) (sym g) ∙ outcome-then (max_error ms d us) (last us d)
 
-        pub attempt-unmeasured : outcome (max_error ms d us) ≡ refused 6 → outcome (attempt ms st et c ts) ≡ refused 6
-        attempt-unmeasured k = on_made ∙ ap (λ a. chain a (λ w. outcome (last us d w))) k
+        pub attempt-unmeasured : (q : ℕ) → refused q ≡ outcome (max_error ms d us) → outcome (attempt ms st et c ts) ≡ refused q
+        attempt-unmeasured q k = on_made ∙ ap (λ a. chain a (λ w. outcome (last us d w))) (sym k)
 
-        pub attempt-done : (w : Worst) → outcome (max_error ms d us) ≡ ok w → outcome (attempt ms st et c ts) ≡ ok (record { curve = d; params = us; far = w })
+        pub attempt-done : (w : Worst) → ok w ≡ outcome (max_error ms d us) → outcome (attempt ms st et c ts) ≡ ok (record { curve = d; params = us; far = w })
         unfolding outcome
-        attempt-done w k = on_made ∙ ap (λ a. chain a (λ w. outcome (last us d w))) k
+        attempt-done w k = on_made ∙ ap (λ a. chain a (λ w. outcome (last us d w))) (sym k)
 
 -- ---- the rounds after it: a stands, b is the next
 module _ (ms : List Float) (st et : Point) (tol : Float) (n : ℕ) (a : Trial) where
@@ -128,8 +107,8 @@ module _ (ms : List Float) (st et : Point) (tol : Float) (n : ℕ) (a : Trial) w
   unfolding improve
   improve-then = outcome-then (attempt ms st et a.curve a.params) weighed
 
-  pub improve_lost : outcome (attempt ms st et a.curve a.params) ≡ refused 6 → outcome (improve (suc n) ms st et tol a) ≡ refused 6
-  improve_lost h = improve-then ∙ ap (λ a. chain a (λ b. outcome (weighed b))) h
+  pub improve_lost : (q : ℕ) → outcome (attempt ms st et a.curve a.params) ≡ refused q → outcome (improve (suc n) ms st et tol a) ≡ refused q
+  improve_lost q h = improve-then ∙ ap (λ a. chain a (λ b. outcome (weighed b))) h
 
   module _ (b : Trial) (h : outcome (attempt ms st et a.curve a.params) ≡ ok b) where
     abbrev ratio : Float
@@ -169,8 +148,8 @@ at_count Q n h f = subst (λ (m : ℕ). Q m (n - 1)) (back n h) (f (n - 1))
 -- the loop: what is left to answer, with n rounds to go, where s and p stand
 module _ (ms : List Float) (st et : Point) (tol : Float) (n : ℕ) (s : Solved) (p : List Float) (whole : Answer Trial)
     (left : whole ≡ outcome (improve n ms st et tol (trial_of s p))) (more : 0 < n) where
-  pub go_lost : outcome (attempt ms st et s.curve p) ≡ refused 6 → whole ≡ refused 6
-  go_lost h = left ∙ at_count (λ m k. outcome (improve m ms st et tol (trial_of s p)) ≡ refused 6) n more (λ k. improve_lost ms st et tol k (trial_of s p) h)
+  pub go_lost : (q : ℕ) → outcome (attempt ms st et s.curve p) ≡ refused q → whole ≡ refused q
+  go_lost q h = left ∙ at_count (λ m k. outcome (improve m ms st et tol (trial_of s p)) ≡ refused q) n more (λ k. improve_lost ms st et tol k (trial_of s p) q h)
 
   module _ (b : Trial) (h : outcome (attempt ms st et s.curve p) ≡ ok b) where
     pub go_off : finite (div binary64 b.far.err s.far.err) ≡ false → whole ≡ refused 6
@@ -210,15 +189,15 @@ module _ (n : ℕ) (ms : List Float) (st et : Point) (tol : Float) where
           ∙ ap (λ ts. outcome (from ts)) (sym et')
           ∙ outcome-then (generate_of ms ts st et) (rounds ts)
 
-      pub tried_unmade : outcome (generate_of ms ts st et) ≡ refused 6 → outcome (tried n ms st et tol) ≡ refused 6
-      tried_unmade g = on_chords ∙ ap (λ a. chain a (λ c. outcome (rounds ts c))) g
+      pub tried_unmade : (q : ℕ) → refused q ≡ outcome (generate_of ms ts st et) → outcome (tried n ms st et tol) ≡ refused q
+      tried_unmade q g = on_chords ∙ ap (λ a. chain a (λ c. outcome (rounds ts c))) (sym g)
 
-      module _ (c : Curve) (g : outcome (generate_of ms ts st et) ≡ ok c) where
+      module _ (c : Curve) (g : ok c ≡ outcome (generate_of ms ts st et)) where
         on_curve : outcome (tried n ms st et tol) ≡ chain (outcome (attempt ms st et c ts)) (λ a. outcome (closing a))
-        on_curve = on_chords ∙ ap (λ a. chain a (λ c. outcome (rounds ts c))) g ∙ outcome-then (attempt ms st et c ts) closing
+        on_curve = on_chords ∙ ap (λ a. chain a (λ c. outcome (rounds ts c))) (sym g) ∙ outcome-then (attempt ms st et c ts) closing
 
-        pub tried_lost : outcome (attempt ms st et c ts) ≡ refused 6 → outcome (tried n ms st et tol) ≡ refused 6
-        tried_lost k = on_curve ∙ ap (λ a. chain a (λ a. outcome (closing a))) k
+        pub tried_lost : (q : ℕ) → outcome (attempt ms st et c ts) ≡ refused q → outcome (tried n ms st et tol) ≡ refused q
+        tried_lost q k = on_curve ∙ ap (λ a. chain a (λ a. outcome (closing a))) k
 
         module _ (a : Trial) (k : outcome (attempt ms st et c ts) ≡ ok a) where
           on_trial : outcome (tried n ms st et tol) ≡ outcome (closing a)
@@ -232,29 +211,29 @@ module _ (n : ℕ) (ms : List Float) (st et : Point) (tol : Float) where
           tried-near t = on_trial ∙ ap (λ (b : Bool). outcome (cond b (improve 7 ms st et tol a) (give a))) t
 
 -- ---- what the code makes of a solution
-pub did_judged : (tol : Float) (s : Solved) (p : List Float) → Did (judged tol (ok (trial_of s p))) (verdict s tol) p
+pub did_judged : (tol : Float) (s : Solved) (p : List Float) → Did (judged tol (ok (trial_of s p))) (Ok (verdict s tol)) p
 unfolding verdict
 did_judged tol s p = go (le s.far.err tol)
   where
-    go : (b : Bool) → Did (pick b (fits s.curve s.far p) (cuts s.far.at)) (pick_tried b (answer.Good s) (answer.Cut s.far.at)) p
+    go : (b : Bool) → Did (pick b (fits s.curve s.far p) (cuts s.far.at)) (Ok (pick_tried b (Good s) (Cut s.far.at))) p
     go true = (refl, refl)
     go false = refl
 
 module _ (s : Solved) (tol : Float) where
-  pub picked_good : le s.far.err tol ≡ true → answer.Good s ≡ verdict s tol
+  pub picked_good : le s.far.err tol ≡ true → Good s ≡ verdict s tol
   unfolding verdict
   picked_good h = sym (rw h)
 
-  pub picked_cut : le s.far.err tol ≡ false → answer.Cut s.far.at ≡ verdict s tol
+  pub picked_cut : le s.far.err tol ≡ false → Cut s.far.at ≡ verdict s tol
   unfolding verdict
   picked_cut h = sym (rw h)
 
 -- ---- two marks
-pub line_lost : (m : Answer Curve) (q : ℕ) (p : List Float) → m ≡ refused q → Did (lined m) (answer.Refused q) p
-line_lost m q p e = rw e refl
+pub line_lost : (m : Answer Curve) (q : ℕ) (r : Result Tried Refusal) (p : List Float) → refused q ≡ m → answer r ≡ refused q → Did (lined m) r p
+line_lost m q r p e h = rw (sym e) h
 
-pub line-done : (m : Answer Curve) (c : Curve) (p : List Float) → m ≡ ok c → p ≡ f0 ∷ f1 ∷ [] → Did (lined m) (answer.Good (record { curve = c; far = no_worst })) p
-line-done m c p e h = rw e (refl, h)
+pub line-done : (m : Answer Curve) (c : Curve) (p : List Float) → ok c ≡ m → p ≡ f0 ∷ f1 ∷ [] → Did (lined m) (Ok (Good (record { curve = c; far = no_worst }))) p
+line-done m c p e h = rw (sym e) (refl, h)
 
 pub two_set : (p : List Float) → length p ≡ 2 → set (set p 0 f0) 1 f1 ≡ f0 ∷ f1 ∷ []
 two_set [] h = absurd (omega arith)
@@ -262,7 +241,7 @@ two_set (x ∷ []) h = absurd (omega arith)
 two_set (x ∷ y ∷ []) h = refl
 two_set (x ∷ y ∷ z ∷ p) h = absurd (omega arith)
 
-pub solves_same : (m k : Calc Trial) (r : Solution) (p : List Float) → outcome m ≡ outcome k → Solves k r p → Solves m r p
+pub solves_same : (m k : Calc Trial) (r : Result Solved Refusal) (p : List Float) → outcome m ≡ outcome k → Solves k r p → Solves m r p
 solves_same m k r p e h = rw e h
 
 -- ---- a part of n marks
@@ -270,15 +249,15 @@ module _ (ms : List Float) (st et : Point) (tol : Float) (n : ℕ) (even : lengt
   half : length ms / 2 ≡ n
   half = omega arith
 
-  pub part_line : n ≤ 2 → (r : Tried) (p : List Float) → Did (lined (outcome (line_of (mark_at ms 0) (mark_at ms 1)))) r p → Did (part_of ms st et tol) r p
+  pub part_line : n ≤ 2 → (r : Result Tried Refusal) (p : List Float) → Did (lined (outcome (line_of (mark_at ms 0) (mark_at ms 1)))) r p → Did (part_of ms st et tol) r p
   unfolding part_of
   part_line h r p d = rw (half, le-leb n 2 h) d
 
   module _ (h : 2 < n) where
-    pub part_lost : (p : List Float) → outcome (tried n ms st et tol) ≡ refused 6 → Did (part_of ms st et tol) (answer.Refused 6) p
+    pub part_lost : (q : ℕ) (r : Result Tried Refusal) (p : List Float) → outcome (tried n ms st et tol) ≡ refused q → answer r ≡ refused q → Did (part_of ms st et tol) r p
     unfolding part_of
-    part_lost p e = rw (half, lt-leb n 2 h, e) refl
+    part_lost q r p e a = rw (half, lt-leb n 2 h, e) a
 
-    pub part_judged : (s : Solved) (p : List Float) (r : Tried) → outcome (tried n ms st et tol) ≡ ok (trial_of s p) → r ≡ verdict s tol → Did (part_of ms st et tol) r p
+    pub part_judged : (s : Solved) (p : List Float) (t : Tried) → outcome (tried n ms st et tol) ≡ ok (trial_of s p) → t ≡ verdict s tol → Did (part_of ms st et tol) (Ok t) p
     unfolding part_of
-    part_judged s p r e v = rw (half, lt-leb n 2 h, e, v) (did_judged tol s p)
+    part_judged s p t e v = rw (half, lt-leb n 2 h, e, v) (did_judged tol s p)

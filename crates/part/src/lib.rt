@@ -9,10 +9,9 @@ ghost use Rattle.marks.specs.Marks.{mark_at};
 ghost use Rattle.marks.specs.Line.{line_of};
 ghost use Rattle.part.specs.Answers.{Solves, Did, trial_of, verdict};
 
-use float::refusal::NOT_FINITE;
-use marks::Made;
+use float::refusal::Refusal;
 use plane::{Curve, Point};
-use stages::{Far, Worst};
+use stages::Worst;
 
 // A second Newton step and each later one is another round, and there are so many more at most.
 const MORE_ROUNDS: usize = 7;
@@ -27,36 +26,30 @@ pub struct Solved {
     pub far: Worst,
 }
 
-// A solution, or that an operation gave NaN or infinity.
-#[derive(Clone, Copy)]
-enum Solution {
-    Found(Solved),
-    Lost,
-}
-
-// What a part comes to: a curve with its largest distance, a cut at a mark, or a refusal by its number.
+// What a part comes to: a curve with its largest distance, or a cut at a mark.
 #[derive(Clone, Copy)]
 pub enum Tried {
     Good(Solved),
     Cut(usize),
-    Refused(u32),
 }
 
 // One round: a Newton step for every mark, least squares, the worst distance.
-fn attempt(marks: &[f64], c: Curve, st: Point, et: Point, params: &mut [f64]) -> Solution
+fn attempt(
+    marks: &[f64],
+    c: Curve,
+    st: Point,
+    et: Point,
+    params: &mut [f64],
+) -> Result<Solved, Refusal>
     requires { (0 < length params.old) × (length marks.now ≡ 2 * length params.old) }
     ensures { Solves (attempt_of marks.now st et c params.old) result params.new }
 {
-    if stages::reparameterize(marks, c, params) {
-        let Made::Of(curve) = squares::generate_bezier(marks, params, st, et) else {
-            return Solution::Lost;
-        };
-        let Far::Mark(far) = stages::max_error_for_curve(marks, curve, params) else {
-            return Solution::Lost;
-        };
-        return Solution::Found(Solved { curve, far });
+    if !stages::reparameterize(marks, c, params) {
+        return Err(Refusal::NotFinite);
     }
-    Solution::Lost
+    let curve = squares::generate_bezier(marks, params, st, et)?;
+    let far = stages::max_error_for_curve(marks, curve, params)?;
+    Ok(Solved { curve, far })
 }
 
 // More rounds, while they improve the solution and it is over the tolerance. The last round counts, be it worse.
@@ -67,47 +60,45 @@ fn improve(
     tolerance: f64,
     first: Solved,
     params: &mut [f64],
-) -> Solution
+) -> Result<Solved, Refusal>
     requires { (0 < length params.old) × (length marks.now ≡ 2 * length params.old) }
     ensures { Solves (improve_of 7 marks.now st et tolerance (trial_of first params.old)) result params.new }
 {
     let mut s = first;
-    let mut left = MORE_ROUNDS;
-    while left > 0 {
-        let Solution::Found(next) = attempt(marks, s.curve, st, et, params) else {
-            return Solution::Lost;
-        };
+    for _ in 0..MORE_ROUNDS {
+        let next = attempt(marks, s.curve, st, et, params)?;
         let ratio = next.far.err / s.far.err;
         if !float::finite(ratio) {
-            return Solution::Lost;
+            return Err(Refusal::NotFinite);
         }
         if (ratio > IMPROVEMENT) | (next.far.err <= tolerance) {
-            return Solution::Found(next);
+            return Ok(next);
         }
         s = next;
-        left -= 1;
     }
-    Solution::Found(s)
+    Ok(s)
 }
 
 // Chord-length parameters and the rounds of a part of three marks or more.
-fn solve(marks: &[f64], st: Point, et: Point, tolerance: f64, params: &mut [f64]) -> Solution
+fn solve(
+    marks: &[f64],
+    st: Point,
+    et: Point,
+    tolerance: f64,
+    params: &mut [f64],
+) -> Result<Solved, Refusal>
     requires { (0 < length params.old) × (length marks.now ≡ 2 * length params.old) }
     ensures { Solves (tried_of (length params.old) marks.now st et tolerance) result params.new }
 {
-    if stages::chords_for_points(marks, params) {
-        let Made::Of(curve) = squares::generate_bezier(marks, params, st, et) else {
-            return Solution::Lost;
-        };
-        let Solution::Found(s) = attempt(marks, curve, st, et, params) else {
-            return Solution::Lost;
-        };
-        if s.far.err > tolerance {
-            return improve(marks, st, et, tolerance, s, params);
-        }
-        return Solution::Found(s);
+    if !stages::chords_for_points(marks, params) {
+        return Err(Refusal::NotFinite);
     }
-    Solution::Lost
+    let curve = squares::generate_bezier(marks, params, st, et)?;
+    let s = attempt(marks, curve, st, et, params)?;
+    if s.far.err > tolerance {
+        return improve(marks, st, et, tolerance, s, params);
+    }
+    Ok(s)
 }
 
 // Within the tolerance a solution is the part's curve; else the part is cut at its worst mark.
@@ -121,21 +112,25 @@ fn judge(s: Solved, tolerance: f64) -> Tried
 }
 
 // The line of a part of two marks, which are its ends, so neither is off it.
-fn try_line(marks: &[f64], params: &mut [f64]) -> Tried
+fn try_line(marks: &[f64], params: &mut [f64]) -> Result<Tried, Refusal>
     requires { (length params.old ≡ 2) × (length marks.now ≡ 4) }
     ensures { Did (lined (outcome (line_of (mark_at marks.now 0) (mark_at marks.now 1)))) result params.new }
 {
     params[0] = 0.0;
     params[1] = 1.0;
-    let Made::Of(curve) = marks::fit_line(marks::mark_at(marks, 0), marks::mark_at(marks, 1)) else {
-        return Tried::Refused(NOT_FINITE);
-    };
+    let curve = marks::fit_line(marks::mark_at(marks, 0), marks::mark_at(marks, 1))?;
     let far = Worst { err: 0.0, at: 0 };
-    Tried::Good(Solved { curve, far })
+    Ok(Tried::Good(Solved { curve, far }))
 }
 
 // One part, with the tangents at its ends: what it comes to, and its parameters in the lent slice.
-pub fn try_part(marks: &[f64], st: Point, et: Point, tolerance: f64, params: &mut [f64]) -> Tried
+pub fn try_part(
+    marks: &[f64],
+    st: Point,
+    et: Point,
+    tolerance: f64,
+    params: &mut [f64],
+) -> Result<Tried, Refusal>
     requires { (2 ≤ length params.old) × (length marks.now ≡ 2 * length params.old) }
     ensures { Did (part_of marks.now st et tolerance) result params.new }
 {
@@ -143,8 +138,6 @@ pub fn try_part(marks: &[f64], st: Point, et: Point, tolerance: f64, params: &mu
     if n <= 2 {
         return try_line(marks, params);
     }
-    let Solution::Found(s) = solve(marks, st, et, tolerance, params) else {
-        return Tried::Refused(NOT_FINITE);
-    };
-    judge(s, tolerance)
+    let s = solve(marks, st, et, tolerance, params)?;
+    Ok(judge(s, tolerance))
 }

@@ -17,9 +17,7 @@ use Rattle.ring.proofs.Whole.{again-small, halves}
 use Rattle.joints.specs.Joints.{Inner}
 use Rattle.tangents.specs.declared.Ways.{Ways}
 use Rattle.tangents.specs.declared.Cutting.{Cutting}
-use Rattle.tangents.specs.declared.Turn.{Turn}
-use Rattle.tangents.specs.declared.Turn.TheVariants as turn
-use Rattle.tangents.specs.Ways.{ways_at, marks_of, start_of, end_of, turn_answer}
+use Rattle.tangents.specs.Ways.{ways_at, marks_of, start_of, end_of}
 use Rattle.tangents.proofs.Blocks.{ways_as-closed}
 use Rattle.parts.specs.declared.Heading.{Heading}
 use Rattle.parts.specs.declared.Heading.TheVariants.{Given, By}
@@ -82,14 +80,12 @@ module _ (h : Heading) (ms : List Float) (n size j : ℕ) (z : 0 < size) (l : le
   cut_closed = let i = cut_inner in let s = again-small (outline_in h) in (i.0, (i.1.0, omega (arith, i)))
 
   -- either of them, read as of a closed outline
-  module _ (side : Ways → Point) (own : Answer Point) (r : Turn) (q : turn_answer r ≡ outcome (ways_at (whole Closed ms) j)) where
-    answered : one side (turn_answer r) ≡ tangent_in side own (marks_in h ms) n size j
-    answered = ap (one side) (q ∙ ap outcome (ways_as-closed (outline_in h) ms j cut_inner)) ∙ sym (at_cut side own (marks_in h ms) n size j o)
+  module _ (side : Ways → Point) (own : Answer Point) where
+    answered : one side (outcome (ways_at (whole Closed ms) j)) ≡ tangent_in side own (marks_in h ms) n size j
+    answered = ap (one side) (ap outcome (ways_as-closed (outline_in h) ms j cut_inner)) ∙ sym (at_cut side own (marks_in h ms) n size j o)
 
-    pub cut_lost : r ≡ turn.Lost → refused 6 ≡ tangent_in side own (marks_in h ms) n size j
-    unfolding turn_answer
-    cut_lost e = sym (ap (λ (t : Turn). one side (turn_answer t)) e) ∙ answered
+    pub cut_lost : (q : ℕ) → refused q ≡ outcome (ways_at (whole Closed ms) j) → refused q ≡ tangent_in side own (marks_in h ms) n size j
+    cut_lost q e = ap (one side) e ∙ answered
 
-    pub cut_found : (w : Ways) → r ≡ turn.At w → ok (side w) ≡ tangent_in side own (marks_in h ms) n size j
-    unfolding turn_answer
-    cut_found w e = sym (ap (λ (t : Turn). one side (turn_answer t)) e) ∙ answered
+    pub cut_found : (w : Ways) → ok w ≡ outcome (ways_at (whole Closed ms) j) → ok (side w) ≡ tangent_in side own (marks_in h ms) n size j
+    cut_found w e = ap (one side) e ∙ answered

@@ -3,12 +3,13 @@
 
 ghost use Rattle.std.specs.Prelude.{◌≡◌, ◌+◌, ◌*◌, ◌≤◌, ◌<◌, length};
 ghost use Rattle.limits.specs.Limits.{most_numbered};
-ghost use Rattle.marks.specs.Answers.{way_answer};
+ghost use Rattle.float.specs.Refusal.{answer};
 ghost use Rattle.parts.specs.Headings.{outline_in, marks_in, outer, own_start, own_end, start_in, end_in};
 
-use marks::Way;
+use float::refusal::Refusal;
+use plane::Point;
 use ring::Outline;
-use tangents::{Cutting, Turn, Ways};
+use tangents::{Cutting, Ways};
 
 // The tangents at the ends of a run: given ones, of all marks as one part, or those of the blocks that an outline is cut into.
 #[derive(Clone, Copy)]
@@ -36,63 +37,63 @@ fn is_outer(n: usize, size: usize, at: usize) -> bool
 }
 
 // The tangent with which a block starts at mark `at`.
-fn own_start(heading: Heading, marks: &[f64], n: usize, at: usize) -> Way
+fn own_start(heading: Heading, marks: &[f64], n: usize, at: usize) -> Result<Point, Refusal>
     requires marks_len { length (marks_in heading marks.now) ≡ 2 * n }
     requires at_bound { (at + 2 ≤ n) × (n ≤ most_numbered) }
-    ensures { way_answer result ≡ own_start heading (marks_in heading marks.now) n at }
+    ensures { answer result ≡ own_start heading (marks_in heading marks.now) n at }
 {
     match heading {
-        Heading::Given(ways) => {
-            let start = ways.start;
-            Way::Toward(start)
-        }
+        Heading::Given(ways) => Ok(ways.start),
         Heading::By(cutting) => tangents::start_of(cutting, marks, n, at),
     }
 }
 
 // The tangent with which a block ends at mark `at`.
-fn own_end(heading: Heading, marks: &[f64], n: usize, at: usize) -> Way
+fn own_end(heading: Heading, marks: &[f64], n: usize, at: usize) -> Result<Point, Refusal>
     requires marks_len { length (marks_in heading marks.now) ≡ 2 * n }
     requires at_nonzero { (0 < at) × (at < n) × (n ≤ most_numbered) }
-    ensures { way_answer result ≡ own_end heading (marks_in heading marks.now) n at }
+    ensures { answer result ≡ own_end heading (marks_in heading marks.now) n at }
 {
     match heading {
-        Heading::Given(ways) => {
-            let end = ways.end;
-            Way::Toward(end)
-        }
+        Heading::Given(ways) => Ok(ways.end),
         Heading::By(cutting) => tangents::end_of(cutting, marks, n, at + 1),
     }
 }
 
 // The tangent with which a part starts at mark `at`: the block's, or at a cut the shared one, turned about.
-pub fn start_in(heading: Heading, marks: &[f64], n: usize, size: usize, at: usize) -> Way
+pub fn start_in(
+    heading: Heading,
+    marks: &[f64],
+    n: usize,
+    size: usize,
+    at: usize,
+) -> Result<Point, Refusal>
     requires size_nonzero { (0 < size) × (length (marks_in heading marks.now) ≡ 2 * n) }
     requires at_bound { (at + 2 ≤ n) × (n ≤ most_numbered) }
-    ensures { way_answer result ≡ start_in heading (marks_in heading marks.now) n size at }
+    ensures { answer result ≡ start_in heading (marks_in heading marks.now) n size at }
 {
     if is_outer(n, size, at) {
         return own_start(heading, marks, n, at);
     }
-    let Turn::At(ways) = tangents::ways_round(marks, at) else {
-        return Way::Lost;
-    };
-    let turned = ways.start;
-    Way::Toward(turned)
+    let ways = tangents::ways_round(marks, at)?;
+    Ok(ways.start)
 }
 
 // The tangent with which a part ends at mark `at`: the block's, or at a cut the shared one.
-pub fn end_in(heading: Heading, marks: &[f64], n: usize, size: usize, at: usize) -> Way
+pub fn end_in(
+    heading: Heading,
+    marks: &[f64],
+    n: usize,
+    size: usize,
+    at: usize,
+) -> Result<Point, Refusal>
     requires size_nonzero { (0 < size) × (length (marks_in heading marks.now) ≡ 2 * n) }
     requires at_nonzero { (0 < at) × (at < n) × (n ≤ most_numbered) }
-    ensures { way_answer result ≡ end_in heading (marks_in heading marks.now) n size at }
+    ensures { answer result ≡ end_in heading (marks_in heading marks.now) n size at }
 {
     if is_outer(n, size, at) {
         return own_end(heading, marks, n, at);
     }
-    let Turn::At(ways) = tangents::ways_round(marks, at) else {
-        return Way::Lost;
-    };
-    let shared = ways.end;
-    Way::Toward(shared)
+    let ways = tangents::ways_round(marks, at)?;
+    Ok(ways.end)
 }

@@ -12,9 +12,8 @@ use Rattle.float.specs.Answer.{Answer, ok, refused, unless, ◌>>=◌}
 use Rattle.lines.specs.Lines.{refusal_line}
 use Rattle.lines.specs.Handed.{shown}
 use Rattle.path.specs.Curves.{eights}
-use Rattle.import.specs.Import.{Drawn, Left, Read, read_of, fitting, imported_answer, left, settled, import_of}
+use Rattle.import.specs.Import.{Left, Read, read_of, fitting, left, settled, import_of}
 use Rattle.import.specs.declared.Imported.{Imported}
-use Rattle.import.specs.declared.Imported.TheVariants as imported
 use Rattle.path_list.specs.PathList.{path_lines, read_lines, drawn_of, drawn_lines, lines_of, path_list_of}
 use Rattle.path_list.proofs.Lines.{path-front}
 
@@ -53,7 +52,7 @@ unfolding import_of drawn_of
 import_drawn text C h = rw (sym h)
 
 -- what a call of import says
-abbrev found : ℕ → Bool → Drawn
+abbrev found : ℕ → Bool → Imported
 found k z = record { count = k; closed = z }
 
 shows_path : (a : Answer Read) (C : List Float) {k : ℕ} {z : Bool} {C' : List Float} → ((p : Read) → a ≡ ok p → length p.curves ≤ 512) → left (ok (found k z)) C' ≡ settled C a
@@ -61,8 +60,8 @@ shows_path : (a : Answer Read) (C : List Float) {k : ℕ} {z : Bool} {C' : List 
 shows_path (ok p) C {k} {z} few e =
     let a = ap (λ (l : Left). l.answer) e in
     let f : found k z ≡ found (length p.curves) p.closed = cc in
-    let n : k ≡ length p.curves = ap (λ (x : Drawn). x.count) f in
-    let w : z ≡ p.closed = ap (λ (x : Drawn). x.closed) f in
+    let n : k ≡ length p.curves = ap (λ (x : Imported). x.count) f in
+    let w : z ≡ p.closed = ap (λ (x : Imported). x.closed) f in
     (rw n (few p refl), rw (n, w, ap (λ (l : Left). l.curves) e) (sym (path-front p.closed p.curves (drop (length (eights p.curves)) C))))
 shows_path (refused q) C few e =
     let a = ap (λ (l : Left). l.answer) e in
@@ -79,11 +78,11 @@ shows_refusal (refused q') C {q} e =
     let z : q ≡ q' = cc in
     rw z
 
-module _ (text : List ℕ) (C : List Float) {C' : List Float} {r : Imported} (h : 4096 ≡ length C) (e : left (imported_answer r) C' ≡ import_of text C) where
-  pub done_lines : {k : ℕ} {z : Bool} → r ≡ imported.Path k z → (k ≤ 512) × (shown (drawn_lines text) ≡ path_lines k z C')
+module _ (text : List ℕ) (C : List Float) {C' : List Float} (h : 4096 ≡ length C) where
+  pub done_lines : {k : ℕ} {z : Bool} → left (ok (found k z)) C' ≡ import_of text C → (k ≤ 512) × (shown (drawn_lines text) ≡ path_lines k z C')
   unfolding drawn_lines
-  done_lines i = shows_path (drawn_of text) C (drawn-few text) (ap (λ s. left (imported_answer s) C') (sym i) ∙ e ∙ import_drawn text C h)
+  done_lines e = shows_path (drawn_of text) C (drawn-few text) (e ∙ import_drawn text C h)
 
-  pub refused_lines : {q : ℕ} → r ≡ imported.Refused q → shown (drawn_lines text) ≡ refusal_line q
+  pub refused_lines : {q : ℕ} → left (refused q) C' ≡ import_of text C → shown (drawn_lines text) ≡ refusal_line q
   unfolding drawn_lines
-  refused_lines i = shows_refusal (drawn_of text) C (ap (λ s. left (imported_answer s) C') (sym i) ∙ e ∙ import_drawn text C h)
+  refused_lines e = shows_refusal (drawn_of text) C (e ∙ import_drawn text C h)

@@ -2,15 +2,16 @@
 #![tactic(auto)]
 
 ghost use Rattle.std.specs.Prelude.{◌≡◌, ◌+◌, ◌*◌, ◌≤◌, length};
+ghost use Rattle.float.specs.Refusal.{answer};
 ghost use Rattle.form.specs.Form.{curve_numbers};
 ghost use Rattle.text.specs.Put.{Put};
-ghost use Rattle.lines.specs.Handed.{shown, handed, listed_answer, hand_over};
+ghost use Rattle.lines.specs.Handed.{shown, handed, hand_over};
 ghost use Rattle.path_list.specs.PathList.{closed_word, head_line, curve_lines, path_lines, drawn_lines, path_list_of};
 
-use float::refusal::NO_ROOM;
+use float::refusal::Refusal;
 use form::CURVE_NUMBERS;
 use import::{Imported, import_path};
-use lines::{Listed, hand_over, put_piece, put_refusal};
+use lines::{hand_over, put_piece, put_refusal};
 use text::{put_bytes, put_decimal};
 
 // The most bytes that are taken.
@@ -57,11 +58,9 @@ fn put_curves(out: &mut [u8], at: usize, curves: &[f64], k: usize) -> usize
     ensures { (result ≤ at + 153 * k) × Put out.old at (curve_lines k curves.now) out.new result }
 {
     let mut end = at;
-    let mut i = 0;
-    while i < k {
+    for i in 0..k {
         let j = CURVE_NUMBERS * i;
         end = put_piece(out, end, i as u32, &curves[j..]);
-        i += 1;
     }
     end
 }
@@ -82,8 +81,8 @@ fn put_drawn(text: &[u8], out: &mut [u8]) -> usize
 {
     let mut curves = curve_room();
     match import_path(text, &mut curves) {
-        Imported::Path { count, closed } => put_path(out, &curves, count, closed),
-        Imported::Refused(q) => put_refusal(out, q),
+        Ok(Imported { count, closed }) => put_path(out, &curves, count, closed),
+        Err(q) => put_refusal(out, q.number()),
     }
 }
 
@@ -93,15 +92,15 @@ fn put_list(text: &[u8], out: &mut [u8]) -> usize
     ensures { (result ≤ 78369) × Put out.old 0 (path_list_of text.now) out.new result }
 {
     if text.len() > MOST_BYTES {
-        return put_refusal(out, NO_ROOM);
+        return put_refusal(out, Refusal::NoRoom.number());
     }
     put_drawn(text, out)
 }
 
 // Lists the curves of path data in the first bytes of `out`: a line for how many there are and whether Z closed them, and one for each, or one line that names a
 // refusal. Where `out` is too short for the text the call itself is refused, and `out` stays as it is.
-pub fn list_path(text: &[u8], out: &mut [u8]) -> Listed
-    ensures { handed (listed_answer result) out.new ≡ hand_over (path_list_of text.now) out.old }
+pub fn list_path(text: &[u8], out: &mut [u8]) -> Result<usize, Refusal>
+    ensures { handed (answer result) out.new ≡ hand_over (path_list_of text.now) out.old }
 {
     let mut list = list_room();
     let size = put_list(text, &mut list);

@@ -48,10 +48,8 @@ fn curves_length(form: Form, curves: &[f64], n: usize) -> usize
     ensures { (result ≡ length (curves_text n (curve_at form curves.now))) × (result ≤ 92 * n) }
 {
     let mut total = 0;
-    let mut i = 0;
-    while i < n {
+    for i in 0..n {
         total += curve_length(curve_at(form, curves, i));
-        i += 1;
     }
     total
 }
@@ -112,10 +110,8 @@ fn put_curves(out: &mut [u8], at: usize, form: Form, curves: &[f64], n: usize) -
     ensures { Put out.old at (curves_text n (curve_at form curves.now)) out.new result }
 {
     let mut end = at;
-    let mut i = 0;
-    while i < n {
+    for i in 0..n {
         end = put_curve(out, end, curve_at(form, curves, i));
-        i += 1;
     }
     end
 }

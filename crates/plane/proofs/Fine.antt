@@ -1,6 +1,8 @@
 -- Where a run over points has a finite end, each operation on the way was finite, and so were the numbers that it started from. Assumes nothing.
 use mathlib.Core.Path.{◌≡◌, refl, sym, ap, ◌∙◌}
 use mathlib.Core.Bool.{Bool, true, false, ◌&&◌, cond}
+use Rattle.std.proofs.Common.{Option, Some, None}
+use Rattle.std.specs.Option.{unwrap_or}
 use lib.Ieee.{Float, binary64, eq, mul, div, of_bits}
 use Rattle.float.specs.Number.{finite, f0, f1}
 use Rattle.float.specs.Calc.{Calc, give, ◌>>=◌, ◌/!◌}
@@ -9,11 +11,9 @@ use Rattle.float.proofs.Strict.{Fin, add-finite, sub-finite, mul-finite}
 use Rattle.float.proofs.Signs.{negative, square_sign, add-sign}
 use Rattle.float.proofs.Answers.{Fine}
 use Rattle.root.proofs.Laws.{sqrt_strict}
-use Rattle.plane.specs.Plane.{plus, minus, times, dot_of, magnitude_of, distance_of, direction_by, direction_of, or_zero, unit_of}
+use Rattle.plane.specs.Plane.{at, plus, minus, times, dot_of, magnitude_of, distance_of, direction_by, direction_of, or_zero, unit_of}
 use Rattle.plane.specs.Range.{point_finite}
 use Rattle.plane.specs.declared.Point.{Point}
-use Rattle.plane.specs.declared.Direction.{Direction}
-use Rattle.plane.specs.declared.Direction.TheVariants.{Toward, Nowhere}
 
 -- both coordinates are finite
 abbrev pub Good : Point → Type 0
@@ -95,30 +95,35 @@ pub times_same : (p : Point) (k : Float) → Fin k → (times p k).fine ≡ poin
 times_same p k h = ap (λ (b : Bool). b && (times p k).fine) (sym h) ∙ times-ends p k
 
 -- ---- directions: fine exactly where the magnitude and the vector that the answer stands for are finite
-pub none_finite : point_finite (or_zero Nowhere) ≡ true
+pub zero_without : (d : Option Point) → unwrap_or d (at f0 f0) ≡ or_zero d
+unfolding or_zero
+zero_without (Some u) = refl
+zero_without None = refl
+
+pub none_finite : point_finite (or_zero None) ≡ true
 unfolding or_zero point_finite finite of_bits
 none_finite = refl
 
 module _ (p : Point) (m : Float) where
-  abbrev some : Calc Direction
-  some = do give (Toward (← times p (← f1 /! m)))
+  abbrev some : Calc (Option Point)
+  some = do give (Some (← times p (← f1 /! m)))
 
   by_same : (direction_by p m).fine ≡ point_finite (or_zero (direction_by p m).val)
   unfolding direction_by or_zero
   by_same = go (eq m f0)
     where
-      go : (b : Bool) → (cond b (give Nowhere) some).fine ≡ point_finite (or_zero (cond b (give Nowhere) some).val)
+      go : (b : Bool) → (cond b (give None) some).fine ≡ point_finite (or_zero (cond b (give None) some).val)
       go true = sym none_finite
       go false = ap (λ (b : Bool). finite (div binary64 f1 m) && b) (and-true (times p (div binary64 f1 m)).fine) ∙ times-ends p (div binary64 f1 m)
 
   -- by the test of the magnitude
-  pub no_direction : eq m f0 ≡ true → Nowhere ≡ (direction_by p m).val
+  pub no_direction : eq m f0 ≡ true → None ≡ (direction_by p m).val
   unfolding direction_by
   no_direction h = rw h
 
-  pub its_direction : (u : Point) → eq m f0 ≡ false → u ≡ (times p (div binary64 f1 m)).val → Toward u ≡ (direction_by p m).val
+  pub its_direction : (u : Point) → eq m f0 ≡ false → u ≡ (times p (div binary64 f1 m)).val → Some u ≡ (direction_by p m).val
   unfolding direction_by
-  its_direction u h e = rw h (ap Toward e)
+  its_direction u h e = rw h (ap Some e)
 
 pub direction_same : (p : Point) → (direction_of p).fine ≡ finite (magnitude_of p).val && point_finite (or_zero (direction_by p (magnitude_of p).val).val)
 unfolding direction_of

@@ -1,12 +1,10 @@
 -- Points of the plane, operation by operation as in coordinate.rs and coord2.rs. Definitions only.
-use Rattle.std.specs.Prelude.{Bool, ◌&&◌, cond, Float}
+use Rattle.std.specs.Prelude.{Bool, ◌&&◌, cond, Float, Option, Some, None}
 use Rattle.std.specs.Float.Ieee.{eq}
 use Rattle.float.specs.Number.{f0, f1}
 use Rattle.float.specs.Calc.{Calc, give, ◌>>=◌, ◌+!◌, ◌-!◌, ◌*!◌, ◌/!◌}
 use Rattle.root.specs.Operation.{sqrt! }
 use Rattle.plane.specs.declared.Point.{Point}
-use Rattle.plane.specs.declared.Direction.{Direction}
-use Rattle.plane.specs.declared.Direction.TheVariants.{Toward, Nowhere}
 
 abbrev pub at : Float → Float → Point
 at x y = record { x = x; y = y }
@@ -44,18 +42,18 @@ unfoldable pub distance_of : Point → Point → Calc Float
 distance_of p target = do magnitude_of (← minus target p)
 
 -- to_unit_vector: a vector of magnitude 0 has no direction, any other that of its product with 1 / magnitude
-unfoldable pub direction_by : Point → Float → Calc Direction
-direction_by p magnitude = cond (eq magnitude f0) (give Nowhere) (do give (Toward (← times p (← f1 /! magnitude))))
+unfoldable pub direction_by : Point → Float → Calc (Option Point)
+direction_by p magnitude = cond (eq magnitude f0) (give None) (do give (Some (← times p (← f1 /! magnitude))))
 
-unfoldable pub direction_of : Point → Calc Direction
+unfoldable pub direction_of : Point → Calc (Option Point)
 direction_of p = do
   magnitude ← magnitude_of p
   direction_by p magnitude
 
 -- the vector that each answer stands for: where there is no direction it is zero
-unfoldable pub or_zero : Direction → Point
-or_zero (Toward u) = u
-or_zero Nowhere = at f0 f0
+unfoldable pub or_zero : Option Point → Point
+or_zero (Some u) = u
+or_zero None = at f0 f0
 
 -- the unit vector as the Rust has it
 unfoldable pub unit_of : Point → Calc Point

@@ -6,7 +6,7 @@ ghost use Rattle.plane.specs.Plane.{equal, plus, minus, times, dot_of, magnitude
 ghost use Rattle.plane.specs.Range.{coordinate, point_in_range, curve_in_range, point_finite};
 
 // A point of the plane, or a vector.
-#[derive(Clone, Copy)]
+#[derive(Clone, Copy, PartialEq)]
 pub struct Point {
     pub x: f64,
     pub y: f64,
@@ -21,18 +21,12 @@ pub struct Curve {
     pub end: Point,
 }
 
-// The unit vector in a vector's direction, or that a vector has none.
-#[derive(Clone, Copy)]
-pub enum Direction {
-    Toward(Point),
-    Nowhere,
-}
-
 // Whether two points are equal in both coordinates. Numbers are compared and not their bits, so minus zero equals zero.
+#[tactic(auto, unfolding(crate::specs::Plane::equal))]
 pub fn equal(p: Point, q: Point) -> bool
     ensures { result ≡ equal p q }
 {
-    (p.x == q.x) & (p.y == q.y)
+    p == q
 }
 
 // The sum of two vectors.
@@ -87,30 +81,27 @@ pub fn distance_to(p: Point, target: Point) -> f64
 }
 
 // The direction of p, whose magnitude is at hand: the product with 1 / magnitude, which is not the quotient, and none where the magnitude is 0.
-pub fn unit_by(p: Point, magnitude: f64) -> Direction
+pub fn unit_by(p: Point, magnitude: f64) -> Option<Point>
     ensures { result ≡ (direction_by p magnitude).val }
 {
     if magnitude == 0.0 {
-        return Direction::Nowhere;
+        return None;
     }
-    Direction::Toward(scale(p, 1.0 / magnitude))
+    Some(scale(p, 1.0 / magnitude))
 }
 
 // The direction of p, if it has one.
-pub fn to_unit_vector(p: Point) -> Direction
+pub fn to_unit_vector(p: Point) -> Option<Point>
     ensures { result ≡ (direction_of p).val }
 {
     unit_by(p, magnitude(p))
 }
 
 // The unit vector as the Rust has it, which is zero where there is no direction.
-pub fn or_zero(direction: Direction) -> Point
+pub fn or_zero(direction: Option<Point>) -> Point
     ensures { result ≡ or_zero direction }
 {
-    let Direction::Toward(u) = direction else {
-        return Point { x: 0.0, y: 0.0 };
-    };
-    u
+    direction.unwrap_or(Point { x: 0.0, y: 0.0 })
 }
 
 // Whether both coordinates are finite.

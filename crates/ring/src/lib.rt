@@ -42,11 +42,7 @@ fn copy(numbers: &[f64], out: &mut [f64])
     requires { length numbers.now ≤ length out.old }
     ensures { out.new ≡ written numbers.now out.old }
 {
-    let mut i = 0;
-    while i < numbers.len() {
-        out[i] = numbers[i];
-        i += 1;
-    }
+    out[..numbers.len()].copy_from_slice(numbers);
 }
 
 // The marks of a closed outline from mark `from` on, with mark 0 behind them, over the front of a slice.

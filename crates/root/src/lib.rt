@@ -98,8 +98,7 @@ fn root_by_digits(a: u64) -> u64
     let mut root: u64 = 0;
     let mut rest: u64 = 0;
     let mut left: u64 = a;
-    let mut i: u64 = 0;
-    while i < 54 {
+    for _turn in 0..54u64 {
         let next = rest * 4 + left / 0x10_0000_0000_0000;
         left = left % 0x10_0000_0000_0000 * 4;
         let trial = root * 4 + 1;
@@ -110,7 +109,6 @@ fn root_by_digits(a: u64) -> u64
             rest = next;
             root = root * 2;
         }
-        i += 1;
     }
     root
 }

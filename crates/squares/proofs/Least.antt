@@ -2,7 +2,7 @@
 use mathlib.Core.Path.{◌≡◌, sym, ap, ◌∙◌}
 use mathlib.Core.Bool.{true, false}
 use mathlib.Core.List.{List}
-use Prim.Native.Nat.{◌-◌}
+use Prim.Native.Nat.{ℕ, ◌-◌}
 use lib.ListN.{length}
 use lib.Ieee.{Float}
 use Rattle.float.specs.Calc.{Calc, ◌>>=◌}
@@ -53,8 +53,8 @@ module _ (ms ts : List Float) (st et : Point) where
           ∙ ap (λ (x : Sums). outcome (solved x)) (sym is)
           ∙ outcome-then (alphas_of s) placed
 
-      pub generate_lost : refused 6 ≡ outcome (alphas_of s) → refused 6 ≡ outcome (generate_of ms ts st et)
-      generate_lost e = sym (summed ∙ ap (λ (x : Answer Alphas). Answer.◌>>=◌ x (λ a. outcome (placed a))) (sym e))
+      pub generate_lost : (q : ℕ) → refused q ≡ outcome (alphas_of s) → refused q ≡ outcome (generate_of ms ts st et)
+      generate_lost q e = sym (summed ∙ ap (λ (x : Answer Alphas). Answer.◌>>=◌ x (λ a. outcome (placed a))) (sym e))
 
       pub generate_on : (a : Alphas) → ok a ≡ outcome (alphas_of s) → {first last : Point} → first ≡ mark_at ms 0 → last ≡ mark_at ms (length ts - 1) → {r : Answer Curve} → r ≡ outcome (place_of first last st et a) → r ≡ outcome (generate_of ms ts st et)
       generate_on a e f l k = simp (f, l) at k ∙ sym (summed ∙ ap (λ (x : Answer Alphas). Answer.◌>>=◌ x (λ a. outcome (placed a))) (sym e))

@@ -6,13 +6,14 @@ mod sums;
 
 ghost use Rattle.std.specs.Prelude.{◌≡◌, ◌*◌, ◌<◌, length};
 ghost use Rattle.float.specs.Answer.{outcome};
-ghost use Rattle.marks.specs.Answers.{made_answer};
+ghost use Rattle.float.specs.Refusal.{answer};
 ghost use Rattle.squares.specs.Squares.{generate_of};
 
-use crate::solve::{Solved, alphas_of, place};
+use crate::solve::{alphas_of, place};
 use crate::sums::{sums_finite, sums_of};
-use marks::{Made, mark_at};
-use plane::Point;
+use float::refusal::Refusal;
+use marks::mark_at;
+use plane::{Curve, Point};
 
 // The curve from the first mark to the last whose controls, out along the tangents, fit the marks at their parameters best.
 pub fn generate_bezier(
@@ -20,23 +21,21 @@ pub fn generate_bezier(
     params: &[f64],
     start_tangent: Point,
     end_tangent: Point,
-) -> Made
+) -> Result<Curve, Refusal>
     requires { (0 < length params.now) × (length marks.now ≡ 2 * length params.now) }
-    ensures { made_answer result ≡ outcome (generate_of marks.now params.now start_tangent end_tangent) }
+    ensures { answer result ≡ outcome (generate_of marks.now params.now start_tangent end_tangent) }
 {
     let s = sums_of(marks, params, start_tangent, end_tangent);
-    if sums_finite(s) {
-        let Solved::Of(a) = alphas_of(s) else {
-            return Made::Lost;
-        };
-        let n = params.len();
-        return place(
-            mark_at(marks, 0),
-            mark_at(marks, n - 1),
-            start_tangent,
-            end_tangent,
-            a,
-        );
+    if !sums_finite(s) {
+        return Err(Refusal::NotFinite);
     }
-    Made::Lost
+    let a = alphas_of(s)?;
+    let n = params.len();
+    place(
+        mark_at(marks, 0),
+        mark_at(marks, n - 1),
+        start_tangent,
+        end_tangent,
+        a,
+    )
 }

@@ -1,12 +1,11 @@
 // From the sums to a curve: determinants, alphas and controls.
 ghost use Rattle.std.specs.Prelude.{◌≡◌};
 ghost use Rattle.float.specs.Answer.{outcome};
-ghost use Rattle.marks.specs.Answers.{made_answer};
+ghost use Rattle.float.specs.Refusal.{answer};
 ghost use Rattle.squares.specs.Solve.{determinants_of, quotients_of, alphas_of, curve_of, place_of};
-ghost use Rattle.squares.specs.Tests.{solved_answer};
 
 use crate::sums::Sums;
-use marks::Made;
+use float::refusal::Refusal;
 use plane::{Curve, Point};
 
 // The determinants of the matrices by Cramer's rule.
@@ -22,13 +21,6 @@ pub struct Determinants {
 pub struct Alphas {
     pub alpha_l: f64,
     pub alpha_r: f64,
-}
-
-// The alphas, or that an operation gave NaN or infinity.
-#[derive(Clone, Copy)]
-pub enum Solved {
-    Of(Alphas),
-    Lost,
 }
 
 // The three determinants.
@@ -53,54 +45,62 @@ fn quotients_of(d: Determinants) -> Alphas
 }
 
 // The alphas, both 0 where the matrices are all but singular. Each determinant is tested, used or not.
-pub fn alphas_of(s: Sums) -> Solved
-    ensures { solved_answer result ≡ outcome (alphas_of s) }
+pub fn alphas_of(s: Sums) -> Result<Alphas, Refusal>
+    ensures { answer result ≡ outcome (alphas_of s) }
 {
     let d = determinants_of(s);
-    if float::three_finite(d.det_c0_c1, d.det_c0_x, d.det_x_c1) {
-        if float::abs(d.det_c0_c1) < 1.0e-4 {
-            return Solved::Of(Alphas {
-                alpha_l: 0.0,
-                alpha_r: 0.0,
-            });
-        }
-        let a = quotients_of(d);
-        if float::two_finite(a.alpha_l, a.alpha_r) {
-            return Solved::Of(a);
-        }
+    if !float::three_finite(d.det_c0_c1, d.det_c0_x, d.det_x_c1) {
+        return Err(Refusal::NotFinite);
     }
-    Solved::Lost
+    if float::abs(d.det_c0_c1) < 1.0e-4 {
+        return Ok(Alphas {
+            alpha_l: 0.0,
+            alpha_r: 0.0,
+        });
+    }
+    let a = quotients_of(d);
+    if !float::two_finite(a.alpha_l, a.alpha_r) {
+        return Err(Refusal::NotFinite);
+    }
+    Ok(a)
 }
 
 // The curve whose controls stand l and r out along the tangents.
-fn curve_of(first: Point, last: Point, st: Point, et: Point, l: f64, r: f64) -> Made
-    ensures { made_answer result ≡ outcome (curve_of first last st et l r) }
+fn curve_of(
+    first: Point,
+    last: Point,
+    st: Point,
+    et: Point,
+    l: f64,
+    r: f64,
+) -> Result<Curve, Refusal>
+    ensures { answer result ≡ outcome (curve_of first last st et l r) }
 {
     let cp1 = plane::add(first, plane::scale(st, l));
     let cp2 = plane::add(last, plane::scale(et, r));
     if plane::point_finite(cp1) & plane::point_finite(cp2) {
-        return Made::Of(Curve {
+        return Ok(Curve {
             start: first,
             cp1,
             cp2,
             end: last,
         });
     }
-    Made::Lost
+    Err(Refusal::NotFinite)
 }
 
 // The curve with the controls where the alphas put them or, if one is negative or next to nothing, a third of the ends' distance out.
-pub fn place(first: Point, last: Point, st: Point, et: Point, a: Alphas) -> Made
-    ensures { made_answer result ≡ outcome (place_of first last st et a) }
+pub fn place(first: Point, last: Point, st: Point, et: Point, a: Alphas) -> Result<Curve, Refusal>
+    ensures { answer result ≡ outcome (place_of first last st et a) }
 {
     let seg_length = plane::distance_to(first, last);
     let epsilon = 1.0e-6 * seg_length;
-    if float::finite(epsilon) {
-        if (a.alpha_l < epsilon) | (a.alpha_r < epsilon) {
-            let dist = seg_length / 3.0;
-            return curve_of(first, last, st, et, dist, dist);
-        }
-        return curve_of(first, last, st, et, a.alpha_l, a.alpha_r);
+    if !float::finite(epsilon) {
+        return Err(Refusal::NotFinite);
     }
-    Made::Lost
+    if (a.alpha_l < epsilon) | (a.alpha_r < epsilon) {
+        let dist = seg_length / 3.0;
+        return curve_of(first, last, st, et, dist, dist);
+    }
+    curve_of(first, last, st, et, a.alpha_l, a.alpha_r)
 }

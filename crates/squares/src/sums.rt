@@ -93,10 +93,8 @@ pub fn sums_of(marks: &[f64], params: &[f64], st: Point, et: Point) -> Sums
         x0: 0.0,
         x1: 0.0,
     };
-    let mut i = 0;
-    while i < params.len() {
+    for i in 0..params.len() {
         s = sum_at(marks, params, st, et, i, s);
-        i += 1;
     }
     s
 }

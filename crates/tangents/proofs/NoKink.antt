@@ -4,6 +4,7 @@ use native.Mathlib.Omega.{arith}
 use mathlib.Core.Path.{◌≡◌, refl, sym, ap, ◌∙◌}
 use mathlib.Core.Bool.{Bool, true, false, ◌&&◌}
 use mathlib.Core.List.{List}
+use Rattle.std.proofs.Common.{Some, None}
 use lib.Ieee.{Float}
 use borrow.Author.Tests.{lt-ltb, le-ltb}
 use Rattle.float.specs.Calc.{Calc, give}
@@ -11,7 +12,6 @@ use Rattle.float.specs.Answer.{ok, unless, outcome}
 use Rattle.float.proofs.Truth.{and_left, and_right}
 use Rattle.float.proofs.Answers.{Fine, outcome_ok}
 use Rattle.plane.specs.declared.Point.{Point}
-use Rattle.plane.specs.declared.Direction.TheVariants.{Toward, Nowhere}
 use Rattle.tangents.specs.NoKink.{Smooth, Folded, NoKink, NoKinkAtSeam}
 use Rattle.tangents.specs.declared.Ways.{Ways}
 use Rattle.joints.specs.declared.Joint.{Joint}
@@ -50,13 +50,13 @@ module _ (j : Joint) (left right : Ways) (l : outcome (left_end j) ≡ ok left.e
   smooth : Smooth j left right
   unfolding left_end right_start end_by start_by
   smooth t h =
-      let e : ok t ≡ ok left.end = sym (outcome_ok (give t) refl) ∙ goes_on (through j) (end_by j) refl (Toward t) h ∙ l in
+      let e : ok t ≡ ok left.end = sym (outcome_ok (give t) refl) ∙ goes_on (through j) (end_by j) (Some t) (sym h) ∙ l in
       let same : t ≡ left.end = cc in
-      ap (λ (u : Point). outcome (opposite u)) (sym same) ∙ goes_on (through j) (start_by j) refl (Toward t) h ∙ r
+      ap (λ (u : Point). outcome (opposite u)) (sym same) ∙ goes_on (through j) (start_by j) (Some t) (sym h) ∙ r
 
   folded : Folded j left right
   unfolding left_end right_start end_by start_by
-  folded h = (goes_on (through j) (end_by j) refl Nowhere h ∙ l, goes_on (through j) (start_by j) refl Nowhere h ∙ r)
+  folded h = (goes_on (through j) (end_by j) None (sym h) ∙ l, goes_on (through j) (start_by j) None (sym h) ∙ r)
 
 -- the mark where two blocks meet
 meets_at : (k : Cutting) (a b : ℕ) → over k ≡ 1 → a < b → meets k a b ≡ true

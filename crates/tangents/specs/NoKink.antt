@@ -1,11 +1,10 @@
 -- Where two blocks meet. Definitions only.
-use Rattle.std.specs.Prelude.{ℕ, ◌+◌, ◌≤◌, ◌<◌, ◌≡◌, List, Float}
+use Rattle.std.specs.Prelude.{ℕ, ◌+◌, ◌≤◌, ◌<◌, ◌≡◌, List, Float, Some, None}
 use Rattle.std.specs.Float.Ieee.{neg}
 use Rattle.float.specs.Number.{f1}
 use Rattle.float.specs.Answer.{ok, outcome}
 use Rattle.plane.specs.Plane.{times}
 use Rattle.plane.specs.declared.Point.{Point}
-use Rattle.plane.specs.declared.Direction.TheVariants.{Toward, Nowhere}
 use Rattle.marks.specs.Tangent.{along}
 use Rattle.tangents.specs.declared.Ways.{Ways}
 use Rattle.joints.specs.declared.Joint.{Joint}
@@ -16,11 +15,11 @@ use Rattle.tangents.specs.Ways.{over, ways_of}
 
 -- A joint that has a direction has no kink: the tangent that the right block starts with is the left block's end tangent times -1.
 abbrev pub Smooth : Joint → Ways → Ways → Type 0
-Smooth j left right = (t : Point) → outcome (through j) ≡ ok (Toward t) → outcome (times left.end (neg f1)) ≡ ok right.start
+Smooth j left right = (t : Point) → outcome (through j) ≡ ok (Some t) → outcome (times left.end (neg f1)) ≡ ok right.start
 
 -- One that has none, as where the marks fold back, is left along the chords: each block goes by the one to its own neighbour.
 abbrev pub Folded : Joint → Ways → Ways → Type 0
-Folded j left right = outcome (through j) ≡ ok Nowhere → (outcome (along j.at j.before) ≡ ok left.end) × (outcome (along j.at j.after) ≡ ok right.start)
+Folded j left right = outcome (through j) ≡ ok None → (outcome (along j.at j.before) ≡ ok left.end) × (outcome (along j.at j.after) ≡ ok right.start)
 
 -- the left block takes `size` marks from `from` on and the first of the right block, after which marks are left; the right one goes up to `to`
 abbrev pub NoKink : Type 0

@@ -1,7 +1,6 @@
 -- The tangents at a cut and at the ends of a block. Definitions only.
 use Rattle.std.specs.Prelude.{ℕ, ◌+◌, ◌-◌, ◌*◌, Bool, ◌&&◌, cond, List, take, drop, leb, ltb, Float}
 use Rattle.float.specs.Calc.{Calc, give, ◌>>=◌}
-use Rattle.float.specs.Answer.{Answer, ok, refused}
 use Rattle.plane.specs.declared.Point.{Point}
 use Rattle.marks.specs.Marks.{mark_at}
 use Rattle.marks.specs.Tangent.{start_tangent, end_tangent, tangent_between}
@@ -10,8 +9,6 @@ use Rattle.ring.specs.declared.Outline.{Outline}
 use Rattle.ring.specs.declared.Outline.TheVariants.{Open, Closed}
 use Rattle.joints.specs.Joints.{opposite, joint_at, seam_of, left_end, right_start}
 use Rattle.tangents.specs.declared.Ways.{Ways}
-use Rattle.tangents.specs.declared.Turn.{Turn}
-use Rattle.tangents.specs.declared.Turn.TheVariants as turn
 use Rattle.tangents.specs.declared.Cutting.{Cutting}
 use Rattle.tangents.specs.declared.Cutting.TheVariants.{Source, Loop, Joined, Ring}
 
@@ -89,8 +86,3 @@ ways_of k ms n from to = do
   s ← start_of k ms n from
   e ← end_of k ms n to
   give (record { end = e; start = s })
-
--- the code's answer
-unfoldable pub turn_answer : Turn → Answer Ways
-turn_answer (turn.At w) = ok w
-turn_answer turn.Lost = refused 6

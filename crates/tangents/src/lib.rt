@@ -3,14 +3,14 @@
 
 ghost use Rattle.std.specs.Prelude.{◌≡◌, ◌+◌, ◌*◌, ◌≤◌, length};
 ghost use Rattle.float.specs.Answer.{outcome};
+ghost use Rattle.float.specs.Refusal.{answer};
 ghost use Rattle.limits.specs.Limits.{most_numbered};
-ghost use Rattle.marks.specs.Answers.{way_answer};
 ghost use Rattle.ring.specs.Ring.{whole};
 ghost use Rattle.ring.specs.declared.Outline.TheVariants as outline;
 ghost use Rattle.joints.specs.Joints.{Inner};
-ghost use Rattle.tangents.specs.Ways.{turn_answer, tangent_at, ways_at, over, outline_of, marks_of, start_at, end_at, meets, start_of, end_of, ways_of};
+ghost use Rattle.tangents.specs.Ways.{tangent_at, ways_at, over, outline_of, marks_of, start_at, end_at, meets, start_of, end_of, ways_of};
 
-use marks::Way;
+use float::refusal::Refusal;
 use plane::Point;
 use ring::Outline;
 
@@ -21,40 +21,29 @@ pub struct Ways {
     pub start: Point,
 }
 
-// Two tangents, or that an operation gave NaN or infinity.
-#[derive(Clone, Copy)]
-pub enum Turn {
-    At(Ways),
-    Lost,
-}
-
 // The tangent at mark `at`, from its two neighbours; behind the last mark stands mark 0.
-fn tangent_at(marks: &[f64], at: usize) -> Way
+fn tangent_at(marks: &[f64], at: usize) -> Result<Point, Refusal>
     requires { Inner outline.Closed marks.now at }
-    ensures { way_answer result ≡ outcome (tangent_at (whole outline.Closed marks.now) at) }
+    ensures { answer result ≡ outcome (tangent_at (whole outline.Closed marks.now) at) }
 {
     let joint = joints::joint_at(marks, at);
     marks::tangent_between(joint.before, joint.at, joint.after)
 }
 
 // The tangents at a cut at mark `at`, where mark 0 stands behind the last.
-pub fn ways_round(marks: &[f64], at: usize) -> Turn
+pub fn ways_round(marks: &[f64], at: usize) -> Result<Ways, Refusal>
     requires { Inner outline.Closed marks.now at }
-    ensures { turn_answer result ≡ outcome (ways_at (whole outline.Closed marks.now) at) }
+    ensures { answer result ≡ outcome (ways_at (whole outline.Closed marks.now) at) }
 {
-    let Way::Toward(end) = tangent_at(marks, at) else {
-        return Turn::Lost;
-    };
-    let Way::Toward(start) = joints::opposite(end) else {
-        return Turn::Lost;
-    };
-    Turn::At(Ways { end, start })
+    let end = tangent_at(marks, at)?;
+    let start = joints::opposite(end)?;
+    Ok(Ways { end, start })
 }
 
 // The same where all three marks are among those given.
-pub fn ways_at(marks: &[f64], at: usize) -> Turn
+pub fn ways_at(marks: &[f64], at: usize) -> Result<Ways, Refusal>
     requires { Inner outline.Open marks.now at }
-    ensures { turn_answer result ≡ outcome (ways_at marks.now at) }
+    ensures { answer result ≡ outcome (ways_at marks.now at) }
 {
     ways_round(marks, at)
 }
@@ -143,10 +132,10 @@ fn meets(cutting: Cutting, a: usize, b: usize) -> bool
 }
 
 // The tangent at the start of a block from mark `from`, where n marks are cut into blocks.
-pub fn start_of(cutting: Cutting, marks: &[f64], n: usize, from: usize) -> Way
+pub fn start_of(cutting: Cutting, marks: &[f64], n: usize, from: usize) -> Result<Point, Refusal>
     requires marks_len { length (marks_of cutting marks.now) ≡ 2 * n }
     requires from_bound { (from + 2 ≤ n) × (n ≤ most_numbered) }
-    ensures { way_answer result ≡ outcome (start_of cutting (marks_of cutting marks.now) n from) }
+    ensures { answer result ≡ outcome (start_of cutting (marks_of cutting marks.now) n from) }
 {
     if meets(cutting, 0, from) {
         return joints::right_start(joints::joint_at(marks, from));
@@ -161,10 +150,10 @@ pub fn start_of(cutting: Cutting, marks: &[f64], n: usize, from: usize) -> Way
 }
 
 // The tangent at the end of a block up to mark `to`, which is not in it.
-pub fn end_of(cutting: Cutting, marks: &[f64], n: usize, to: usize) -> Way
+pub fn end_of(cutting: Cutting, marks: &[f64], n: usize, to: usize) -> Result<Point, Refusal>
     requires marks_len { length (marks_of cutting marks.now) ≡ 2 * n }
     requires le_to { (2 ≤ to) × (to ≤ n) × (n ≤ most_numbered) }
-    ensures { way_answer result ≡ outcome (end_of cutting (marks_of cutting marks.now) n to) }
+    ensures { answer result ≡ outcome (end_of cutting (marks_of cutting marks.now) n to) }
 {
     if meets(cutting, to, n) {
         return joints::left_end(joints::joint_at(marks, to - 1));
@@ -179,16 +168,18 @@ pub fn end_of(cutting: Cutting, marks: &[f64], n: usize, to: usize) -> Way
 }
 
 // The tangents at the ends of a block.
-pub fn ways_of(cutting: Cutting, marks: &[f64], n: usize, from: usize, to: usize) -> Turn
+pub fn ways_of(
+    cutting: Cutting,
+    marks: &[f64],
+    n: usize,
+    from: usize,
+    to: usize,
+) -> Result<Ways, Refusal>
     requires marks_len { length (marks_of cutting marks.now) ≡ 2 * n }
     requires from_bound { (from + 2 ≤ to) × (to ≤ n) × (n ≤ most_numbered) }
-    ensures { turn_answer result ≡ outcome (ways_of cutting (marks_of cutting marks.now) n from to) }
+    ensures { answer result ≡ outcome (ways_of cutting (marks_of cutting marks.now) n from to) }
 {
-    let Way::Toward(start) = start_of(cutting, marks, n, from) else {
-        return Turn::Lost;
-    };
-    let Way::Toward(end) = end_of(cutting, marks, n, to) else {
-        return Turn::Lost;
-    };
-    Turn::At(Ways { end, start })
+    let start = start_of(cutting, marks, n, from)?;
+    let end = end_of(cutting, marks, n, to)?;
+    Ok(Ways { end, start })
 }

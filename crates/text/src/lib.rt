@@ -37,7 +37,7 @@ pub fn decimal_len(n: u64) -> usize
     let mut rest = n;
     let mut len = 1;
     while rest >= 10 {
-        rest = rest / 10;
+        rest /= 10;
         len += 1;
     }
     len
@@ -49,11 +49,9 @@ pub fn put_hex(out: &mut [u8], at: usize, x: u64) -> usize
     ensures { (result ≡ at + 16) × (out.new ≡ sets out.old at (hex16 x)) }
 {
     let mut rest = x;
-    let mut i = 16;
-    while i > 0 {
-        i -= 1;
+    for i in (0..16).rev() {
         out[at + i] = digit(rest % 16);
-        rest = rest / 16;
+        rest /= 16;
     }
     at + 16
 }
@@ -63,10 +61,7 @@ pub fn put_bytes(out: &mut [u8], at: usize, text: &[u8]) -> usize
     requires { at + length text.now ≤ length out.old }
     ensures { (result ≡ at + length text.now) × (out.new ≡ sets out.old at text.now) }
 {
-    let mut i = 0;
-    while i < text.len() {
-        out[at + i] = text[i];
-        i += 1;
-    }
-    at + text.len()
+    let end = at + text.len();
+    out[at..end].copy_from_slice(text);
+    end
 }

@@ -63,10 +63,8 @@ fn put_curves(file: &[u8], form: Form, field: Field, n: usize, k: usize, out: &m
     ensures { out.new ≡ sets out.old at (each k (record_here file.now form field n)) }
 {
     let step = sizes::HEAD_BYTES + sizes::body_bytes(form, field);
-    let mut i = 0;
-    while i < k {
+    for i in 0..k {
         put_curve(file, form, field, n, i, out, at + step * i);
-        i += 1;
     }
 }
 

@@ -10,7 +10,7 @@ use lib.Dec.{ltb}
 use lib.ListN.{length, get_or, length-append, get_or-append}
 use Rattle.text.specs.Text.{digit_char, hex, hex16, decimal}
 use Rattle.text.proofs.Digits.{decimal_one, decimal-more}
-use Rattle.words.specs.declared.Read.TheVariants.{Number}
+use Rattle.std.proofs.Common.{Some}
 use Rattle.words.specs.Words.{digit_of, number_from, hex_of, plain_of, decimal_of}
 use Rattle.words.proofs.Reading.{taken}
 
@@ -36,16 +36,16 @@ last_digit base q t pos most fits =
     taken base (q / base) (digit_char (q % base)) t (omega arith) (omega arith) ∙ ap (λ (v : ℕ). number_from base v t) s
 
 -- the lowest k hex digits of x after the others
-hex_left : (k x : ℕ) → x < 2 ^ 64 → number_from 16 (x / 16 ^ k) (hex k x) ≡ Number x
+hex_left : (k x : ℕ) → x < 2 ^ 64 → number_from 16 (x / 16 ^ k) (hex k x) ≡ Some x
 unfolding number_from hex
-hex_left zero x h = ap Number (div-one x)
+hex_left zero x h = ap Some (div-one x)
 hex_left (suc k) x h = rw (pow-suc 16 k, ← div-div-eq-div-mul x (16 ^ k) 16) (last_digit 16 (x / 16 ^ k) (hex k x) (omega arith) (omega arith) (below (16 ^ k)) ∙ hex_left k x h)
   where
     below : (m : ℕ) → x / m < 2 ^ 64
     below m = omega (arith, div-le_self x m)
 
 -- the number of a pattern's sixteen digits
-pub hex-back : (x : ℕ) → x < 2 ^ 64 → hex_of (hex16 x) ≡ Number x
+pub hex-back : (x : ℕ) → x < 2 ^ 64 → hex_of (hex16 x) ≡ Some x
 unfolding hex_of hex
 hex-back x h = ap (λ (v : ℕ). number_from 16 v (hex 16 x)) (sym none) ∙ hex_left 16 x h
   where
@@ -104,6 +104,6 @@ plain_back n = go (ltb n 10) refl
         simp (ne_eqb (length (decimal n)) 0 (λ w. omega arith), ne_eqb (length (decimal n)) 1 (λ w. omega arith), ne_eqb (get_or (decimal n) 0 0) 48 l.first)
 
 -- the number of a decimal word
-pub decimal-back : (n : ℕ) → n < 2 ^ 64 → decimal_of (decimal n) ≡ Number n
+pub decimal-back : (n : ℕ) → n < 2 ^ 64 → decimal_of (decimal n) ≡ Some n
 unfolding decimal_of number_from
 decimal-back n h = simp (plain_back n) (ap (number_from 10 0) (sym (append-nil (decimal n))) ∙ decimal_left (suc n) n [] (omega arith) h)

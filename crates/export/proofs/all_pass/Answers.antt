@@ -10,23 +10,20 @@ use Rattle.export.proofs.all_pass.Goals as goal
 
 pub loop-i-init : goal.loop-i-init
 unfolding every
-loop-i-init c = (omega arith, refl)
+loop-i-init c = refl
 
 pub is_passed-all-requires : goal.is_passed-all-requires
 is_passed-all-requires c =
     tested c.args.test c.args.form c.loop-i.i c.args.n (omega arith) c.requires
 
-pub loop-i-smaller : goal.loop-i-smaller
-loop-i-smaller c = omega arith
-
 pub loop-i-preserved : goal.loop-i-preserved
 loop-i-preserved c =
     let a = c.args in
     let l = c.loop-i in
-    (omega arith, rw c.is_passed-all.ensures (every_next l.i (passes a.test (curve_at a.form a.curves.now)) l.all l.invariant.1))
+    rw c.is_passed-all.ensures (every_next l.i (passes a.test (curve_at a.form a.curves.now)) l.all l.invariant)
 
 pub returns : goal.returns
 returns c =
     let l = c.loop-i in
     let e : l.i ≡ c.args.n = omega arith in
-    rw e at l.invariant.1
+    rw e at l.invariant

@@ -1,25 +1,12 @@
--- `gate::all_in_range`: what is left decides.
-use native.Mathlib.Omega.{arith}
-use mathlib.Core.Path.{refl}
-use lib.ListN.{length}
-use borrow.Author.Rules.{scaled_Fits}
-use Rattle.gate.proofs.Tests.{range-more, range_stop, range_end}
+-- `gate::all_in_range` meets its contract.
+use mathlib.Core.Bool.{true, false}
+use mathlib.Core.Path.{◌≡◌}
+use borrow.Author.Rules.{rules}
+use Rattle.std.proofs.lemmas.Iterator.{YieldsList-from_slice, cases_from_all}
+use Rattle.plane.specs.Range.{coordinate}
+use Rattle.gate.proofs.Tests.{looked_through}
 use Rattle.gate.proofs.all_in_range.Goals as goal
 
-pub loop-i-init : goal.loop-i-init
-loop-i-init c = (omega arith, refl)
-
-pub offset_bounds-marks-i : goal.offset_bounds-marks-i
-offset_bounds-marks-i c = scaled_Fits c.loop-i.i (length c.args.marks.now) 8 (omega arith) c.well_formed.0.1
-
-pub loop-i-smaller : goal.loop-i-smaller
-loop-i-smaller c = omega arith
-
-pub loop-i-preserved : goal.loop-i-preserved
-loop-i-preserved c = (omega arith, range-more c.args.marks.now c.loop-i.i c.loop-i.invariant.1 c.is_coordinate.result (omega arith) c.is_coordinate.ensures c.if-is_coordinate.true)
-
-pub returns-else-is_coordinate : goal.returns-else-is_coordinate
-returns-else-is_coordinate c = range_stop c.args.marks.now c.loop-i.i c.loop-i.invariant.1 c.is_coordinate.result (omega arith) c.is_coordinate.ensures c.if-is_coordinate.false
-
 pub returns : goal.returns
-returns c = range_end c.args.marks.now c.loop-i.i c.loop-i.invariant.1 c.loop-i-test.false
+returns c =
+    looked_through _ _ (cases_from_all _ _ _ (λ x. coordinate x ≡ true) (λ x. coordinate x ≡ false) c.all.ensures.ran (YieldsList-from_slice c.args.marks.now cc) (λ x q k. search rules) (λ x q k. search rules))

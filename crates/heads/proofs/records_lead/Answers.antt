@@ -9,7 +9,7 @@ use Rattle.heads.proofs.Turns.{lead_more, lead_stop}
 use Rattle.heads.proofs.records_lead.Goals as goal
 
 pub loop-i-init : goal.loop-i-init
-loop-i-init c = (omega arith, simp (mul-zero, add-zero, sub-zero))
+loop-i-init c = simp (mul-zero, add-zero, sub-zero)
 
 pub overflow_mul-head : goal.overflow_mul-head
 overflow_mul-head c =
@@ -26,20 +26,17 @@ has_head-requires c =
     let inside : let a = c.args in (6 + a.body) * c.loop-i.i + (6 + a.body) ≤ (6 + a.body) * a.k = let a = c.args in within (6 + a.body) a.k c.loop-i.i (omega arith) in
     omega (arith, inside)
 
-pub loop-i-smaller : goal.loop-i-smaller
-loop-i-smaller c = omega arith
-
 pub loop-i-preserved : goal.loop-i-preserved
 loop-i-preserved c =
     let l = c.loop-i in
     let a = c.args in
-    (omega arith, l.invariant.1 ∙ lead_more a.b.now a.at a.body a.kind a.k l.i (omega arith) (sym c.has_head.ensures ∙ c.if-has_head.true))
+    l.invariant ∙ lead_more a.b.now a.at a.body a.kind a.k l.i (omega arith) (sym c.has_head.ensures ∙ c.if-not-has_head.false)
 
-pub returns-in-loop-i : goal.returns-in-loop-i
-returns-in-loop-i c =
+pub returns-then-not-has_head : goal.returns-then-not-has_head
+returns-then-not-has_head c =
     let l = c.loop-i in
     let a = c.args in
-    sym (l.invariant.1 ∙ lead_stop a.b.now a.at a.body a.kind a.k l.i (omega arith) (sym c.has_head.ensures ∙ c.if-has_head.false))
+    sym (l.invariant ∙ lead_stop a.b.now a.at a.body a.kind a.k l.i (omega arith) (sym c.has_head.ensures ∙ c.if-not-has_head.true))
 
 pub returns : goal.returns
 unfolding records_lead
@@ -47,4 +44,4 @@ returns c =
     let l = c.loop-i in
     let a = c.args in
     let e : a.k - l.i ≡ 0 = omega arith in
-    sym (l.invariant.1 ∙ rw e)
+    sym (l.invariant ∙ rw e)

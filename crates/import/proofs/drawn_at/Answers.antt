@@ -2,12 +2,8 @@
 use Rattle.import.proofs.Steps.{drawn_none, drawn_some}
 use Rattle.import.proofs.drawn_at.Goals as goal
 
-pub returns-in_default : goal.returns-in_default
-returns-in_default c =
-    let a = c.args in
-    drawn_none a.text.now a.at a.letter a.p c.arguments_at.result c.arguments_at.ensures c.in_default.is
+pub returns-in_err-drawn : goal.returns-in_err-drawn
+returns-in_err-drawn c = rw c.from_residual.ensures (drawn_none _ _ _ c.in_err-drawn.ensures)
 
 pub returns : goal.returns
-returns c =
-    let a = c.args in
-    drawn_some a.text.now a.at a.letter a.p c.arguments_at.result c.arguments_at.ensures c.in-Curve.is
+returns c = drawn_some _ _ _ c.in_ok-drawn.ensures

@@ -1,32 +1,21 @@
 -- `import::pair_at` meets its contract.
-use lib.ListN.{drop}
-use Rattle.import.proofs.Pieces.{number_from_is, number_none, fits, pair_first, pair_second, pair_both}
+use Rattle.numerals.specs.Numerals.{capped}
+use Rattle.import.proofs.Pieces.{from, none, fits, pair_first, pair_second, pair_both}
 use Rattle.import.proofs.pair_at.Goals as goal
 
-pub returns-in_default : goal.returns-in_default
-returns-in_default c =
-    let a = c.args in
-    pair_first (drop a.at a.text.now) (number_none a.text.now a.at c.number_at.result c.number_at.ensures c.in_default.is)
+pub returns-in_err-x : goal.returns-in_err-x
+returns-in_err-x c = rw c.from_residual.ensures (pair_first _ (none capped _ c.in_err-x.ensures))
 
-pub returns-in_default-number_at : goal.returns-in_default-number_at
-returns-in_default-number_at c =
-    let a = c.args in
-    pair_second (drop a.at a.text.now) (number_from_is a.text.now a.at c.number_at.result c.number_at.ensures c.in-Number.is) c.apart_at.ensures
-    (number_none a.text.now c.apart_at.result c.number_at-2.result c.number_at-2.ensures c.in_default-number_at.is)
+pub returns-in_err-y : goal.returns-in_err-y
+returns-in_err-y c = rw c.from_residual-in_err-y.ensures (pair_second _ (from capped _ c.in_ok-x.ensures) c.apart_at.ensures (none capped _ c.in_err-y.ensures))
 
 pub nearest-requires : goal.nearest-requires
-nearest-requires c =
-    let a = c.args in
-    fits (number_from_is a.text.now a.at c.number_at.result c.number_at.ensures c.in-Number.is)
+nearest-requires c = fits (from capped _ c.in_ok-x.ensures)
 
 pub nearest-requires-2 : goal.nearest-requires-2
-nearest-requires-2 c =
-    let a = c.args in
-    fits (number_from_is a.text.now c.apart_at.result c.number_at-2.result c.number_at-2.ensures c.in-Number-number_at.is)
+nearest-requires-2 c = fits (from capped _ c.in_ok-y.ensures)
 
 pub returns : goal.returns
 returns c =
-    let a = c.args in
-    pair_both (drop a.at a.text.now) (number_from_is a.text.now a.at c.number_at.result c.number_at.ensures c.in-Number.is) c.apart_at.ensures
-    (number_from_is a.text.now c.apart_at.result c.number_at-2.result c.number_at-2.ensures c.in-Number-number_at.is)
+    pair_both _ (from capped _ c.in_ok-x.ensures) c.apart_at.ensures (from capped _ c.in_ok-y.ensures)
     c.nearest.ensures c.nearest-2.ensures c.is_small.ensures c.is_small-2.ensures

@@ -1,25 +1,27 @@
 -- `import::walk` meets its contract.
 use native.Mathlib.Omega.{arith}
 use Rattle.numerals.proofs.Leading.{byte_here}
-use Rattle.import.proofs.Pieces.{pair_from, pair_none, marked}
+use Rattle.import.specs.Drawn.{standing}
+use Rattle.import.proofs.Pieces.{from, none, marked}
 use Rattle.import.proofs.Paths.{path_other, path_no_pair, path-walked}
 use Rattle.import.proofs.walk.Goals as goal
+
+pub returns-then-byte_at-ne77 : goal.returns-then-byte_at-ne77
+returns-then-byte_at-ne77 c = path_other c.args.text.now c.args.out.now c.past_space-first.ensures c.byte_at.ensures c.if-byte_at-ne77.true
 
 pub overflow_add-first : goal.overflow_add-first
 overflow_add-first c = omega (arith, byte_here c.args.text.now c.past_space-first.result c.byte_at.ensures (omega arith))
 
-pub returns-in_default : goal.returns-in_default
-returns-in_default c =
-    path_no_pair c.args.text.now c.args.out.now c.past_space-first.ensures c.byte_at.ensures c.if-byte_at-eq77.true c.past_space.ensures
-    (pair_none c.args.text.now c.past_space.result c.pair_at.result c.pair_at.ensures c.in_default.is)
+pub returns-in_err-start : goal.returns-in_err-start
+returns-in_err-start c =
+    rw c.from_residual.ensures
+    (path_no_pair c.args.text.now c.args.out.now c.past_space-first.ensures c.byte_at.ensures c.if-byte_at-ne77.false c.past_space.ensures
+    (none standing _ c.in_err-start.ensures))
 
 pub walk_on-requires : goal.walk_on-requires
-walk_on-requires c = marked (pair_from c.args.text.now c.past_space.result c.pair_at.result c.pair_at.ensures c.in-At.is)
-
-pub returns-then-byte_at-eq77 : goal.returns-then-byte_at-eq77
-returns-then-byte_at-eq77 c =
-    path-walked c.args.text.now c.args.out.now c.past_space-first.ensures c.byte_at.ensures c.if-byte_at-eq77.true c.past_space.ensures
-    (pair_from c.args.text.now c.past_space.result c.pair_at.result c.pair_at.ensures c.in-At.is) c.walk_on.ensures
+walk_on-requires c = marked (from standing _ c.in_ok-start.ensures)
 
 pub returns : goal.returns
-returns c = path_other c.args.text.now c.args.out.now c.past_space-first.ensures c.byte_at.ensures c.if-byte_at-eq77.false
+returns c =
+    path-walked c.args.text.now c.args.out.now c.past_space-first.ensures c.byte_at.ensures c.if-byte_at-ne77.false c.past_space.ensures
+    (from standing _ c.in_ok-start.ensures) c.walk_on.ensures

@@ -12,36 +12,27 @@ pub step_at-requires : goal.step_at-requires
 step_at-requires c = c.loop-by.invariant.2
 
 pub overflow_add-count : goal.overflow_add-count
-overflow_add-count c = omega (arith, turn_shorter c.args.text.now c.loop-by.at c.loop-by.letter c.loop-by.p c.step_at.result c.step_at.ensures c.in-Drawn.is)
+overflow_add-count c = omega (arith, turn_shorter _ _ _ _ _ c.in_ok-by.ensures c.in-Drawn.is)
 
 pub loop-by-smaller : goal.loop-by-smaller
-loop-by-smaller c = turn_shorter c.args.text.now c.loop-by.at c.loop-by.letter c.loop-by.p c.step_at.result c.step_at.ensures c.in-Drawn.is
+loop-by-smaller c = turn_shorter _ _ _ _ _ c.in_ok-by.ensures c.in-Drawn.is
 
 pub loop-by-preserved : goal.loop-by-preserved
 loop-by-preserved c = (
   c.put_curve.auto.out ∙ c.loop-by.invariant.0,
-  omega (arith, turn_shorter c.args.text.now c.loop-by.at c.loop-by.letter c.loop-by.p c.step_at.result c.step_at.ensures c.in-Drawn.is),
-  turn_marked c.args.text.now c.loop-by.at c.loop-by.letter c.loop-by.p c.step_at.result c.step_at.ensures c.in-Drawn.is,
-  turn c.args.text.now c.loop-by.at c.loop-by.letter c.loop-by.p c.step_at.result c.step_at.ensures c.in-Drawn.is c.args.start c.loop-by.count c.loop-by.small c.loop-by.out c.loop-by.invariant.3 c.put_curve.ensures,
+  omega (arith, turn_shorter _ _ _ _ _ c.in_ok-by.ensures c.in-Drawn.is),
+  turn_marked _ _ _ _ _ c.in_ok-by.ensures c.in-Drawn.is,
+  turn _ _ _ _ _ c.in_ok-by.ensures c.in-Drawn.is c.args.start _ _ _ c.loop-by.invariant.3 c.put_curve.ensures,
 )
 
 pub close-requires : goal.close-requires
 close-requires c = (omega arith, (c.requires, c.loop-by.invariant.2))
 
-pub shape_of-out-in-Closed : goal.shape_of-out-in-Closed
-shape_of-out-in-Closed c = c.close.auto.out ∙ c.loop-by.invariant.0
-
 pub returns-in-Closed : goal.returns-in-Closed
-returns-in-Closed c = turn-closed c.args.text.now c.loop-by.at c.loop-by.letter c.loop-by.p c.step_at.result c.step_at.ensures c.args.start c.loop-by.count c.loop-by.small c.loop-by.out c.loop-by.invariant.3 c.in-Closed.is c.close.ensures
-
-pub shape_of-out-in-Ended : goal.shape_of-out-in-Ended
-shape_of-out-in-Ended c = c.loop-by.invariant.0
+returns-in-Closed c = turn-closed _ _ _ _ _ c.in_ok-by.ensures c.args.start _ _ _ c.loop-by.invariant.3 c.in-Closed.is c.close.ensures
 
 pub returns-in-Ended : goal.returns-in-Ended
-returns-in-Ended c = turn-ended c.args.text.now c.loop-by.at c.loop-by.letter c.loop-by.p c.step_at.result c.step_at.ensures c.args.start c.loop-by.count c.loop-by.small c.loop-by.out c.loop-by.invariant.3 c.in-Ended.is
+returns-in-Ended c = turn-ended _ _ _ _ _ c.in_ok-by.ensures c.args.start _ _ _ c.loop-by.invariant.3 c.in-Ended.is
 
-pub shape_of-out-in-Nothing : goal.shape_of-out-in-Nothing
-shape_of-out-in-Nothing c = c.loop-by.invariant.0
-
-pub returns-in-Nothing : goal.returns-in-Nothing
-returns-in-Nothing c = turn-refused c.args.text.now c.loop-by.at c.loop-by.letter c.loop-by.p c.step_at.result c.step_at.ensures c.args.start c.loop-by.count c.loop-by.small c.loop-by.out c.loop-by.invariant.3 c.in-Nothing.is
+pub returns-in_err-by : goal.returns-in_err-by
+returns-in_err-by c = rw c.from_residual.ensures (turn-refused c.args.text.now c.loop-by.at c.loop-by.letter c.loop-by.p c.in_err-by.ensures c.args.start c.loop-by.count c.loop-by.small c.loop-by.out c.loop-by.invariant.3)

@@ -4,9 +4,8 @@ use mathlib.Core.List.{[], ◌∷◌}
 use native.Mathlib.Nat.{add-zero}
 use native.Mathlib.Omega.{arith}
 use lib.ListN.{take, get_or}
-use lib.Seq.{take_all, length-take-le}
 use lib.Ieee.{nan}
-use Rattle.text.proofs.Stores.{next, put-length}
+use Rattle.text.proofs.Stores.{next}
 use Rattle.lines.specs.Lines.{numbers}
 use Rattle.lines.proofs.Turns.{length-numbers, numbers-suc}
 use Rattle.lines.proofs.put_numbers.Goals as goal
@@ -15,15 +14,9 @@ pub loop-x-init : goal.loop-x-init
 unfolding numbers
 loop-x-init c = (omega arith, record { end = sym (add-zero _); out = refl })
 
-pub put_number-end-requires : goal.put_number-end-requires
-put_number-end-requires c = omega (arith, put-length c.loop-x.invariant.1, length-take-le 8 c.args.curve.now (omega arith))
-
 pub loop-x-preserved : goal.loop-x-preserved
 loop-x-preserved c =
     let l = c.loop-x in
     let own = take 8 c.args.curve.now in
     let p = c.put_number-end.ensures in
     (omega (arith, p.end, length-numbers (get_or own l.x-index nan ∷ [])), rw (numbers-suc own l.x-index (omega arith)) at (next l.invariant.1 p))
-
-pub returns : goal.returns
-returns c = rw (take_all c.loop-x.x-index (take 8 c.args.curve.now) c.loop-x-test.false) at c.loop-x.invariant.1

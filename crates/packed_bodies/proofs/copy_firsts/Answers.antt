@@ -8,7 +8,7 @@ use Rattle.packed_bodies.proofs.Turns.{inside, front_none, marks-turn, marks_all
 use Rattle.packed_bodies.proofs.copy_firsts.Goals as goal
 
 pub loop-i-init : goal.loop-i-init
-loop-i-init c = (omega arith, front_none _ _)
+loop-i-init c = front_none _ _
 
 pub first_place-requires : goal.first_place-requires
 first_place-requires c =
@@ -20,20 +20,11 @@ four-requires c =
     let here : let a = c.args in entry_at a.form a.n c.loop-i.i + entry_bytes a.form ≤ entry_at a.form a.n a.k = let a = c.args in inside a.form a.n a.k c.loop-i.i (omega arith) in
     let a = c.args in omega (arith, here, c.first_place.ensures, first_before a.form a.n c.loop-i.i)
 
-pub offset_bounds-firsts-i : goal.offset_bounds-firsts-i
-offset_bounds-firsts-i c = omega arith
-
 pub bounds-firsts-i : goal.bounds-firsts-i
-bounds-firsts-i c = omega (arith, c.loop-i.invariant.1.same)
-
-pub loop-i-smaller : goal.loop-i-smaller
-loop-i-smaller c = omega arith
+bounds-firsts-i c = omega (arith, c.loop-i.invariant.same)
 
 pub loop-i-preserved : goal.loop-i-preserved
-loop-i-preserved c = let a = c.args in (omega arith, marks-turn a.b.now (first_place a.form a.n) a.firsts.now c.loop-i.firsts c.loop-i.i c.four.ensures.0 c.first_place.ensures (omega arith) c.loop-i.invariant.1)
-
-pub shape_of-firsts : goal.shape_of-firsts
-shape_of-firsts c = c.loop-i.invariant.1.same
+loop-i-preserved c = let a = c.args in marks-turn a.b.now (first_place a.form a.n) a.firsts.now c.loop-i.firsts c.loop-i.i c.four.ensures.0 c.first_place.ensures (omega arith) c.loop-i.invariant
 
 pub returns : goal.returns
-returns c = let a = c.args in marks_all a.b.now (first_place a.form a.n) a.firsts.now c.loop-i.firsts c.loop-i.i a.k (omega arith) c.loop-i.invariant.1
+returns c = let a = c.args in marks_all a.b.now (first_place a.form a.n) a.firsts.now c.loop-i.firsts c.loop-i.i a.k (omega arith) c.loop-i.invariant

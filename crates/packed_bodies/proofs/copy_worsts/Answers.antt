@@ -16,7 +16,7 @@ pub overflow_add-behind : goal.overflow_add-behind
 overflow_add-behind c = omega (arith, c.rest_numbers.ensures, rest-few c.args.form)
 
 pub loop-i-init : goal.loop-i-init
-loop-i-init c = (omega arith, front_none _ _)
+loop-i-init c = front_none _ _
 
 pub entry_at-requires : goal.entry_at-requires
 entry_at-requires c =
@@ -42,24 +42,15 @@ four-requires c =
     omega (arith, inside a.form a.n a.k c.loop-i.i h, worst_within a.form a.k c.loop-i.i kept) in
     omega (arith, here, c.entry_at.ensures, c.rest_numbers.ensures)
 
-pub offset_bounds-worsts-i : goal.offset_bounds-worsts-i
-offset_bounds-worsts-i c = omega arith
-
 pub bounds-worsts-i : goal.bounds-worsts-i
 bounds-worsts-i c =
     let kept : let a = c.args in c.loop-i.i < worsts_for a.form a.k = omega (arith, c.worsts_for-kept.ensures) in
-    omega (arith, kept, c.loop-i.invariant.1.same)
-
-pub loop-i-smaller : goal.loop-i-smaller
-loop-i-smaller c = omega arith
+    omega (arith, kept, c.loop-i.invariant.same)
 
 pub loop-i-preserved : goal.loop-i-preserved
 loop-i-preserved c =
     let kept : let a = c.args in c.loop-i.i < worsts_for a.form a.k = omega (arith, c.worsts_for-kept.ensures) in
-    let a = c.args in (omega arith, marks-turn a.b.now (worst_place a.form a.n) a.worsts.now c.loop-i.worsts c.loop-i.i c.four.ensures.0 (worst_at_is a.form a.n c.loop-i.i c.entry_at.ensures c.rest_numbers.ensures) (omega (arith, kept)) c.loop-i.invariant.1)
-
-pub shape_of-worsts : goal.shape_of-worsts
-shape_of-worsts c = c.loop-i.invariant.1.same
+    let a = c.args in marks-turn a.b.now (worst_place a.form a.n) a.worsts.now c.loop-i.worsts c.loop-i.i c.four.ensures.0 (worst_at_is a.form a.n c.loop-i.i c.entry_at.ensures c.rest_numbers.ensures) (omega (arith, kept)) c.loop-i.invariant
 
 pub returns : goal.returns
-returns c = let a = c.args in worsts_all a.b.now a.form a.n a.k a.worsts.now c.loop-i.worsts c.loop-i.i (omega (arith, c.worsts_for-kept.ensures)) c.loop-i.invariant.1
+returns c = let a = c.args in worsts_all a.b.now a.form a.n a.k a.worsts.now c.loop-i.worsts c.loop-i.i (omega (arith, c.worsts_for-kept.ensures)) c.loop-i.invariant

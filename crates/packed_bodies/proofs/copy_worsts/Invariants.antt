@@ -1,5 +1,4 @@
--- What the loops of `packed_bodies::copy_worsts` keep.
-use Prim.Native.Nat.{◌-◌, ◌≤◌}
+-- What the loop of `packed_bodies::copy_worsts` keep.
 use Rattle.house.proofs.Turns.{Front}
 use Rattle.packed.specs.Each.{each}
 use Rattle.packed.specs.Unpacked.{worst_place}
@@ -7,7 +6,4 @@ use Rattle.packed.proofs.Pieces.{mark}
 use Rattle.packed_bodies.proofs.copy_worsts.Given as goal
 
 abbrev pub invariant-loop-i : goal.invariant-loop-i
-invariant-loop-i l = (l.i ≤ l.kept) × Front (each l.i (mark l.b (worst_place l.form l.n))) l.initial.worsts l.worsts l.i
-
-abbrev pub decreases-loop-i : goal.decreases-loop-i
-decreases-loop-i l = l.kept - l.i
+invariant-loop-i l = Front (each l.i (mark l.b (worst_place l.form l.n))) l.initial.worsts l.worsts l.i

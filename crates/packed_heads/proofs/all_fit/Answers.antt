@@ -12,7 +12,7 @@ use Rattle.packed_heads.proofs.all_fit.Goals as goal
 
 pub loop-i-init : goal.loop-i-init
 unfolding each all_fit
-loop-i-init c = (omega arith, refl)
+loop-i-init c = refl
 
 pub overflow_mul-step : goal.overflow_mul-step
 overflow_mul-step c =
@@ -29,14 +29,11 @@ four-requires c =
     let inside : c.args.step * c.loop-i.i + c.args.step ≤ c.args.step * c.args.k = within c.args.step c.args.k c.loop-i.i (omega arith) in
     omega (arith, inside)
 
-pub loop-i-smaller : goal.loop-i-smaller
-loop-i-smaller c = omega arith
-
 pub loop-i-preserved : goal.loop-i-preserved
-loop-i-preserved c = (omega arith, fits_more (mark_field c.args.field) c.args.b.now c.args.at c.args.step c.loop-i.i c.loop-i.invariant.1 (rw c.four.ensures.0 at (sym c.mark_fits.ensures ∙ c.if-mark_fits.true)))
+loop-i-preserved c = fits_more (mark_field c.args.field) c.args.b.now c.args.at c.args.step c.loop-i.i c.loop-i.invariant (rw c.four.ensures.0 at (sym c.mark_fits.ensures ∙ c.if-not-mark_fits.false))
 
-pub returns-in-loop-i : goal.returns-in-loop-i
-returns-in-loop-i c = sym (not_so _ (fits_stop (mark_field c.args.field) c.args.b.now c.args.at c.args.step c.args.k c.loop-i.i (omega arith) (rw c.four.ensures.0 at (sym c.mark_fits.ensures ∙ c.if-mark_fits.false))))
+pub returns-then-not-mark_fits : goal.returns-then-not-mark_fits
+returns-then-not-mark_fits c = sym (not_so _ (fits_stop (mark_field c.args.field) c.args.b.now c.args.at c.args.step c.args.k c.loop-i.i (omega arith) (rw c.four.ensures.0 at (sym c.mark_fits.ensures ∙ c.if-not-mark_fits.true))))
 
 pub returns : goal.returns
-returns c = let e : c.loop-i.i ≡ c.args.k = omega arith in sym (rw e at c.loop-i.invariant.1)
+returns c = let e : c.loop-i.i ≡ c.args.k = omega arith in sym (rw e at c.loop-i.invariant)

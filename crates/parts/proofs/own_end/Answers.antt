@@ -1,6 +1,5 @@
 -- `parts::own_end` meets its contract.
 use native.Mathlib.Omega.{arith}
-use Rattle.marks.specs.Answers.{way_answer}
 use Rattle.parts.proofs.Headings.{by_length, given_end, by_end}
 use Rattle.parts.proofs.own_end.Goals as goal
 
@@ -11,7 +10,6 @@ end_of-requires c =
     record { marks_len = by_length a.heading a.marks.now a.n c.in-By.cutting c.in-By.is p.marks_len; le_to = (omega (arith, p), omega (arith, p), omega (arith, p)) }
 
 pub returns-in-Given : goal.returns-in-Given
-unfolding way_answer
 returns-in-Given c = let a = c.args in given_end a.heading a.marks.now a.n c.in-Given.ways a.at c.in-Given.is
 
 pub returns-in-By : goal.returns-in-By

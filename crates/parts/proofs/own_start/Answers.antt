@@ -1,5 +1,4 @@
 -- `parts::own_start` meets its contract.
-use Rattle.marks.specs.Answers.{way_answer}
 use Rattle.parts.proofs.Headings.{by_length, given_start, by_start}
 use Rattle.parts.proofs.own_start.Goals as goal
 
@@ -10,7 +9,6 @@ start_of-requires c =
     record { marks_len = by_length a.heading a.marks.now a.n c.in-By.cutting c.in-By.is p.marks_len; from_bound = p.at_bound }
 
 pub returns-in-Given : goal.returns-in-Given
-unfolding way_answer
 returns-in-Given c = let a = c.args in given_start a.heading a.marks.now a.n c.in-Given.ways a.at c.in-Given.is
 
 pub returns-in-By : goal.returns-in-By

@@ -5,13 +5,14 @@ use Rattle.path_list.proofs.put_drawn.Goals as goal
 
 pub put_path-requires : goal.put_path-requires
 put_path-requires c =
-    let d = done_lines c.args.text.now _ c.curve_room-curves.ensures c.import_path.ensures c.in-Path.is in
+    let d = done_lines c.args.text.now _ c.curve_room-curves.ensures c.in-Ok.ensures in
     (omega arith, (d.0, omega (arith, c.curve_room-curves.ensures)))
 
-pub returns-in-Path : goal.returns-in-Path
-returns-in-Path c =
-    let d = done_lines c.args.text.now _ c.curve_room-curves.ensures c.import_path.ensures c.in-Path.is in
+pub returns-in-Ok : goal.returns-in-Ok
+returns-in-Ok c =
+    let d = done_lines c.args.text.now _ c.curve_room-curves.ensures c.in-Ok.ensures in
     (omega arith, rw d.1 c.put_path.ensures.1)
 
-pub returns-in-Refused : goal.returns-in-Refused
-returns-in-Refused c = (omega arith, rw (refused_lines c.args.text.now _ c.curve_room-curves.ensures c.import_path.ensures c.in-Refused.is) c.put_refusal.ensures.1)
+pub returns-in-Err : goal.returns-in-Err
+returns-in-Err c =
+    (omega arith, rw (refused_lines c.args.text.now _ c.curve_room-curves.ensures c.in-Err.ensures, ← c.number.ensures) c.put_refusal.ensures.1)

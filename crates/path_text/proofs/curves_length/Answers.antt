@@ -10,7 +10,7 @@ use Rattle.path_text.proofs.curves_length.Goals as goal
 
 pub loop-i-init : goal.loop-i-init
 unfolding curves_text
-loop-i-init c = (omega arith, refl, omega arith)
+loop-i-init c = (refl, omega arith)
 
 pub curve_at-requires : goal.curve_at-requires
 curve_at-requires c = held c.args.form c.loop-i.i c.args.n (omega arith) c.requires.held
@@ -19,19 +19,16 @@ pub curve_length-total-requires : goal.curve_length-total-requires
 curve_length-total-requires c = rw c.curve_at.ensures (curve_at_is c.loop-i.i c.requires (omega arith))
 
 pub overflow_add-total : goal.overflow_add-total
-overflow_add-total c = omega (arith, fewer c.args.form c.args.n c.requires.held, c.curve_length-total.ensures.1, c.loop-i.invariant.2)
-
-pub loop-i-smaller : goal.loop-i-smaller
-loop-i-smaller c = omega arith
+overflow_add-total c = omega (arith, fewer c.args.form c.args.n c.requires.held, c.curve_length-total.ensures.1, c.loop-i.invariant.1)
 
 pub loop-i-preserved : goal.loop-i-preserved
 loop-i-preserved c =
     let f = curve_at c.args.form c.args.curves.now in
     let l = rw c.curve_at.ensures at c.curve_length-total.ensures.0 in
-    (omega arith, omega (arith, curves-text c.loop-i.i f, l, c.loop-i.invariant.1), omega (arith, c.curve_length-total.ensures.1, c.loop-i.invariant.2))
+    (omega (arith, curves-text c.loop-i.i f, l, c.loop-i.invariant.0), omega (arith, c.curve_length-total.ensures.1, c.loop-i.invariant.1))
 
 pub returns : goal.returns
 returns c =
     let l = c.loop-i in
     let e : l.i ≡ c.args.n = omega arith in
-    (rw e at l.invariant.1, rw e at l.invariant.2)
+    (rw e at l.invariant.0, rw e at l.invariant.1)

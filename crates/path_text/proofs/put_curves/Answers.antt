@@ -9,7 +9,7 @@ use Rattle.path_text.proofs.Lengths.{curves_grow, put-curves_none, put-curves_ne
 use Rattle.path_text.proofs.put_curves.Goals as goal
 
 pub loop-i-init : goal.loop-i-init
-loop-i-init c = (omega arith, put-curves_none (curve_at c.args.form c.args.curves.now) _ _)
+loop-i-init c = put-curves_none (curve_at c.args.form c.args.curves.now) _ _
 
 pub curve_at-requires : goal.curve_at-requires
 curve_at-requires c = held c.args.form c.loop-i.i c.args.n (omega arith) c.requires.0.held
@@ -18,21 +18,18 @@ pub put_curve-end-requires : goal.put_curve-end-requires
 put_curve-end-requires c =
     let f = curve_at c.args.form c.args.curves.now in
     let w = curve_at_is c.loop-i.i c.requires.0 (omega arith) in
-    rw c.curve_at.ensures (w.0, (w.1, omega (arith, curves_grow c.args.n c.loop-i.i f (omega arith), c.loop-i.invariant.1.end, put-length c.loop-i.invariant.1)))
-
-pub loop-i-smaller : goal.loop-i-smaller
-loop-i-smaller c = omega arith
+    rw c.curve_at.ensures (w.0, (w.1, omega (arith, curves_grow c.args.n c.loop-i.i f (omega arith), c.loop-i.invariant.end, put-length c.loop-i.invariant)))
 
 pub loop-i-preserved : goal.loop-i-preserved
 loop-i-preserved c =
     let f = curve_at c.args.form c.args.curves.now in
-    (omega arith, put-curves_next c.loop-i.i f c.loop-i.invariant.1 (rw c.curve_at.ensures at c.put_curve-end.ensures))
+    put-curves_next c.loop-i.i f c.loop-i.invariant (rw c.curve_at.ensures at c.put_curve-end.ensures)
 
 pub shape_of-out : goal.shape_of-out
-shape_of-out c = put-length c.loop-i.invariant.1
+shape_of-out c = put-length c.loop-i.invariant
 
 pub returns : goal.returns
 returns c =
     let l = c.loop-i in
     let e : l.i ≡ c.args.n = omega arith in
-    rw e at l.invariant.1
+    rw e at l.invariant

@@ -1,11 +1,7 @@
 -- `plane::or_zero` meets its contract.
-use Rattle.plane.specs.Plane.{or_zero}
+use mathlib.Core.Path.{◌∙◌}
+use Rattle.plane.proofs.Fine.{zero_without}
 use Rattle.plane.proofs.or_zero.Goals as goal
 
-pub returns-in_default : goal.returns-in_default
-unfolding or_zero
-returns-in_default c = rw c.in_default.is
-
 pub returns : goal.returns
-unfolding or_zero
-returns c = rw c.in-Toward.is
+returns c = c.unwrap_or.ensures ∙ zero_without _

@@ -17,14 +17,6 @@ pub root_by_digits-q-requires : goal.root_by_digits-q-requires
 root_by_digits-q-requires c =
     shifted_top c.args.m c.args.i c.requires.1
 
-pub overflow_add-result-else-is_root-2 : goal.overflow_add-result-else-is_root-2
-overflow_add-result-else-is_root-2 c =
-    let found : let a = c.args in IsRoot (a.m * 2 ^ (a.i % 2) * 2 ^ 54) c.root_by_digits-q.result = let start = c in
-    subst (λ (x : ℕ). IsRoot (x * 2 ^ 54) c.root_by_digits-q.result) (shifted start.args.m start.args.i start.requires.1) c.root_by_digits-q.ensures in
-    let top : c.root_by_digits-q.result ≤ 2 ^ 54 - 2 = let start = c in
-    root-top start.args.m start.args.i c.root_by_digits-q.result start.requires.1 found in
-    omega (arith, top)
-
 pub float_from_bits-result-else-is_root : goal.float_from_bits-result-else-is_root
 float_from_bits-result-else-is_root c =
     let found : let a = c.args in IsRoot (a.m * 2 ^ (a.i % 2) * 2 ^ 54) c.root_by_digits-q.result = let start = c in

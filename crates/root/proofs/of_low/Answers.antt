@@ -14,21 +14,6 @@ overflow_sub-k c =
     let low : Moved c.args.b (count_leading_zeros 64 c.args.b) = moved c.args.b c.requires.0 c.requires.1 in
     omega (arith, low)
 
-pub overflow_cast-k : goal.overflow_cast-k
-overflow_cast-k c =
-    let low : Moved c.args.b (count_leading_zeros 64 c.args.b) = moved c.args.b c.requires.0 c.requires.1 in
-    omega (arith, low)
-
-pub overflow_shl-m : goal.overflow_shl-m
-overflow_shl-m c =
-    let low : Moved c.args.b (count_leading_zeros 64 c.args.b) = moved c.args.b c.requires.0 c.requires.1 in
-    omega (arith, low)
-
-pub overflow_sub-i : goal.overflow_sub-i
-overflow_sub-i c =
-    let low : Moved c.args.b (count_leading_zeros 64 c.args.b) = moved c.args.b c.requires.0 c.requires.1 in
-    omega (arith, low)
-
 pub overflow_add-near-2 : goal.overflow_add-near-2
 overflow_add-near-2 c =
     let low : Moved c.args.b (count_leading_zeros 64 c.args.b) = moved c.args.b c.requires.0 c.requires.1 in

@@ -4,12 +4,8 @@ use lib.Dec.{T}
 use lib.Ieee.{binary64, fits, of_bits, div}
 use lib.Ieee.Bits.{of_bits-to_bits}
 use Rattle.root.specs.Root.{sqrt}
-use Rattle.root.proofs.Cases.{above_no_nan, above-pos, at_infinity, at_zero, below-zero}
+use Rattle.root.proofs.Cases.{above-pos, at_infinity, at_zero, below-zero}
 use Rattle.root.proofs.root_by.Goals as goal
-
-pub float_to_bits-b : goal.float_to_bits-b
-unfolding of_bits
-float_to_bits-b c = above_no_nan c.args.x c.if-x.true
 
 pub of_low-requires : goal.of_low-requires
 unfolding of_bits

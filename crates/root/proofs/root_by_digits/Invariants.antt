@@ -1,10 +1,6 @@
--- What the loops of `root::root_by_digits` keep.
-use Prim.Native.Nat.{◌-◌}
+-- What the loop of `root::root_by_digits` keeps.
 use Rattle.root.proofs.Digits.{Digits}
 use Rattle.root.proofs.root_by_digits.Given as goal
 
-abbrev pub invariant-loop-i : goal.invariant-loop-i
-invariant-loop-i l = Digits l.a l.root l.rest l.left l.i
-
-abbrev pub decreases-loop-i : goal.decreases-loop-i
-decreases-loop-i l = 54 - l.i
+abbrev pub invariant-loop-turn : goal.invariant-loop-turn
+invariant-loop-turn l = Digits l.a l.root l.rest l.left l._turn

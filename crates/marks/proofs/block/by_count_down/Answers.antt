@@ -9,11 +9,8 @@ loop-size-init c = start _ (omega arith)
 pub returns-then-num_points-size-ge-MIN_POINTS_TO_FIT : goal.returns-then-num_points-size-ge-MIN_POINTS_TO_FIT
 returns-then-num_points-size-ge-MIN_POINTS_TO_FIT c = found _ _ c.loop-size.invariant c.loop-size-test.true (omega arith)
 
-pub loop-size-smaller : goal.loop-size-smaller
-loop-size-smaller c = omega arith
-
 pub loop-size-preserved : goal.loop-size-preserved
 loop-size-preserved c = next _ _ c.loop-size.invariant c.loop-size-test.true (omega arith)
 
 pub returns : goal.returns
-returns c = end _ _ c.loop-size.invariant c.loop-size-test.false
+returns c = end _ _ c.loop-size.invariant (omega arith)

@@ -14,10 +14,7 @@ use Rattle.packer.proofs.records.curves_meet.Goals as goal
 
 pub loop-i-init : goal.loop-i-init
 unfolding each
-loop-i-init c = (omega arith, refl)
-
-pub overflow_sub-k : goal.overflow_sub-k
-overflow_sub-k c = omega (arith, c.requires.1)
+loop-i-init c = refl
 
 pub numbers_at-requires : goal.numbers_at-requires
 numbers_at-requires c =
@@ -40,18 +37,15 @@ same_point-requires c =
     let next : let a = c.args in numbers_place a.form a.n (c.loop-i.i + 1) + 64 ≤ record_at a.form a.n a.k = let a = c.args in omega (arith, numbers_within a.form a.n a.k (c.loop-i.i + 1) (omega arith), rest_long a.form) in
     (omega (arith, this, c.numbers_at.ensures, c.requires.0), omega (arith, next, c.numbers_at-in-loop-i.ensures, c.requires.0))
 
-pub loop-i-smaller : goal.loop-i-smaller
-loop-i-smaller c = omega arith
-
 pub loop-i-preserved : goal.loop-i-preserved
 loop-i-preserved c =
     let told : let a = c.args in same (words 2 (drop (numbers_place a.form a.n c.loop-i.i + 48) a.file.now)) (words 2 (drop (numbers_place a.form a.n (c.loop-i.i + 1)) a.file.now)) ≡ c.same_point.result = sym (rw (c.numbers_at.ensures, c.numbers_at-in-loop-i.ensures) at c.same_point.ensures) in
-    let a = c.args in (omega arith, meet_more a.file.now a.form a.n a.k c.loop-i.i (omega arith) c.loop-i.invariant.1 (told ∙ c.if-same_point.true))
+    let a = c.args in meet_more a.file.now a.form a.n a.k c.loop-i.i (omega arith) c.loop-i.invariant (told ∙ c.if-not-same_point.false)
 
-pub returns-in-loop-i : goal.returns-in-loop-i
-returns-in-loop-i c =
+pub returns-then-not-same_point : goal.returns-then-not-same_point
+returns-then-not-same_point c =
     let told : let a = c.args in same (words 2 (drop (numbers_place a.form a.n c.loop-i.i + 48) a.file.now)) (words 2 (drop (numbers_place a.form a.n (c.loop-i.i + 1)) a.file.now)) ≡ c.same_point.result = sym (rw (c.numbers_at.ensures, c.numbers_at-in-loop-i.ensures) at c.same_point.ensures) in
-    let a = c.args in meet_not a.file.now a.form a.n a.k c.loop-i.i (omega arith) (λ e. true-false _ e (told ∙ c.if-same_point.false))
+    let a = c.args in meet_not a.file.now a.form a.n a.k c.loop-i.i (omega arith) (λ e. true-false _ e (told ∙ c.if-not-same_point.true))
 
 pub returns : goal.returns
-returns c = let a = c.args in let e : c.loop-i.i ≡ a.k - 1 = omega arith in sym (meet_all a.file.now a.form a.n a.k (rw e at c.loop-i.invariant.1))
+returns c = let a = c.args in let e : c.loop-i.i ≡ a.k - 1 = omega arith in sym (meet_all a.file.now a.form a.n a.k (rw e at c.loop-i.invariant))

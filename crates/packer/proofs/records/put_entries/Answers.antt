@@ -13,7 +13,7 @@ use Rattle.packer.proofs.records.put_entries.Goals as goal
 
 pub loop-i-init : goal.loop-i-init
 unfolding each
-loop-i-init c = (omega arith, (refl, refl))
+loop-i-init c = refl
 
 pub overflow_mul-step : goal.overflow_mul-step
 overflow_mul-step c =
@@ -28,16 +28,10 @@ overflow_add-at c =
 pub put_entry-requires : goal.put_entry-requires
 put_entry-requires c =
     let inside : let a = c.args in (c.entry_bytes-step.result * c.loop-i.i ≡ entry_bytes a.form * c.loop-i.i) × (entry_bytes a.form * c.loop-i.i + entry_bytes a.form ≤ entry_bytes a.form * a.k) = let a = c.args in (ap (λ (x : ℕ). x * c.loop-i.i) c.entry_bytes-step.ensures, within (entry_bytes a.form) a.k c.loop-i.i (omega arith)) in
-    (c.requires.0, (c.requires.1.0, (omega arith, omega (arith, inside, c.loop-i.invariant.1.1, c.requires.1.1))))
-
-pub loop-i-smaller : goal.loop-i-smaller
-loop-i-smaller c = omega arith
+    (c.requires.0, (c.requires.1.0, (omega arith, omega (arith, inside, c.requires.1.1))))
 
 pub loop-i-preserved : goal.loop-i-preserved
-loop-i-preserved c = let a = c.args in let e = entries_put a.file.now a.form a.n a.k a.out.now a.at c.loop-i.i (omega arith) c.loop-i.invariant.1.0 c.put_entry.ensures (ap (λ (x : ℕ). a.at + x * c.loop-i.i) c.entry_bytes-step.ensures) in (omega arith, (e, ap length e ∙ length-sets a.out.now a.at (each (c.loop-i.i + 1) (entry_of (file_at a.file.now a.form a.n a.k)))))
-
-pub shape_of-out : goal.shape_of-out
-shape_of-out c = c.loop-i.invariant.1.1
+loop-i-preserved c = let a = c.args in entries_put a.file.now a.form a.n a.k a.out.now a.at c.loop-i.i (omega arith) c.loop-i.invariant c.put_entry.ensures (ap (λ (x : ℕ). a.at + x * c.loop-i.i) c.entry_bytes-step.ensures)
 
 pub returns : goal.returns
-returns c = let e : c.loop-i.i ≡ c.args.k = omega arith in rw e at c.loop-i.invariant.1.0
+returns c = let e : c.loop-i.i ≡ c.args.k = omega arith in rw e at c.loop-i.invariant

@@ -1,4 +1,4 @@
--- What the loops of `packer::records::put_entries` keep.
+-- What the loop of `packer::records::put_entries` keep.
 use mathlib.Core.Path.{◌≡◌}
 use Prim.Native.Nat.{◌-◌, ◌≤◌}
 use lib.ListN.{length}
@@ -9,7 +9,4 @@ use Rattle.packed.specs.Packed.{entry_of}
 use Rattle.packer.proofs.records.put_entries.Given as goal
 
 abbrev pub invariant-loop-i : goal.invariant-loop-i
-invariant-loop-i l = (l.i ≤ l.k) × ((l.out ≡ sets l.initial.out l.at (each l.i (entry_of (file_at l.file l.form l.n l.k)))) × (length l.out ≡ length l.initial.out))
-
-abbrev pub decreases-loop-i : goal.decreases-loop-i
-decreases-loop-i l = l.k - l.i
+invariant-loop-i l = l.out ≡ sets l.initial.out l.at (each l.i (entry_of (file_at l.file l.form l.n l.k)))

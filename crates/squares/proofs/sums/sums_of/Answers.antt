@@ -1,7 +1,7 @@
 -- `squares::sums::sums_of` meets its contract: s is the sums over the first i marks.
 use mathlib.Core.Path.{◌≡◌, refl}
 use mathlib.Core.List.{List}
-use Prim.Native.Nat.{ℕ, ◌+◌, zero-le}
+use Prim.Native.Nat.{ℕ, ◌+◌}
 use native.Mathlib.Omega.{arith}
 use lib.ListN.{length}
 use lib.Ieee.{Float}
@@ -22,13 +22,10 @@ module _ (ms ts : List Float) (st et : Point) (s : Sums) (i : ℕ) (d : s ≡ (u
 
 pub loop-i-init : goal.loop-i-init
 unfolding upto
-loop-i-init c = (zero-le, refl)
-
-pub loop-i-smaller : goal.loop-i-smaller
-loop-i-smaller c = omega arith
+loop-i-init c = refl
 
 pub loop-i-preserved : goal.loop-i-preserved
-loop-i-preserved c = (omega arith, more _ _ _ _ _ _ c.loop-i.invariant.1 _ c.sum_at-s.ensures)
+loop-i-preserved c = more _ _ _ _ _ _ c.loop-i.invariant _ c.sum_at-s.ensures
 
 pub returns : goal.returns
-returns c = end _ _ _ _ _ _ c.loop-i.invariant.1 (omega arith)
+returns c = end _ _ _ _ _ _ c.loop-i.invariant (omega arith)

@@ -2,13 +2,10 @@
 use mathlib.Core.Path.{◌≡◌, refl, ap, ◌∙◌}
 use Prim.Native.Nat.{ℕ, ◌+◌, ◌*◌, ◌≤◌}
 use native.Mathlib.Omega.{arith}
-use lib.ListN.{length}
-use lib.Seq.{sets, length-sets}
 use Rattle.house.specs.Limits.{curve_bytes}
 use Rattle.house.proofs.Forms.{body-few, within}
 use Rattle.packed.specs.Each.{each}
 use Rattle.packed.specs.Packed.{entry_bytes}
-use Rattle.unpacker.specs.Records.{record_here}
 use Rattle.unpacker.proofs.Pieces.{records_put}
 use Rattle.unpacker.proofs.records.put_curves.Goals as goal
 
@@ -17,7 +14,7 @@ overflow_add-step c = let a = c.args in omega (arith, body-few a.form a.field, c
 
 pub loop-i-init : goal.loop-i-init
 unfolding each
-loop-i-init c = (omega arith, (refl, refl))
+loop-i-init c = refl
 
 pub overflow_mul-step : goal.overflow_mul-step
 overflow_mul-step c =
@@ -32,25 +29,16 @@ overflow_add-at c =
 pub put_curve-requires : goal.put_curve-requires
 put_curve-requires c =
     let inside : let a = c.args in let step = 6 + c.body_bytes-step.result in (step * c.loop-i.i + step ≤ step * a.k) × (step * a.k ≡ curve_bytes a.form a.field * a.k) = let a = c.args in (within (6 + c.body_bytes-step.result) a.k c.loop-i.i (omega arith), ap (λ (x : ℕ). (6 + x) * a.k) c.body_bytes-step.ensures) in
-    let a = c.args in (omega (arith, within (entry_bytes a.form) a.k c.loop-i.i (omega arith), c.requires.0), omega (arith, inside, c.body_bytes-step.ensures, c.loop-i.invariant.1.1, c.requires.1))
-
-pub loop-i-smaller : goal.loop-i-smaller
-loop-i-smaller c = omega arith
+    let a = c.args in (omega (arith, within (entry_bytes a.form) a.k c.loop-i.i (omega arith), c.requires.0), omega (arith, inside, c.body_bytes-step.ensures, c.requires.1))
 
 pub loop-i-preserved : goal.loop-i-preserved
 loop-i-preserved c =
     let l = c.loop-i in
     let a = c.args in
-    let rs = each (l.i + 1) (record_here a.file.now a.form a.field a.n) in
-    let e : c.put_curve.new.out ≡ sets a.out.now a.at rs =
-    c.put_curve.ensures ∙ rw (l.invariant.1.0, c.body_bytes-step.ensures) (records_put a.file.now a.form a.field a.n a.out.now a.at l.i) in
-    (omega arith, (e, ap length e ∙ length-sets a.out.now a.at rs))
-
-pub shape_of-out : goal.shape_of-out
-shape_of-out c = c.loop-i.invariant.1.1
+    c.put_curve.ensures ∙ rw (l.invariant, c.body_bytes-step.ensures) (records_put a.file.now a.form a.field a.n a.out.now a.at l.i)
 
 pub returns : goal.returns
 returns c =
     let l = c.loop-i in
     let e : l.i ≡ c.args.k = omega arith in
-    rw e at l.invariant.1.0
+    rw e at l.invariant
