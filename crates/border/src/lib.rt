@@ -60,6 +60,22 @@ fn put<T: Copy>(answer: Result<T, Refusal>, nothing: T, place: &mut T) -> u32
     }
 }
 
+// The same of an answer that has two values, each with a place of its own.
+fn put_both<A: Copy, B: Copy>(
+    answer: Result<(A, B), Refusal>,
+    nothing: (A, B),
+    first: &mut A,
+    second: &mut B,
+) -> u32
+    ensures { crossed result (both first.new second.new) ≡ crossing (λ v. v) nothing (answer answer) }
+{
+    let mut values = nothing;
+    let number = put(answer, nothing, &mut values);
+    *first = values.0;
+    *second = values.1;
+    number
+}
+
 // How many: curves that a fit made, or bytes that were written.
 pub fn put_count(answer: Result<usize, Refusal>, count: &mut usize) -> u32
     ensures { crossed result count.new ≡ count_crossed (answer answer) }
