@@ -11,7 +11,7 @@
 
 ghost use Rattle.std.specs.Prelude.{◌<◌, length};
 
-use cases::parts::{front_bytes, front_words, lent_bytes, lent_firsts, lent_words};
+use cases::parts::{front, lent};
 use cases::{STDIN, STDOUT};
 use form::Form;
 use lines::Listed;
@@ -55,7 +55,7 @@ struct Runs {
 }
 
 // How often each answer was given.
-#[derive(Clone, Copy)]
+#[derive(Clone, Copy, Default)]
 struct Tally {
     taken: u64,
     many: u64,
@@ -63,12 +63,8 @@ struct Tally {
     formed: u64,
 }
 
-fn more(n: u64) -> u64 {
-    std::num::wrapping_add_u64(n, 1)
-}
-
 fn more_if(n: u64, b: bool) -> u64 {
-    if b { more(n) } else { n }
+    if b { n.wrapping_add(1) } else { n }
 }
 
 // One more answer: 9 is the only one beside 0, 2 and 4.
@@ -81,16 +77,11 @@ fn count(t: Tally, answer: u32) -> Tally {
     }
 }
 
-fn print_next(n: u64) {
-    io::write_all(STDOUT, b" ");
-    cases::print_count(n);
-}
-
 fn print_tally(t: Tally) {
     cases::print_count(t.taken);
-    print_next(t.many);
-    print_next(t.room);
-    print_next(t.formed);
+    cases::print_next_count(t.many);
+    cases::print_next_count(t.room);
+    cases::print_next_count(t.formed);
     cases::end_line();
 }
 
@@ -151,30 +142,12 @@ fn prefixes(
     params: &mut [u64],
     out: &mut [u8],
 ) -> Tally {
-    let mut t = Tally {
-        taken: 0,
-        many: 0,
-        room: 0,
-        formed: 0,
-    };
-    let mut i: usize = 0;
-    let from: usize = 0;
-    while i < file.len() {
-        let next = i + 1;
+    let mut t = Tally::default();
+    for i in 0..file.len() {
         t = count(
             t,
-            answer_of(
-                what,
-                &file[from..i],
-                marks,
-                firsts,
-                worsts,
-                curves,
-                params,
-                out,
-            ),
+            answer_of(what, &file[..i], marks, firsts, worsts, curves, params, out),
         );
-        i = next;
     }
     t
 }
@@ -214,15 +187,12 @@ fn change_at(
 {
     let was = file[at];
     let mut t = start;
-    let mut d: u64 = 1;
-    while d < values {
-        let next = d + 1;
+    for d in 1..values {
         file[at] = turned(was, d);
         t = count(
             t,
             answer_of(what, file, marks, firsts, worsts, curves, params, out),
         );
-        d = next;
     }
     file[at] = was;
     t
@@ -240,37 +210,14 @@ fn changes(
     params: &mut [u64],
     out: &mut [u8],
 ) -> Tally {
-    let mut t = Tally {
-        taken: 0,
-        many: 0,
-        room: 0,
-        formed: 0,
-    };
-    let mut i: usize = 0;
-    while i < file.len() {
-        let next = i + 1;
+    let mut t = Tally::default();
+    for i in 0..file.len() {
         let values = values_at(runs, i);
         t = change_at(
             what, file, i, values, t, marks, firsts, worsts, curves, params, out,
         );
-        i = next;
     }
     t
-}
-
-// Whether two slices hold the same bytes.
-fn same(a: &[u8], b: &[u8]) -> bool {
-    if a.len() != b.len() {
-        return false;
-    }
-    let mut i: usize = 0;
-    while i < a.len() {
-        if a[i] != b[i] {
-            return false;
-        }
-        i += 1;
-    }
-    true
 }
 
 // A refusal's number, which ends its line.
@@ -282,9 +229,9 @@ fn print_refusal(q: u32) {
 // How many bytes were written, and whether they are the file's.
 fn print_bytes(n: usize, file: &[u8], out: &[u8]) {
     cases::print_count(0);
-    print_next(n as u64);
+    cases::print_next_count(n as u64);
     cases::end_line();
-    if !same(file, front_bytes(out, n)) {
+    if file != front(out, n) {
         io::write_all(STDOUT, b"DIFFERS\n");
     }
 }
@@ -332,8 +279,8 @@ fn write_again(
 
 fn print_counts(marks: usize, curves: usize) {
     cases::print_count(0);
-    print_next(marks as u64);
-    print_next(curves as u64);
+    cases::print_next_count(marks as u64);
+    cases::print_next_count(curves as u64);
 }
 
 // The file read, and written again.
@@ -355,14 +302,14 @@ fn read_and_write(
             curves: k,
         } => {
             print_counts(n, k);
-            let m = std::num::wrapping_add_usize(n, n);
+            let m = n.wrapping_add(n);
             write_again(
                 what,
                 form,
                 t,
                 k,
                 file,
-                front_words(marks, m),
+                front(marks, m),
                 firsts,
                 worsts,
                 curves,
@@ -378,23 +325,17 @@ fn read_and_write(
 fn list(file: &[u8], out: &mut [u8]) {
     match outline::list_outline(file, out) {
         Listed::Bytes(n) => {
-            io::write_all(STDOUT, front_bytes(out, n));
+            io::write_all(STDOUT, front(out, n));
         }
         Listed::Refused(q) => print_refusal(q),
     }
 }
 
-fn wide(x: u8) -> u64 {
-    x as u64
-}
-
 // A digest of all bytes.
 fn digest(xs: &[u8]) -> u64 {
     let mut h: u64 = 0;
-    let mut i: usize = 0;
-    while i < xs.len() {
-        h = cases::mix(h, wide(xs[i]));
-        i += 1;
+    for x in xs {
+        h = cases::mix(h, u64::from(*x));
     }
     h
 }
@@ -409,7 +350,7 @@ fn print_packing(made: Listed) {
     match made {
         Listed::Bytes(n) => {
             cases::print_count(0);
-            print_next(n as u64);
+            cases::print_next_count(n as u64);
         }
         Listed::Refused(q) => {
             cases::print_count(q as u64);
@@ -437,8 +378,8 @@ fn print_cleaning(made: Salvaged) {
     match made {
         Salvaged::Bytes { file, report } => {
             cases::print_count(0);
-            print_next(file as u64);
-            print_next(report as u64);
+            cases::print_next_count(file as u64);
+            cases::print_next_count(report as u64);
         }
         Salvaged::Refused(q) => {
             cases::print_count(q as u64);
@@ -463,17 +404,17 @@ fn length_at(head: &[u8; 104], at: usize) -> usize {
 // The runs of a head. Where a sum wraps around, a run's end is before its beginning, and nothing is done with it.
 fn runs_of(head: &[u8; 104]) -> Runs {
     let end = length_at(head, 8);
-    let second = std::num::wrapping_add_usize(end, length_at(head, 16));
-    let second_end = std::num::wrapping_add_usize(second, length_at(head, 24));
-    let third = std::num::wrapping_add_usize(second_end, length_at(head, 32));
-    let third_end = std::num::wrapping_add_usize(third, length_at(head, 40));
+    let second = end.wrapping_add(length_at(head, 16));
+    let second_end = second.wrapping_add(length_at(head, 24));
+    let third = second_end.wrapping_add(length_at(head, 32));
+    let third_end = third.wrapping_add(length_at(head, 40));
     Runs {
         end,
         second,
         second_end,
         third,
         third_end,
-        length: std::num::wrapping_add_usize(third_end, length_at(head, 48)),
+        length: third_end.wrapping_add(length_at(head, 48)),
     }
 }
 
@@ -491,12 +432,12 @@ fn fits(head: &[u8; 104]) -> bool {
 
 fn list_record(head: &[u8; 104], file: &[u8]) {
     let mut out = [0u8; WRITTEN];
-    list(file, lent_bytes(&mut out, length_at(head, 96)));
+    list(file, lent(&mut out, length_at(head, 96)));
 }
 
 fn pack_record(what: u64, head: &[u8; 104], file: &[u8]) {
     let mut out = [7u8; WRITTEN];
-    pack(what, file, lent_bytes(&mut out, length_at(head, 96)));
+    pack(what, file, lent(&mut out, length_at(head, 96)));
 }
 
 fn clean_record(head: &[u8; 104], file: &[u8]) {
@@ -504,8 +445,8 @@ fn clean_record(head: &[u8; 104], file: &[u8]) {
     let mut list = [7u8; NUMBERS];
     clean(
         file,
-        lent_bytes(&mut out, length_at(head, 96)),
-        lent_bytes(&mut list, length_at(head, 56)),
+        lent(&mut out, length_at(head, 96)),
+        lent(&mut list, length_at(head, 56)),
     );
 }
 
@@ -519,12 +460,12 @@ fn write_record(what: u64, head: &[u8; 104], file: &[u8]) {
     read_and_write(
         what,
         file,
-        lent_words(&mut marks, length_at(head, 56)),
-        lent_firsts(&mut firsts, length_at(head, 64)),
-        lent_firsts(&mut worsts, length_at(head, 72)),
-        lent_words(&mut curves, length_at(head, 80)),
-        lent_words(&mut params, length_at(head, 88)),
-        lent_bytes(&mut out, length_at(head, 96)),
+        lent(&mut marks, length_at(head, 56)),
+        lent(&mut firsts, length_at(head, 64)),
+        lent(&mut worsts, length_at(head, 72)),
+        lent(&mut curves, length_at(head, 80)),
+        lent(&mut params, length_at(head, 88)),
+        lent(&mut out, length_at(head, 96)),
     );
 }
 
@@ -557,12 +498,12 @@ fn tally_record(what: u64, head: &[u8; 104], file: &mut [u8]) {
         what,
         runs_of(head),
         file,
-        lent_words(&mut marks, length_at(head, 56)),
-        lent_firsts(&mut firsts, length_at(head, 64)),
-        lent_firsts(&mut worsts, length_at(head, 72)),
-        lent_words(&mut curves, length_at(head, 80)),
-        lent_words(&mut params, length_at(head, 88)),
-        lent_bytes(&mut out, length_at(head, 96)),
+        lent(&mut marks, length_at(head, 56)),
+        lent(&mut firsts, length_at(head, 64)),
+        lent(&mut worsts, length_at(head, 72)),
+        lent(&mut curves, length_at(head, 80)),
+        lent(&mut params, length_at(head, 88)),
+        lent(&mut out, length_at(head, 96)),
     );
     print_tally(t);
 }
@@ -601,7 +542,7 @@ fn read_runs(runs: Runs, file: &mut [u8]) {
 // The file of a head, read and looked at.
 fn read_record(head: &[u8; 104], room: &mut [u8]) {
     let runs = runs_of(head);
-    let file = lent_bytes(room, runs.length);
+    let file = lent(room, runs.length);
     read_runs(runs, file);
     record(head, file);
 }
@@ -626,11 +567,9 @@ fn step() -> bool {
 }
 
 fn main() {
-    let mut k: usize = 0;
-    while k < 65536 {
+    for _ in 0..65536 {
         if !step() {
             return;
         }
-        k += 1;
     }
 }
