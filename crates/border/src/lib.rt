@@ -2,11 +2,11 @@
 #![tactic(auto)]
 
 ghost use Rattle.std.specs.Prelude.{◌≡◌};
-ghost use Rattle.float.specs.Refusal.{answer};
+ghost use Rattle.float.specs.Refusal.{answer as answer_of};
 ghost use Rattle.nearest.specs.Nearest.{nearest_answer};
 ghost use Rattle.checker.specs.Check.{checked_answer, place};
 ghost use Rattle.salvaging.specs.Salvage.{sizes};
-ghost use Rattle.border.specs.Crossing.{outline_for, form_for, crossed, crossing, count_crossed, number_crossed, point_crossed, coefficients_crossed, eight, parts, halves_crossed, nearest, nearest_crossed, fault_crossed, verdict_crossed, found, found_crossed, salvaged_crossed, drawn, drawn_crossed};
+ghost use Rattle.border.specs.Crossing.{outline_for, form_for, crossed, crossing, count_crossed, number_crossed, xy, point_crossed, abcd, coefficients_crossed, eight, parts, halves_crossed, nearest, nearest_crossed, fault_crossed, verdict_crossed, found, found_crossed, salvaged_crossed, drawn, drawn_crossed};
 
 use checker::{Checked, Fault, Place};
 use cubic::eval::Coefficients;
@@ -46,7 +46,7 @@ pub fn form_for(nine: bool) -> Form
 
 // An answer's number, 0 of one that is accepted; its value goes to `place`, and where something is refused `nothing` does.
 fn put<T: Copy>(answer: Result<T, Refusal>, nothing: T, place: &mut T) -> u32
-    ensures { crossed result place.new ≡ crossing (λ v. v) nothing (answer answer) }
+    ensures { crossed result place.new ≡ crossing (λ v. v) nothing (answer_of answer) }
 {
     match answer {
         Ok(value) => {
@@ -67,7 +67,7 @@ fn put_both<A: Copy, B: Copy>(
     first: &mut A,
     second: &mut B,
 ) -> u32
-    ensures { crossed result (both first.new second.new) ≡ crossing (λ v. v) nothing (answer answer) }
+    ensures { crossed result (first.new, second.new) ≡ crossing (λ v. v) nothing (answer_of answer) }
 {
     let mut values = nothing;
     let number = put(answer, nothing, &mut values);
@@ -77,33 +77,62 @@ fn put_both<A: Copy, B: Copy>(
 }
 
 // How many: curves that a fit made, or bytes that were written.
+#[tactic(auto, unfolding(crate::specs::Crossing::count_crossed))]
 pub fn put_count(answer: Result<usize, Refusal>, count: &mut usize) -> u32
-    ensures { crossed result count.new ≡ count_crossed (answer answer) }
+    ensures { crossed result count.new ≡ count_crossed (answer_of answer) }
 {
     put(answer, 0, count)
 }
 
 // A parameter.
+#[tactic(auto, unfolding(crate::specs::Crossing::number_crossed))]
 pub fn put_refined(answer: Result<f64, Refusal>, t: &mut f64) -> u32
-    ensures { crossed result t.new ≡ number_crossed (answer answer) }
+    ensures { crossed result t.new ≡ number_crossed (answer_of answer) }
 {
     put(answer, 0.0, t)
 }
 
 // ---- one curve
 
-// A point.
-pub fn put_point(answer: Result<Point, Refusal>, point: &mut [f64; 2]) -> u32
-    ensures { crossed result point.new ≡ point_crossed (answer answer) }
+// A point's two numbers.
+fn xy(p: Point) -> [f64; 2]
+    ensures { result ≡ xy p }
 {
-    put(answer.map(|p| [p.x, p.y]), [0.0; 2], point)
+    [p.x, p.y]
+}
+
+// A point.
+#[tactic(auto, unfolding(crate::specs::Crossing::point_crossed))]
+pub fn put_point(answer: Result<Point, Refusal>, point: &mut [f64; 2]) -> u32
+    ensures { crossed result point.new ≡ point_crossed (answer_of answer) }
+{
+    let mut p = Point { x: 0.0, y: 0.0 };
+    let number = put(answer, p, &mut p);
+    *point = xy(p);
+    number
+}
+
+// The four coefficients.
+fn abcd(k: Coefficients) -> [f64; 4]
+    ensures { result ≡ abcd k }
+{
+    [k.a, k.b, k.c, k.d]
 }
 
 // A curve's coefficients.
+#[tactic(auto, unfolding(crate::specs::Crossing::coefficients_crossed))]
 pub fn put_coefficients(answer: Result<Coefficients, Refusal>, coefficients: &mut [f64; 4]) -> u32
-    ensures { crossed result coefficients.new ≡ coefficients_crossed (answer answer) }
+    ensures { crossed result coefficients.new ≡ coefficients_crossed (answer_of answer) }
 {
-    put(answer.map(|k| [k.a, k.b, k.c, k.d]), [0.0; 4], coefficients)
+    let mut k = Coefficients {
+        a: 0.0,
+        b: 0.0,
+        c: 0.0,
+        d: 0.0,
+    };
+    let number = put(answer, k, &mut k);
+    *coefficients = abcd(k);
+    number
 }
 
 // A curve's eight numbers.
@@ -116,24 +145,16 @@ fn eight(c: Curve) -> [f64; 8]
 }
 
 // The two parts of a curve.
+#[tactic(auto, unfolding(crate::specs::Crossing::halves_crossed))]
 pub fn put_halves(answer: Result<Halves, Refusal>, left: &mut [f64; 8], right: &mut [f64; 8]) -> u32
-    ensures { crossed result (parts left.new right.new) ≡ halves_crossed (answer answer) }
+    ensures { crossed result (parts left.new right.new) ≡ halves_crossed (answer_of answer) }
 {
-    match answer {
-        Ok(h) => {
-            *left = eight(h.left);
-            *right = eight(h.right);
-            0
-        }
-        Err(refusal) => {
-            *left = [0.0; 8];
-            *right = [0.0; 8];
-            refusal.number()
-        }
-    }
+    let halves = answer.map(|h| (eight(h.left), eight(h.right)));
+    put_both(halves, ([0.0; 8], [0.0; 8]), left, right)
 }
 
 // The nearest point's parameter and its squared distance.
+#[tactic(auto, unfolding(crate::specs::Crossing::nearest_crossed, nearest::specs::Nearest::nearest_answer))]
 pub fn put_nearest(answer: NearestPoint, t: &mut f64, distance_sq: &mut f64) -> u32
     ensures { crossed result (nearest t.new distance_sq.new) ≡ nearest_crossed (nearest_answer answer) }
 {
@@ -176,13 +197,19 @@ fn put_fault(fault: Fault, curve: &mut usize, mark: &mut usize) -> u32
 }
 
 // What the checker says.
+#[tactic(auto, unfolding(crate::specs::Crossing::verdict_crossed, checker::specs::Check::checked_answer))]
 pub fn put_checked(answer: Checked, curve: &mut usize, mark: &mut usize) -> u32
     ensures { crossed result (place curve.new mark.new) ≡ verdict_crossed (checked_answer answer) }
 {
     match answer {
         Checked::Passed => put_place(0, Place { curve: 0, mark: 0 }, curve, mark),
         Checked::Faulty(fault) => put_fault(fault, curve, mark),
-        Checked::Refused(refusal) => put_place(refusal.number(), Place { curve: 0, mark: 0 }, curve, mark),
+        Checked::Refused(refusal) => put_place(
+            refusal.number(),
+            Place { curve: 0, mark: 0 },
+            curve,
+            mark,
+        ),
     }
 }
 
@@ -199,6 +226,7 @@ fn is_nine(form: Form) -> bool
 }
 
 // What a file holds beside the slices.
+#[tactic(auto, unfolding(crate::specs::Crossing::found_crossed))]
 pub fn put_read(
     answer: Result<Found, Refusal>,
     tolerance: &mut u64,
@@ -206,7 +234,7 @@ pub fn put_read(
     curve_count: &mut usize,
     nine: &mut bool,
 ) -> u32
-    ensures { crossed result (found nine.new tolerance.new mark_count.new curve_count.new) ≡ found_crossed (answer answer) }
+    ensures { crossed result (found nine.new tolerance.new mark_count.new curve_count.new) ≡ found_crossed (answer_of answer) }
 {
     match answer {
         Ok(found) => {
@@ -227,37 +255,23 @@ pub fn put_read(
 }
 
 // How many bytes a cleaned file has, and how many its list.
-pub fn put_salvaged(answer: Result<Sizes, Refusal>, size: &mut usize, report_size: &mut usize) -> u32
-    ensures { crossed result (sizes size.new report_size.new) ≡ salvaged_crossed (answer answer) }
+#[tactic(auto, unfolding(crate::specs::Crossing::salvaged_crossed))]
+pub fn put_salvaged(
+    answer: Result<Sizes, Refusal>,
+    size: &mut usize,
+    report_size: &mut usize,
+) -> u32
+    ensures { crossed result (sizes size.new report_size.new) ≡ salvaged_crossed (answer_of answer) }
 {
-    match answer {
-        Ok(sizes) => {
-            *size = sizes.file;
-            *report_size = sizes.report;
-            0
-        }
-        Err(refusal) => {
-            *size = 0;
-            *report_size = 0;
-            refusal.number()
-        }
-    }
+    let both = answer.map(|s| (s.file, s.report));
+    put_both(both, (0, 0), size, report_size)
 }
 
 // How many curves path data draws, and whether it closes.
+#[tactic(auto, unfolding(crate::specs::Crossing::drawn_crossed))]
 pub fn put_imported(answer: Result<Imported, Refusal>, count: &mut usize, closed: &mut bool) -> u32
-    ensures { crossed result (drawn «count».new closed.new) ≡ drawn_crossed (answer answer) }
+    ensures { crossed result (drawn «count».new closed.new) ≡ drawn_crossed (answer_of answer) }
 {
-    match answer {
-        Ok(path) => {
-            *count = path.count;
-            *closed = path.closed;
-            0
-        }
-        Err(refusal) => {
-            *count = 0;
-            *closed = false;
-            refusal.number()
-        }
-    }
+    let both = answer.map(|path| (path.count, path.closed));
+    put_both(both, (0, false), count, closed)
 }
