@@ -13,13 +13,11 @@ ghost use Rattle.std.specs.Prelude.{◌<◌, length};
 
 use cases::parts::{front, lent};
 use cases::{STDIN, STDOUT};
-use form::Form;
-use lines::Listed;
+use float::refusal::Refusal;
 use packer::pack_file;
-use reader::Read;
-use salvaging::{Salvaged, salvage};
+use reader::Found;
+use salvaging::{Sizes, salvage};
 use unpacker::unpack_file;
-use writer::Wrote;
 
 // The room for a file, for what is written, for marks and curves, for first marks and for parameters. A file of 100,001 marks is only refused: nothing of it is read.
 const FILE: usize = 2400256;
@@ -85,32 +83,11 @@ fn print_tally(t: Tally) {
     cases::end_line();
 }
 
-// The number of the reader's answer.
-fn read_answer(
-    file: &[u8],
-    marks: &mut [u64],
-    firsts: &mut [u32],
-    worsts: &mut [u32],
-    curves: &mut [u64],
-    params: &mut [u64],
-) -> u32 {
-    let read = reader::read_file(file, marks, firsts, worsts, curves, params);
-    match read {
-        Read::File {
-            form: _,
-            tolerance: _,
-            marks: _,
-            curves: _,
-        } => 0,
-        Read::Refused(q) => q,
-    }
-}
-
-// The number of the unpacker's answer.
-fn unpack_answer(file: &[u8], out: &mut [u8]) -> u32 {
-    match unpack_file(file, out) {
-        Listed::Bytes(_) => 0,
-        Listed::Refused(q) => q,
+// The number of an answer: 0, or that of the refusal.
+fn number_of<T: Copy>(answer: Result<T, Refusal>) -> u32 {
+    match answer {
+        Ok(_) => 0,
+        Err(q) => q.number(),
     }
 }
 
@@ -126,9 +103,11 @@ fn answer_of(
     out: &mut [u8],
 ) -> u32 {
     if what < UNPACK_PREFIXES {
-        return read_answer(file, marks, firsts, worsts, curves, params);
+        return number_of(reader::read_file(
+            file, marks, firsts, worsts, curves, params,
+        ));
     }
-    unpack_answer(file, out)
+    number_of(unpack_file(file, out))
 }
 
 // Every prefix, the file itself not among them.
@@ -221,8 +200,8 @@ fn changes(
 }
 
 // A refusal's number, which ends its line.
-fn print_refusal(q: u32) {
-    cases::print_count(q as u64);
+fn print_refusal(q: Refusal) {
+    cases::print_count(u64::from(q.number()));
     cases::end_line();
 }
 
@@ -237,11 +216,11 @@ fn print_bytes(n: usize, file: &[u8], out: &[u8]) {
 }
 
 // What was written, against the file.
-fn print_written(wrote: Wrote, file: &[u8], out: &[u8]) {
+fn print_written(wrote: Result<usize, Refusal>, file: &[u8], out: &[u8]) {
     io::write_all(STDOUT, b" ");
     match wrote {
-        Wrote::Bytes(n) => print_bytes(n, file, out),
-        Wrote::Refused(q) => print_refusal(q),
+        Ok(n) => print_bytes(n, file, out),
+        Err(q) => print_refusal(q),
     }
 }
 
@@ -258,9 +237,7 @@ fn beyond(too_far: bool, beside: &mut [u32]) {
 // What the reader found, written again.
 fn write_again(
     what: u64,
-    form: Form,
-    tolerance: u64,
-    count: usize,
+    found: Found,
     file: &[u8],
     marks: &[u64],
     firsts: &mut [u32],
@@ -272,7 +249,15 @@ fn write_again(
     beyond(what == 5, firsts);
     beyond(what == 4, worsts);
     let wrote = writer::write_file(
-        form, tolerance, marks, count, firsts, worsts, curves, params, out,
+        found.form,
+        found.tolerance,
+        marks,
+        found.curves,
+        firsts,
+        worsts,
+        curves,
+        params,
+        out,
     );
     print_written(wrote, file, out);
 }
@@ -295,19 +280,12 @@ fn read_and_write(
     out: &mut [u8],
 ) {
     match reader::read_file(file, marks, firsts, worsts, curves, params) {
-        Read::File {
-            form,
-            tolerance: t,
-            marks: n,
-            curves: k,
-        } => {
-            print_counts(n, k);
-            let m = n.wrapping_add(n);
+        Ok(found) => {
+            print_counts(found.marks, found.curves);
+            let m = found.marks.wrapping_add(found.marks);
             write_again(
                 what,
-                form,
-                t,
-                k,
+                found,
                 file,
                 front(marks, m),
                 firsts,
@@ -317,17 +295,17 @@ fn read_and_write(
                 out,
             );
         }
-        Read::Refused(q) => print_refusal(q),
+        Err(q) => print_refusal(q),
     }
 }
 
 // The file's listing.
 fn list(file: &[u8], out: &mut [u8]) {
     match outline::list_outline(file, out) {
-        Listed::Bytes(n) => {
+        Ok(n) => {
             io::write_all(STDOUT, front(out, n));
         }
-        Listed::Refused(q) => print_refusal(q),
+        Err(q) => print_refusal(q),
     }
 }
 
@@ -346,19 +324,17 @@ fn print_digest(xs: &[u8]) {
 }
 
 // The answer of either way, without the end of its line.
-fn print_packing(made: Listed) {
+fn print_packing(made: Result<usize, Refusal>) {
     match made {
-        Listed::Bytes(n) => {
+        Ok(n) => {
             cases::print_count(0);
             cases::print_next_count(n as u64);
         }
-        Listed::Refused(q) => {
-            cases::print_count(q as u64);
-        }
+        Err(q) => cases::print_count(u64::from(q.number())),
     }
 }
 
-fn packed_or_unpacked(what: u64, file: &[u8], out: &mut [u8]) -> Listed {
+fn packed_or_unpacked(what: u64, file: &[u8], out: &mut [u8]) -> Result<usize, Refusal> {
     if what == PACK {
         return pack_file(file, out);
     }
@@ -374,16 +350,14 @@ fn pack(what: u64, file: &[u8], out: &mut [u8]) {
 }
 
 // What cleaning answered, without the end of its line.
-fn print_cleaning(made: Salvaged) {
+fn print_cleaning(made: Result<Sizes, Refusal>) {
     match made {
-        Salvaged::Bytes { file, report } => {
+        Ok(Sizes { file, report }) => {
             cases::print_count(0);
             cases::print_next_count(file as u64);
             cases::print_next_count(report as u64);
         }
-        Salvaged::Refused(q) => {
-            cases::print_count(q as u64);
-        }
+        Err(q) => cases::print_count(u64::from(q.number())),
     }
 }
 
