@@ -9,9 +9,6 @@ use Rattle.part.specs.Answers.{trial_of}
 use Rattle.part.proofs.Trials.{found, lost, solves_no, solves_ok, improve_end, go_lost, go_off, go_last, go_more}
 use Rattle.part.proofs.improve.Goals as goal
 
-pub loop-init : goal.loop-init
-loop-init c = refl
-
 pub returns-in_err-next : goal.returns-in_err-next
 returns-in_err-next c = solves_no _ _ _ _ (go_lost _ _ _ _ _ _ _ _ c.loop.invariant (omega arith) _ (lost _ _ _ c.in_err-next.ensures)) (handed_on _ _ c.from_residual.ensures.1)
 

@@ -8,7 +8,7 @@ use Rattle.ring.specs.declared.Outline.TheVariants.{Open}
 use Rattle.joints.specs.declared.Joint.{Joint}
 use Rattle.joints.specs.Joints.{left_end}
 use Rattle.tangents.specs.Ways.{outline_of, marks_of}
-use Rattle.tangents.proofs.Blocks.{end_within, met, marks_of_is, open-marks, open-length, joint_inner, joint_closed, joint_as-closed, end_met, end_alone, end_seam, seam_of_is}
+use Rattle.tangents.proofs.Blocks.{end_within, met, open-marks, open-length, joint_inner, joint_closed, joint_as-closed, end_met, end_alone, end_seam, seam_of_is}
 use Rattle.tangents.proofs.end_of.Goals as goal
 
 pub joint_at-requires : goal.joint_at-requires
@@ -27,12 +27,6 @@ returns-then-meets c =
     c.left_end.ensures
     ∙ ap (λ (j : Joint). outcome (left_end j)) (c.joint_at.ensures ∙ joint_as-closed (outline_of a.cutting) a.marks.now (a.to - 1) (joint_inner a.cutting a.marks.now a.n p.marks_len (a.to - 1) (omega (arith, p)) (omega (arith, p, m))))
     ∙ ap outcome (sym (end_met a.cutting (marks_of a.cutting a.marks.now) a.n a.to t))
-
-pub seam_of-requires : goal.seam_of-requires
-seam_of-requires c =
-    let a = c.args in
-    let p = c.requires in
-    (marks_of_is a.cutting a.marks.now a.n p.marks_len (omega (arith, p))).0
 
 pub overflow_mul-tail : goal.overflow_mul-tail
 overflow_mul-tail c =

@@ -9,7 +9,7 @@ use Rattle.ring.specs.declared.Outline.TheVariants.{Open}
 use Rattle.joints.specs.declared.Joint.{Joint}
 use Rattle.joints.specs.Joints.{right_start}
 use Rattle.tangents.specs.Ways.{outline_of, marks_of}
-use Rattle.tangents.proofs.Blocks.{start_within, met, marks_of_is, open-marks, open-length, joint_inner, joint_closed, joint_as-closed, start_met, start_alone, start_seam, seam_of_is}
+use Rattle.tangents.proofs.Blocks.{start_within, met, open-marks, open-length, joint_inner, joint_closed, joint_as-closed, start_met, start_alone, start_seam, seam_of_is}
 use Rattle.tangents.proofs.start_of.Goals as goal
 
 pub joint_at-requires : goal.joint_at-requires
@@ -26,12 +26,6 @@ returns-then-meets c =
     c.right_start.ensures
     ∙ ap (λ (j : Joint). outcome (right_start j)) (c.joint_at.ensures ∙ joint_as-closed (outline_of a.cutting) a.marks.now a.from (joint_inner a.cutting a.marks.now a.n p.marks_len a.from (met _ _ _ t) (omega (arith, p))))
     ∙ ap outcome (sym (start_met a.cutting (marks_of a.cutting a.marks.now) a.n a.from t))
-
-pub seam_of-requires : goal.seam_of-requires
-seam_of-requires c =
-    let a = c.args in
-    let p = c.requires in
-    (marks_of_is a.cutting a.marks.now a.n p.marks_len (omega (arith, p))).0
 
 pub overflow_mul-head : goal.overflow_mul-head
 overflow_mul-head c =

@@ -1,5 +1,4 @@
 -- `marks::block::by_division` meets its contract.
-use native.Mathlib.Nat.{le_trans, div-le_self}
 use native.Mathlib.Omega.{arith}
 use Rattle.marks.proofs.Sizes.{start, found}
 use Rattle.marks.proofs.Division.{shares, shrunk}
@@ -7,9 +6,6 @@ use Rattle.marks.proofs.block.by_division.Goals as goal
 
 pub returns-then-r-ge-MIN_POINTS_TO_FIT : goal.returns-then-r-ge-MIN_POINTS_TO_FIT
 returns-then-r-ge-MIN_POINTS_TO_FIT c = found _ _ (start _ (omega arith)) (omega arith) (omega arith)
-
-pub overflow_sub-result-3 : goal.overflow_sub-result-3
-overflow_sub-result-3 c = le_trans (div-le_self _ _) (omega arith)
 
 pub returns : goal.returns
 returns c = shrunk _ _ _ _ (shares _ _ (omega arith) (omega arith) (omega arith) (omega arith))

@@ -5,9 +5,3 @@ use Rattle.marks.proofs.block.max_points_to_fit.Goals as goal
 
 pub returns-then-num_points-lt-MAX_POINTS_TO_FIT : goal.returns-then-num_points-lt-MAX_POINTS_TO_FIT
 returns-then-num_points-lt-MAX_POINTS_TO_FIT c = small _ (omega arith)
-
-pub by_division-requires : goal.by_division-requires
-by_division-requires c = omega arith
-
-pub by_count_down-requires : goal.by_count_down-requires
-by_count_down-requires c = omega arith
