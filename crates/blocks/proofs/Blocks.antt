@@ -1,7 +1,7 @@
 -- Laws of the blocks' definition. Assumes nothing.
 use Prim.Native.Nat.{ℕ, zero, suc, ◌+◌, ◌-◌, ◌*◌, ◌≤◌, ◌<◌}
 use native.Mathlib.Omega.{arith}
-use mathlib.Core.Path.{◌≡◌, refl, ap, subst, ◌∙◌}
+use mathlib.Core.Path.{◌≡◌, refl, sym, ap, subst, ◌∙◌}
 use mathlib.Core.Bool.{Bool, true, false}
 use mathlib.Core.List.{List, [], ◌++◌, append_assoc}
 use lib.ListN.{length, take, drop, length-take, length-drop}
@@ -9,8 +9,12 @@ use lib.Seq.{take_all, take_at}
 use lib.Dec.{leb, ltb}
 use lib.Ieee.{Float}
 use borrow.Author.Tests.{le-leb, lt-leb, leb-false}
+use Rattle.std.specs.Prelude.{Result, Err}
 use Rattle.float.specs.Answer.{Answer, ok, outcome}
 use Rattle.float.specs.Answer.{refused as no}
+use Rattle.float.specs.declared.refusal.Refusal.{Refusal}
+use Rattle.float.specs.declared.refusal.Refusal.TheVariants.{NotFinite}
+use Rattle.float.proofs.Answers.{only_six}
 use Rattle.float.specs.Slices.{written}
 use Rattle.plane.specs.declared.Point.{Point}
 use Rattle.limits.specs.Limits.{most_numbered}
@@ -18,16 +22,11 @@ use Rattle.marks.specs.Marks.{count}
 use Rattle.form.specs.Form.{record_numbers}
 use Rattle.cut.specs.Run.{Run, refused, done, Beside, join, turned, run_of}
 use Rattle.tangents.specs.declared.Ways.{Ways}
-use Rattle.tangents.specs.declared.Turn.{Turn}
-use Rattle.tangents.specs.declared.Turn.TheVariants as turn
-use Rattle.cut.specs.declared.Fitted.{Fitted}
-use Rattle.cut.specs.declared.Fitted.TheVariants.{Refused}
 use Rattle.gate.specs.Gate.{Usable}
 use Rattle.ends.proofs.Usable.{usable-take, usable-drop}
 use Rattle.cut.specs.Lent.{Left, Ready}
-use Rattle.tangents.specs.Ways.{turn_answer}
 use Rattle.cut.proofs.Run.{Sizes}
-use Rattle.cut.proofs.Cut.{sizes, ways_are, ways_lost}
+use Rattle.cut.proofs.Cut.{sizes}
 use Rattle.tangents.specs.declared.Cutting.{Cutting}
 use Rattle.blocks.specs.Blocks.{block_at, block_of, last_of, blocks, blocks_from}
 use Rattle.tangents.specs.Ways.{over, outline_of, marks_of, ways_of}
@@ -95,7 +94,7 @@ block_ready ms n from to tol C F W P e h l =
     record { usable = usable_block from to e.1; even = omega arith; two = omega arith; near = omega arith; curves = omega arith; firsts = omega arith; worsts = omega arith }
 
 -- a run over one list of marks is that over another, where the two are equal
-pub same_marks : (ms ws : List Float) (first : ℕ) (s e : Point) (tol : Float) (r : Fitted) (C C₁ : List Float) (F F₁ W W₁ : List ℕ) (p : List Float) → ms ≡ ws → Left (run_of ms first s e tol) r C C₁ F F₁ W W₁ p → Left (run_of ws first s e tol) r C C₁ F F₁ W W₁ p
+pub same_marks : (ms ws : List Float) (first : ℕ) (s e : Point) (tol : Float) (r : Result ℕ Refusal) (C C₁ : List Float) (F F₁ W W₁ : List ℕ) (p : List Float) → ms ≡ ws → Left (run_of ms first s e tol) r C C₁ F F₁ W W₁ p → Left (run_of ws first s e tol) r C C₁ F F₁ W W₁ p
 same_marks ms ws first s e tol r C C₁ F F₁ W W₁ p h ran = subst (λ (l : List Float). Left (run_of l first s e tol) r C C₁ F F₁ W W₁ p) h ran
 
 pub same_ready : (ms ws : List Float) (first : ℕ) (tol : Float) (C : List Float) (F W : List ℕ) (P : List Float) → ms ≡ ws → Ready ms first tol C F W P → Ready ws first tol C F W P
@@ -119,13 +118,13 @@ laid-front xs room m e l = rw e (take_at xs _ m l)
 pub block_as-closed : (k : Cutting) (ms : List Float) (n from to : ℕ) → length (marks_of k ms) ≡ 2 * n → from ≤ to → to ≤ n → block_at (whole Closed ms) from to ≡ block_at (marks_of k ms) from to
 block_as-closed k ms n from to e h l = part_as-closed (outline_of k) ms (2 * from) (2 * to) (omega arith) (omega (arith, e))
 
-module _ (k : Cutting) (ms : List Float) (n : ℕ) (tol : Float) (from to : ℕ) (w : Turn) (h : turn_answer w ≡ outcome (ways_of k ms n from to)) where
-  pub block_lost : w ≡ turn.Lost → (C C₁ : List Float) (F F₁ W W₁ : List ℕ) (p : List Float) → Left (block_of k ms n tol from to) (Refused 6) C C₁ F F₁ W W₁ p
-  block_lost e C C₁ F F₁ W W₁ p = rw (ways_lost w (outcome (ways_of k ms n from to)) h e) refl
+module _ (k : Cutting) (ms : List Float) (n : ℕ) (tol : Float) (from to : ℕ) where
+  pub block_lost : {q : ℕ} → no q ≡ outcome (ways_of k ms n from to) → (C C₁ : List Float) (F F₁ W W₁ : List ℕ) (p : List Float) → Left (block_of k ms n tol from to) (Err NotFinite) C C₁ F F₁ W W₁ p
+  block_lost e C C₁ F F₁ W W₁ p = rw (only_six (ways_of k ms n from to) _ e) refl
 
-  pub block_ran : (T : Ways) → w ≡ turn.At T → (r : Fitted) (C C₁ : List Float) (F F₁ W W₁ : List ℕ) (p : List Float)
+  pub block_ran : {T : Ways} → ok T ≡ outcome (ways_of k ms n from to) → (r : Result ℕ Refusal) (C C₁ : List Float) (F F₁ W W₁ : List ℕ) (p : List Float)
       → Left (run_of (block_at ms from to) from T.start T.end tol) r C C₁ F F₁ W W₁ p → Left (block_of k ms n tol from to) r C C₁ F F₁ W W₁ p
-  block_ran T e r C C₁ F F₁ W W₁ p ran = rw (ways_are w (outcome (ways_of k ms n from to)) T h e) ran
+  block_ran e r C C₁ F F₁ W W₁ p ran = rw (sym e) ran
 
 -- ---- what has been written stands before the rest of the run
 

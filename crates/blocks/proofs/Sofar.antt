@@ -8,7 +8,10 @@ use lib.Seq.{take-append-le, take-append-add}
 use lib.Dec.{ltb}
 use lib.Ieee.{Float}
 use borrow.Author.Tests.{lt-ltb, le-ltb}
+use Rattle.std.specs.Prelude.{Result, Ok, Err}
 use Rattle.float.specs.Number.{f0}
+use Rattle.float.specs.Refusal.{answer}
+use Rattle.float.specs.declared.refusal.Refusal.{Refusal}
 use Rattle.float.specs.Slices.{written}
 use Rattle.limits.specs.Limits.{most_numbered}
 use Rattle.marks.specs.Marks.{count}
@@ -16,8 +19,6 @@ use Rattle.form.specs.Form.{record_numbers}
 use Rattle.cut.specs.Run.{Run, done, Beside, firsts_of, worsts_of, join}
 use Rattle.gate.specs.Gate.{Usable}
 use Rattle.cut.specs.Lent.{Left, Ready}
-use Rattle.cut.specs.declared.Fitted.{Fitted}
-use Rattle.cut.specs.declared.Fitted.TheVariants.{Curves, Refused}
 use Rattle.cut.proofs.Run.{Sizes}
 use Rattle.float.proofs.Slices.{written_behind, part_length, inner_length}
 use Rattle.cut.proofs.Cut.{Done, is_done, is_refused, beside-behind}
@@ -139,6 +140,12 @@ pub record Head : Type 0 where
   pub P₁ : List Float
   pub so : Sofar K from made C₁ F₁ W₁ P₁
 
+-- the same by what a call asks and what the loop keeps
+abbrev pub head : {k : Cutting} {ms : List Float} {size : ℕ} {tol : Float} {C : List Float} {F W : List ℕ} {P : List Float} {o : ℕ} → Ready ms 0 tol C F W P × ((2 ≤ size) × (size ≤ 200)) → o ≡ over k → {from made : ℕ} {C₁ : List Float} {F₁ W₁ : List ℕ} {P₁ : List Float}
+    → Sofar (call k ms size tol C F W P (size + o)) from made C₁ F₁ W₁ P₁ → Head
+head {k} {ms} {size} {tol} {C} {F} {W} {P} {o} h e {from} {made} {C₁} {F₁} {W₁} {P₁} so =
+    record { K = call k ms size tol C F W P (size + o); A = asked k ms size tol C F W P o h e; from = from; made = made; C₁ = C₁; F₁ = F₁; W₁ = W₁; P₁ = P₁; so = so }
+
 -- the numbers that the needs are worked out from
 pub record Numbers (H : Head) : Type 0 where
   pub ready : Ready H.K.ms 0 H.K.tol H.K.C H.K.F H.K.W H.K.P
@@ -199,7 +206,7 @@ module _ (H : Head) where
 
   -- the block up to mark `to`, over m parameters: its answer, and what it left of the parts that it was lent
   pub record Ran (to m : ℕ) : Type 0 where
-    pub r : Fitted
+    pub r : Result ℕ Refusal
     pub D₁ : List Float
     pub E₁ : List ℕ
     pub V₁ : List ℕ
@@ -209,6 +216,10 @@ module _ (H : Head) where
     pub le : length E₁ ≡ length FF
     pub lv : length V₁ ≡ length WW
     pub lp : length p ≡ length (take m (drop from P₁))
+
+  -- the same by its contract
+  abbrev pub ran : {to m : ℕ} (r : Result ℕ Refusal) (D₁ : List Float) (E₁ V₁ : List ℕ) (p : List Float) → Left (block K from to) r CC D₁ FF E₁ WW V₁ p → length D₁ ≡ length CC → length E₁ ≡ length FF → length V₁ ≡ length WW → length p ≡ length (take m (drop from P₁)) → Ran to m
+  ran r D₁ E₁ V₁ p left ld le lv lp = record { r = r; D₁ = D₁; E₁ = E₁; V₁ = V₁; p = p; left = left; ld = ld; le = le; lv = lv; lp = lp }
 
   -- the lent slices when their parts are back
   module _ {to m : ℕ} (R : Ran to m) where
@@ -254,11 +265,11 @@ module _ (H : Head) where
         ((omega (arith, m), A.ready.usable), ((omega (arith, m), omega (arith, m), omega (arith, m)), (omega (arith, m), omega (arith, m), omega (arith, m), omega (arith, m), omega (arith, m))))
 
     module _ (R : Ran to (to - from)) where
-      abbrev did : (j : ℕ) → R.r ≡ Curves j → Done (block K from to) j CC R.D₁ FF R.E₁ WW R.V₁ R.p
+      abbrev did : (j : ℕ) → R.r ≡ Ok j → Done (block K from to) j CC R.D₁ FF R.E₁ WW R.V₁ R.p
       did j e = is_done (block K from to) R.r j CC R.D₁ FF R.E₁ WW R.V₁ R.p R.left e
 
-      pub so_stops : (q : ℕ) → R.r ≡ Refused q → (C₂ : List Float) (F₂ W₂ : List ℕ) (P₂ : List Float) → Left (blocks_of K.k K.ms K.size K.tol) R.r K.C C₂ K.F F₂ K.W W₂ P₂
-      so_stops q e C₂ F₂ W₂ P₂ = rw (whole_is K A, so.whole, rest_more K A from more, is_refused (block K from to) R.r q CC R.D₁ FF R.E₁ WW R.V₁ R.p R.left e) e
+      pub so_stops : (q : Refusal) → R.r ≡ Err q → (C₂ : List Float) (F₂ W₂ : List ℕ) (P₂ : List Float) → Left (blocks_of K.k K.ms K.size K.tol) R.r K.C C₂ K.F F₂ K.W W₂ P₂
+      so_stops q e C₂ F₂ W₂ P₂ = rw (whole_is K A, so.whole, rest_more K A from more, is_refused (block K from to) R.r q CC R.D₁ FF R.E₁ WW R.V₁ R.p R.left e) (ap answer e)
 
       sized : (c : List Float) (b : List Beside) → block K from to ≡ done c b R.p → Sizes K.w c b R.p
       sized c b q =
@@ -267,13 +278,13 @@ module _ (H : Head) where
           let d : to - from ≡ K.w = omega arith in
           (z.0, omega (arith, z.1), z.2, z.3 ∙ d)
 
-      pub so_few : (j : ℕ) → R.r ≡ Curves j → j ≤ K.size
+      pub so_few : (j : ℕ) → R.r ≡ Ok j → j ≤ K.size
       so_few j e =
           let D = did j e in
           let m = numbers in
           omega (arith, sized D.cs D.bs D.is, D.long, m)
 
-      pub so_more : (j : ℕ) → R.r ≡ Curves j → Sofar K (from + K.size) (made + j) (C₂ R) (F₂ R) (W₂ R) (P₂ R)
+      pub so_more : (j : ℕ) → R.r ≡ Ok j → Sofar K (from + K.size) (made + j) (C₂ R) (F₂ R) (W₂ R) (P₂ R)
       so_more j e =
           let D = did j e in
           let z = sized D.cs D.bs D.is in
@@ -311,13 +322,13 @@ module _ (H : Head) where
         whole_is K A ∙ so.whole ∙ ap (prepend so.cs so.bs so.ps) (rest_last K A from (omega (arith, m)) stop)
 
     -- a single mark
-    pub last_one : n - from < 2 → Left (blocks_of K.k K.ms K.size K.tol) (Curves made) K.C C₁ K.F F₁ K.W W₁ (set P₁ from f0)
+    pub last_one : n - from < 2 → Left (blocks_of K.k K.ms K.size K.tol) (Ok made) K.C C₁ K.F F₁ K.W W₁ (set P₁ from f0)
     last_one h =
         let m = numbers in
         let one : length P₁ ≡ from + 1 = omega (arith, m) in
         let p : set P₁ from f0 ≡ so.ps ++ (f0 ∷ []) = set_last from f0 P₁ one ∙ rw so.front in
         let is : blocks_of K.k K.ms K.size K.tol ≡ done so.cs so.bs (so.ps ++ (f0 ∷ [])) = all_is ∙ rw (lt-ltb (n - from) 2 h, append-nil so.cs, append-nil so.bs) in
-        rw is (ap Curves (sym so.long), so.curves, so.firsts, so.worsts, p)
+        rw is (ap Ok (sym so.long), so.curves, so.firsts, so.worsts, p)
 
     module _ (some : 2 ≤ n - from) where
       pub last_asks : ((length K.ms ≡ 2 * n) × Usable K.ms K.tol) × (((from + 2 ≤ n) × (n ≤ n) × (n ≤ most_numbered))
@@ -334,20 +345,20 @@ module _ (H : Head) where
       whole_last = all_is ∙ rw (le-ltb (n - from) 2 some)
 
       module _ (R : Ran n (length P₁ - from)) where
-        abbrev ended : (j : ℕ) → R.r ≡ Curves j → Done (block K from n) j CC R.D₁ FF R.E₁ WW R.V₁ R.p
+        abbrev ended : (j : ℕ) → R.r ≡ Ok j → Done (block K from n) j CC R.D₁ FF R.E₁ WW R.V₁ R.p
         ended j e = is_done (block K from n) R.r j CC R.D₁ FF R.E₁ WW R.V₁ R.p R.left e
 
-        pub last_stops : (q : ℕ) → R.r ≡ Refused q → (C₂ : List Float) (F₂ W₂ : List ℕ) (P₂ : List Float) → Left (blocks_of K.k K.ms K.size K.tol) R.r K.C C₂ K.F F₂ K.W W₂ P₂
-        last_stops q e C₂ F₂ W₂ P₂ = rw (whole_last, is_refused (block K from n) R.r q CC R.D₁ FF R.E₁ WW R.V₁ R.p R.left e) e
+        pub last_stops : (q : Refusal) → R.r ≡ Err q → (C₂ : List Float) (F₂ W₂ : List ℕ) (P₂ : List Float) → Left (blocks_of K.k K.ms K.size K.tol) R.r K.C C₂ K.F F₂ K.W W₂ P₂
+        last_stops q e C₂ F₂ W₂ P₂ = rw (whole_last, is_refused (block K from n) R.r q CC R.D₁ FF R.E₁ WW R.V₁ R.p R.left e) (ap answer e)
 
-        pub last_few : (j : ℕ) → R.r ≡ Curves j → j + from < n
+        pub last_few : (j : ℕ) → R.r ≡ Ok j → j + from < n
         last_few j e =
             let D = ended j e in
             let m = numbers in
             let z = block_sized K.k K.ms n K.size K.tol from n D.cs D.bs R.p (omega (arith, m)) A.ready.usable (omega (arith, m)) (omega arith) D.is in
             omega (arith, z.1, D.long)
 
-        pub last_done : (j : ℕ) → R.r ≡ Curves j → Left (blocks_of K.k K.ms K.size K.tol) (Curves (made + j)) K.C (C₂ R) K.F (F₂ R) K.W (W₂ R) (P₂ R)
+        pub last_done : (j : ℕ) → R.r ≡ Ok j → Left (blocks_of K.k K.ms K.size K.tol) (Ok (made + j)) K.C (C₂ R) K.F (F₂ R) K.W (W₂ R) (P₂ R)
         last_done j e =
             let D = ended j e in
             let none : drop (length P₁ - from) (drop from P₁) ≡ [] = drop_of_length-le (drop from P₁) {i = length P₁ - from} (simp length-drop (omega arith)) in
@@ -355,7 +366,7 @@ module _ (H : Head) where
             let many : made + j ≡ length (so.bs ++ D.bs) = simp length-append (omega (arith, so.long, D.long)) in
             let pe : P₂ R ≡ so.ps ++ R.p = rw (none, append-nil, so.front) in
             rw is (
-              ap Curves many,
+              ap Ok many,
               written_behind so.cs D.cs K.C C₁ R.D₁ (record_numbers * made) (length C₁ - record_numbers * made) so.curves so.nine refl D.curves,
               beside-behind (λ b. b.first) so.bs D.bs K.F F₁ R.E₁ made (length F₁ - made) so.firsts so.long refl D.firsts,
               beside-behind (λ b. b.worst) so.bs D.bs K.W W₁ R.V₁ made (length W₁ - made) so.worsts so.long refl D.worsts,

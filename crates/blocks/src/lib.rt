@@ -14,11 +14,10 @@ ghost use Rattle.gate.specs.Gate.{Usable};
 ghost use Rattle.cut.specs.Lent.{Left, Ready};
 ghost use Rattle.blocks.specs.Blocks.{block_at, block_of, blocks_of};
 
-use cut::Fitted;
-use float::refusal::NOT_FINITE;
+use float::refusal::Refusal;
 use form::RECORD_NUMBERS;
 use plane::Point;
-use tangents::{Cutting, Turn};
+use tangents::Cutting;
 
 // Room for the marks of the largest block, 200 and the one that it shares. A function hides from its callers' proofs how the array is made.
 pub fn block_room() -> [f64; 402]
@@ -38,7 +37,7 @@ fn fit_round(
     firsts: &mut [u32],
     worsts: &mut [u32],
     params: &mut [f64],
-) -> Fitted
+) -> Result<usize, Refusal>
     requires even { Even marks.now × ((from + length params.old ≡ 1 + count marks.now) × (length params.old ≤ 201)) }
     requires ready { Ready (drop (2 * from) (whole outline.Closed marks.now)) from tolerance curves.old firsts.old worsts.old params.old }
     ensures { Left (run_of (drop (2 * from) (whole outline.Closed marks.now)) from start end tolerance) result curves.old curves.new firsts.old firsts.new worsts.old worsts.new params.new }
@@ -71,7 +70,7 @@ fn fit_marks(
     firsts: &mut [u32],
     worsts: &mut [u32],
     params: &mut [f64],
-) -> Fitted
+) -> Result<usize, Refusal>
     requires even { Even marks.now × ((to ≤ 1 + count marks.now) × ((to ≡ from + length params.old) × (length params.old ≤ 201))) }
     requires ready { Ready (block_at (whole outline.Closed marks.now) from to) from tolerance curves.old firsts.old worsts.old params.old }
     ensures { Left (run_of (block_at (whole outline.Closed marks.now) from to) from start end tolerance) result curves.old curves.new firsts.old firsts.new worsts.old worsts.new params.new }
@@ -108,14 +107,14 @@ fn fit_block(
     firsts: &mut [u32],
     worsts: &mut [u32],
     params: &mut [f64],
-) -> Fitted
+) -> Result<usize, Refusal>
     requires marks_len { (length (marks_of cutting marks.now) ≡ 2 * n) × Usable (marks_of cutting marks.now) tolerance }
     requires from_bound { (from + 2 ≤ to) × (to ≤ n) × (n ≤ most_numbered) }
     requires to_value { (to ≡ from + length params.old) × (length params.old ≤ 201) × (record_numbers * length params.old ≤ length curves.old + record_numbers) × (length params.old ≤ length firsts.old + 1) × (length params.old ≤ length worsts.old + 1) }
     ensures { Left (block_of cutting (marks_of cutting marks.now) n tolerance from to) result curves.old curves.new firsts.old firsts.new worsts.old worsts.new params.new }
 {
-    let Turn::At(ways) = tangents::ways_of(cutting, marks, n, from, to) else {
-        return Fitted::Refused(NOT_FINITE);
+    let Ok(ways) = tangents::ways_of(cutting, marks, n, from, to) else {
+        return Err(Refusal::NotFinite);
     };
     let start = ways.start;
     let end = ways.end;
@@ -134,7 +133,7 @@ pub fn fit_blocks(
     firsts: &mut [u32],
     worsts: &mut [u32],
     params: &mut [f64],
-) -> Fitted
+) -> Result<usize, Refusal>
     requires ready { Ready (marks_of cutting marks.now) 0 tolerance curves.old firsts.old worsts.old params.old }
     requires le_size { (2 ≤ size) × (size ≤ 200) }
     ensures { Left (blocks_of cutting (marks_of cutting marks.now) size tolerance) result curves.old curves.new firsts.old firsts.new worsts.old worsts.new params.new }
@@ -143,6 +142,7 @@ pub fn fit_blocks(
     let whole = size + tangents::shared(cutting);
     let mut from = 0;
     let mut made = 0;
+    // A while: it rises by a block at a time, and leaves the last one.
     while whole < n - from {
         let to = from + whole;
         let behind = RECORD_NUMBERS * made;
@@ -158,7 +158,7 @@ pub fn fit_blocks(
             &mut worsts[made..],
             &mut params[from..to],
         );
-        let Fitted::Curves(k) = out else {
+        let Ok(k) = out else {
             return out;
         };
         made += k;
@@ -166,7 +166,7 @@ pub fn fit_blocks(
     }
     if n - from < 2 {
         params[from] = 0.0;
-        return Fitted::Curves(made);
+        return Ok(made);
     }
     let behind = RECORD_NUMBERS * made;
     let out = fit_block(
@@ -181,8 +181,8 @@ pub fn fit_blocks(
         &mut worsts[made..],
         &mut params[from..],
     );
-    let Fitted::Curves(k) = out else {
+    let Ok(k) = out else {
         return out;
     };
-    Fitted::Curves(made + k)
+    Ok(made + k)
 }

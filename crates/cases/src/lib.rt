@@ -3,35 +3,17 @@
 
 pub mod parts;
 
-ghost use Rattle.std.specs.Prelude.{◌<◌};
-
 // The descriptors of standard input and output.
 pub const STDIN: i32 = 0;
 
 pub const STDOUT: i32 = 1;
 
-// A byte as a number.
-fn wide(x: u8) -> u64
-    ensures { result < 256 }
-{
-    x as u64
-}
-
 // The number in the eight bytes that begin at `at`, lowest byte first, and 0 where they would pass the end.
 pub fn word(bytes: &[u8], at: usize) -> u64 {
-    if bytes.len() < 8 {
-        return 0;
-    }
-    if at > bytes.len() - 8 {
-        return 0;
-    }
-    let mut x: u64 = 0;
-    let mut i = 8;
-    while i > 0 {
-        i -= 1;
-        x = x % 0x100_0000_0000_0000 * 256 + wide(bytes[at + i]);
-    }
-    x
+    bytes
+        .get(at..)
+        .and_then(|rest| rest.first_chunk())
+        .map_or(0, |eight| u64::from_le_bytes(*eight))
 }
 
 // The f64 whose bit pattern stands there.
@@ -75,24 +57,12 @@ fn read_float() -> f64 {
 
 // The next n numbers, as far as the slice has room for them.
 pub fn read_floats(out: &mut [f64], n: usize) {
-    let mut i: usize = 0;
-    while i < n {
-        if i >= out.len() {
-            return;
-        }
-        out[i] = read_float();
-        i += 1;
+    for x in out.iter_mut().take(n) {
+        *x = read_float();
     }
-}
-
-const TOP: u64 = 0x8000_0000_0000_0000;
-
-// The word turned by one bit.
-fn turn(h: u64) -> u64 {
-    std::num::wrapping_add_u64(std::num::wrapping_add_u64(h, h), h / TOP)
 }
 
 // The digest turned by five bits, and a word added to it.
 pub fn mix(h: u64, w: u64) -> u64 {
-    std::num::wrapping_add_u64(turn(turn(turn(turn(turn(h))))), w)
+    h.rotate_left(5).wrapping_add(w)
 }

@@ -8,7 +8,7 @@
 // its neighbour; then counts and lengths are varied.
 #![tactic(auto)]
 
-use cases::parts::{firsts_at, floats_at, front_firsts, front_floats, lent_firsts};
+use cases::parts::{front, lent, part};
 use cases::{STDIN, STDOUT};
 use checker::{Checked, Fault, Place};
 use form::Form;
@@ -41,7 +41,7 @@ struct Verdict {
 }
 
 // How many answers of each kind, and a digest of all.
-#[derive(Clone, Copy)]
+#[derive(Clone, Copy, Default)]
 struct Tally {
     passed: u64,
     a: u64,
@@ -81,18 +81,14 @@ fn said(r: Checked) -> Verdict {
         Checked::Faulty(f) => fault_said(f),
         Checked::Refused(q) => Verdict {
             kind: 6,
-            curve: q as u64,
+            curve: u64::from(q.number()),
             mark: 0,
         },
     }
 }
 
 fn plus_if(n: u64, b: bool) -> u64 {
-    if b {
-        std::num::wrapping_add_u64(n, 1)
-    } else {
-        n
-    }
+    if b { n.wrapping_add(1) } else { n }
 }
 
 fn note(t: Tally, s: Verdict) -> Tally {
@@ -105,19 +101,6 @@ fn note(t: Tally, s: Verdict) -> Tally {
         e: plus_if(t.e, s.kind == 5),
         refused: plus_if(t.refused, s.kind == 6),
         digest: cases::mix(cases::mix(cases::mix(t.digest, s.kind), s.curve), s.mark),
-    }
-}
-
-fn nothing() -> Tally {
-    Tally {
-        passed: 0,
-        a: 0,
-        b: 0,
-        c: 0,
-        d: 0,
-        e: 0,
-        refused: 0,
-        digest: 0,
     }
 }
 
@@ -148,13 +131,13 @@ fn judge(all: &[f64], beside: &[u32], s: Sizes) -> Verdict {
     said(checker::check(
         outline,
         form,
-        front_floats(all, s.marks),
+        front(all, s.marks),
         s.tolerance,
         s.count,
-        floats_at(all, s.first_curve, s.curves),
-        front_firsts(beside, s.firsts),
-        firsts_at(beside, s.first_worst, s.worsts),
-        floats_at(all, s.first_param, s.params),
+        part(all, s.first_curve, s.curves),
+        front(beside, s.firsts),
+        part(beside, s.first_worst, s.worsts),
+        part(all, s.first_param, s.params),
     ))
 }
 
@@ -164,7 +147,7 @@ fn damaged(x: f64, kind: u64) -> f64 {
         0 => {
             let b = float::to_bits(x);
             if b % 2 == 0 {
-                float::of_bits(std::num::wrapping_add_u64(b, 1))
+                float::of_bits(b.wrapping_add(1))
             } else {
                 float::of_bits(b - 1)
             }
@@ -177,9 +160,8 @@ fn damaged(x: f64, kind: u64) -> f64 {
 
 // Each of the first n numbers in turn.
 fn damage_numbers(all: &mut [f64], beside: &[u32], s: Sizes, n: usize, kind: u64) {
-    let mut t = nothing();
-    let mut i: usize = 0;
-    while i < n {
+    let mut t = Tally::default();
+    for i in 0..n {
         if i >= all.len() {
             return;
         }
@@ -187,7 +169,6 @@ fn damage_numbers(all: &mut [f64], beside: &[u32], s: Sizes, n: usize, kind: u64
         all[i] = damaged(x, kind);
         t = note(t, judge(all, beside, s));
         all[i] = x;
-        i += 1;
     }
     print_tally(t);
 }
@@ -195,9 +176,9 @@ fn damage_numbers(all: &mut [f64], beside: &[u32], s: Sizes, n: usize, kind: u64
 // Another mark's number in the place of a, whose neighbour is b, for curves over n marks.
 fn another(a: u32, b: u32, n: u32, kind: u64) -> u32 {
     match kind {
-        0 => std::num::wrapping_add_u32(a, 1),
-        1 => std::num::wrapping_sub_u32(a, 1),
-        2 => std::num::wrapping_sub_u32(n, 1),
+        0 => a.wrapping_add(1),
+        1 => a.wrapping_sub(1),
+        2 => n.wrapping_sub(1),
         3 => 0xFFFF_FFFF,
         _ => b,
     }
@@ -210,19 +191,13 @@ fn swapped(a: u32, b: u32, kind: u64) -> u32 {
 
 // The place after j of n, and 0 after the last.
 fn neighbour(j: usize, n: usize) -> usize {
-    if j < n {
-        if j + 1 < n {
-            return j + 1;
-        }
-    }
-    0
+    if j < n && j + 1 < n { j + 1 } else { 0 }
 }
 
 // Each first mark and each worst mark in turn. Kind 5 swaps it with its neighbour.
 fn damage_beside(all: &[f64], beside: &mut [u32], s: Sizes, n: u32, kind: u64) {
-    let mut t = nothing();
-    let mut j: usize = 0;
-    while j < beside.len() {
+    let mut t = Tally::default();
+    for j in 0..beside.len() {
         let next = neighbour(j, beside.len());
         if next >= beside.len() {
             return;
@@ -234,13 +209,8 @@ fn damage_beside(all: &[f64], beside: &mut [u32], s: Sizes, n: u32, kind: u64) {
         t = note(t, judge(all, beside, s));
         beside[next] = b;
         beside[j] = a;
-        j += 1;
     }
     print_tally(t);
-}
-
-fn less(x: usize, by: usize) -> usize {
-    if x < by { 0 } else { x - by }
 }
 
 // Counts one up, one down, none, and two that no slice could hold; lengths that are too short.
@@ -248,10 +218,10 @@ fn varied(s: Sizes, kind: u64) -> Sizes {
     let mut v = s;
     match kind {
         0 => {
-            v.count = std::num::wrapping_add_usize(s.count, 1);
+            v.count = s.count.wrapping_add(1);
         }
         1 => {
-            v.count = less(s.count, 1);
+            v.count = s.count.saturating_sub(1);
         }
         2 => {
             v.count = 0;
@@ -263,26 +233,26 @@ fn varied(s: Sizes, kind: u64) -> Sizes {
             v.count = 0x2000_0000_0000_0000;
         }
         5 => {
-            v.marks = less(s.marks, 1);
+            v.marks = s.marks.saturating_sub(1);
         }
         6 => {
-            v.marks = less(s.marks, 2);
+            v.marks = s.marks.saturating_sub(2);
         }
         7 => {
-            v.curves = less(s.curves, 1);
+            v.curves = s.curves.saturating_sub(1);
         }
         8 => {
             let form = s.form;
-            v.curves = less(s.curves, form::width(form));
+            v.curves = s.curves.saturating_sub(form::width(form));
         }
         9 => {
-            v.firsts = less(s.firsts, 1);
+            v.firsts = s.firsts.saturating_sub(1);
         }
         10 => {
-            v.worsts = less(s.worsts, 1);
+            v.worsts = s.worsts.saturating_sub(1);
         }
         11 => {
-            v.params = less(s.params, 1);
+            v.params = s.params.saturating_sub(1);
         }
         _ => {
             v.tolerance = -s.tolerance;
@@ -293,28 +263,22 @@ fn varied(s: Sizes, kind: u64) -> Sizes {
 
 // The counts and lengths.
 fn damage_sizes(all: &[f64], beside: &[u32], s: Sizes) {
-    let mut t = nothing();
-    let mut kind: u64 = 0;
-    while kind < 13 {
+    let mut t = Tally::default();
+    for kind in 0..13 {
         t = note(t, judge(all, beside, varied(s, kind)));
-        kind += 1;
     }
     print_tally(t);
 }
 
 fn every_number(all: &mut [f64], beside: &[u32], s: Sizes, n: usize) {
-    let mut kind: u64 = 0;
-    while kind < 4 {
+    for kind in 0..4 {
         damage_numbers(all, beside, s, n, kind);
-        kind += 1;
     }
 }
 
 fn every_beside(all: &[f64], beside: &mut [u32], s: Sizes, n: u32) {
-    let mut kind: u64 = 0;
-    while kind < 6 {
+    for kind in 0..6 {
         damage_beside(all, beside, s, n, kind);
-        kind += 1;
     }
 }
 
@@ -327,10 +291,8 @@ fn read_word() -> u64 {
 
 // The next words, as marks' numbers.
 fn read_beside(out: &mut [u32]) {
-    let mut i: usize = 0;
-    while i < out.len() {
-        out[i] = (read_word() % 0x1_0000_0000) as u32;
-        i += 1;
+    for mark in out.iter_mut() {
+        *mark = (read_word() % 0x1_0000_0000) as u32;
     }
 }
 
@@ -340,7 +302,7 @@ fn places(s: Sizes) -> u32 {
     let outline = s.outline;
     match outline {
         Outline::Open => n,
-        Outline::Closed => std::num::wrapping_add_u32(n, 1),
+        Outline::Closed => n.wrapping_add(1),
     }
 }
 
@@ -399,12 +361,9 @@ fn record(s: Sizes, damage: u64) {
     let mut all = [0.0; 49153];
     let mut beside = [0u32; 8192];
     cases::read_floats(&mut all, s.numbers);
-    let lent = lent_firsts(
-        &mut beside,
-        std::num::wrapping_add_usize(s.firsts, s.worsts),
-    );
-    read_beside(lent);
-    answer(&mut all, lent, s, s.numbers, damage);
+    let marks = lent(&mut beside, s.firsts.wrapping_add(s.worsts));
+    read_beside(marks);
+    answer(&mut all, marks, s, s.numbers, damage);
 }
 
 // One record, if there is one.
@@ -418,11 +377,9 @@ fn step() -> bool {
 }
 
 fn main() {
-    let mut k: usize = 0;
-    while k < 65536 {
+    for _ in 0..65536 {
         if !step() {
             return;
         }
-        k += 1;
     }
 }

@@ -6,8 +6,11 @@ use mathlib.Core.List.{List, [], ◌∷◌, ◌++◌, map, map-append}
 use lib.ListN.{length, take, drop, set, length-append, length-take, length-drop, length-map}
 use lib.Seq.{take_all}
 use lib.Ieee.{Float}
+use Rattle.std.specs.Prelude.{Result, Ok, Err}
 use Rattle.float.specs.Answer.{Answer, ok, outcome}
 use Rattle.float.specs.Answer.{refused as no}
+use Rattle.float.specs.Refusal.{answer, number}
+use Rattle.float.specs.declared.refusal.Refusal.{Refusal}
 use Rattle.float.specs.Slices.{written}
 use Rattle.float.proofs.Slices.{written_behind, params-join, part_length, front_length}
 use Rattle.plane.specs.declared.Point.{Point}
@@ -18,7 +21,6 @@ use Rattle.part.specs.Answers.{Did}
 use Rattle.part.specs.declared.Solved.{Solved}
 use Rattle.part.specs.declared.Tried.{Tried}
 use Rattle.part.specs.declared.Tried.TheVariants.{Good, Cut}
-use Rattle.part.specs.declared.Tried.TheVariants.{Refused as TRefused}
 use Rattle.gate.specs.Gate.{Usable}
 use Rattle.ends.proofs.Usable.{usable-take}
 use Rattle.ends.specs.Rounds.{Inside}
@@ -26,33 +28,39 @@ use Rattle.ends.proofs.Parts.{Fits, Sound, part_sound, cuts-inside}
 use Rattle.cut.specs.Run.{Run, refused, done, Beside, firsts_of, worsts_of, flat, left_of, right_of, join, run_of, cut_of}
 use Rattle.tangents.specs.Ways.{ways_at}
 use Rattle.cut.specs.Lent.{Left, Ready}
-use Rattle.tangents.specs.Ways.{turn_answer}
 use Rattle.tangents.specs.declared.Ways.{Ways}
-use Rattle.tangents.specs.declared.Turn.{Turn}
-use Rattle.tangents.specs.declared.Turn.TheVariants as turn
-use Rattle.cut.specs.declared.Fitted.{Fitted}
-use Rattle.cut.specs.declared.Fitted.TheVariants.{Curves, Refused}
 use Rattle.cut.proofs.Run.{run_sized, Sized, run_fits, run-fails, run-cuts, left_count, right_count, usable_left, usable_right}
+
+-- ---- an answer of the code, where a definition refuses
+
+no_value : {A X : Type 0} {r : Result A Refusal} {a : A} {x : ℕ} → answer r ≡ no x → r ≡ Ok a → X
+no_value {A} {X} {r} {a} {x} h e =
+    let f : no x ≡ ok a = sym h ∙ ap answer e in
+    let z : ◌≡◌ {A = ℕ} 0 1 = cc in
+    absurd (omega arith)
+
+same_number : {A : Type 0} {r : Result A Refusal} {q : Refusal} {x : ℕ} → answer r ≡ no x → r ≡ Err q → x ≡ number q
+same_number {A} {r} {q} {x} h e = let f : ◌≡◌ {A = Answer A} (no x) (no (number q)) = sym h ∙ ap answer e in cc
 
 -- ---- a leaf's answer
 
-pub from_good : (P : Part) (r : Tried) (p : List Float) (k : Solved) → Did P r p → r ≡ Good k → P ≡ fits k.curve k.far p
+pub from_good : (P : Part) (r : Result Tried Refusal) (p : List Float) (k : Solved) → Did P r p → r ≡ Ok (Good k) → P ≡ fits k.curve k.far p
 from_good (fits c w ps) r p k h e =
-    let f : Good (record { curve = c; far = w }) ≡ Good k = sym h.0 ∙ e in
+    let f : Ok (Good (record { curve = c; far = w })) ≡ Ok (Good k) = sym h.0 ∙ e in
     let g : record { curve = c; far = w } ≡ k = cc in
     λ i. fits (g i).curve (g i).far (sym h.1 i)
 from_good (cuts j) r p k h e = let z : ◌≡◌ {A = ℕ} 0 1 = cc in absurd (omega arith)
-from_good (fails q) r p k h e = let z : ◌≡◌ {A = ℕ} 0 1 = cc in absurd (omega arith)
+from_good (fails q) r p k h e = no_value h e
 
-pub from_cut : (P : Part) (r : Tried) (p : List Float) (k : ℕ) → Did P r p → r ≡ Cut k → P ≡ cuts k
+pub from_cut : (P : Part) (r : Result Tried Refusal) (p : List Float) (k : ℕ) → Did P r p → r ≡ Ok (Cut k) → P ≡ cuts k
 from_cut (fits c w ps) r p k h e = let f = h.0 in let z : ◌≡◌ {A = ℕ} 0 1 = cc in absurd (omega arith)
 from_cut (cuts j) r p k h e = let g : j ≡ k = cc in ap cuts g
-from_cut (fails q) r p k h e = let z : ◌≡◌ {A = ℕ} 0 1 = cc in absurd (omega arith)
+from_cut (fails q) r p k h e = no_value h e
 
-pub from_refused : (P : Part) (r : Tried) (p : List Float) (k : ℕ) → Did P r p → r ≡ TRefused k → P ≡ fails k
-from_refused (fits c w ps) r p k h e = let f = h.0 in let z : ◌≡◌ {A = ℕ} 0 1 = cc in absurd (omega arith)
-from_refused (cuts j) r p k h e = let z : ◌≡◌ {A = ℕ} 0 1 = cc in absurd (omega arith)
-from_refused (fails q) r p k h e = let g : q ≡ k = cc in ap fails g
+pub from_refused : (P : Part) (r : Result Tried Refusal) (p : List Float) (q : Refusal) → Did P r p → r ≡ Err q → P ≡ fails (number q)
+from_refused (fits c w ps) r p q h e = let f = h.0 in let z : ◌≡◌ {A = ℕ} 0 1 = cc in absurd (omega arith)
+from_refused (cuts j) r p q h e = let z : ◌≡◌ {A = ℕ} 0 1 = cc in absurd (omega arith)
+from_refused (fails x) r p q h e = ap fails (same_number h e)
 
 -- ---- a run's answer
 
@@ -66,22 +74,22 @@ pub record Done (R : Run) (j : ℕ) (C C₁ : List Float) (F F₁ W W₁ : List 
   pub firsts : F₁ ≡ written (firsts_of bs) F
   pub worsts : W₁ ≡ written (worsts_of bs) W
 
-pub is_done : (R : Run) (r : Fitted) (j : ℕ) (C C₁ : List Float) (F F₁ W W₁ : List ℕ) (p : List Float) → Left R r C C₁ F F₁ W W₁ p → r ≡ Curves j → Done R j C C₁ F F₁ W W₁ p
-is_done (refused q) r j C C₁ F F₁ W W₁ p h e = let z : ◌≡◌ {A = ℕ} 0 1 = cc in absurd (omega arith)
+pub is_done : (R : Run) (r : Result ℕ Refusal) (j : ℕ) (C C₁ : List Float) (F F₁ W W₁ : List ℕ) (p : List Float) → Left R r C C₁ F F₁ W W₁ p → r ≡ Ok j → Done R j C C₁ F F₁ W W₁ p
+is_done (refused q) r j C C₁ F F₁ W W₁ p h e = no_value h e
 is_done (done cs bs ps) r j C C₁ F F₁ W W₁ p h e =
-    let f : Curves (length bs) ≡ Curves j = sym h.0 ∙ e in
+    let f : Ok (length bs) ≡ Ok j = sym h.0 ∙ e in
     record { cs = cs; bs = bs; is = rw h.4; long = cc; curves = h.1; firsts = h.2; worsts = h.3 }
 
 -- a run that gave a refusal
-pub is_refused : (R : Run) (r : Fitted) (q : ℕ) (C C₁ : List Float) (F F₁ W W₁ : List ℕ) (p : List Float) → Left R r C C₁ F F₁ W W₁ p → r ≡ Refused q → R ≡ refused q
-is_refused (refused x) r q C C₁ F F₁ W W₁ p h e = let f : Refused x ≡ Refused q = sym h ∙ e in let g : x ≡ q = cc in ap refused g
+pub is_refused : (R : Run) (r : Result ℕ Refusal) (q : Refusal) (C C₁ : List Float) (F F₁ W W₁ : List ℕ) (p : List Float) → Left R r C C₁ F F₁ W W₁ p → r ≡ Err q → R ≡ refused (number q)
+is_refused (refused x) r q C C₁ F F₁ W W₁ p h e = ap refused (same_number h e)
 is_refused (done cs bs ps) r q C C₁ F F₁ W W₁ p h e = let f = h.0 in let z : ◌≡◌ {A = ℕ} 0 1 = cc in absurd (omega arith)
 
 -- both sides are done
 pub both_done : (k : ℕ) (R R' : Run) (cs cs' : List Float) (bs bs' : List Beside) (p p' : List Float) (j j' : ℕ) (C C₂ : List Float) (F F₂ W W₂ : List ℕ) (p₂ : List Float)
     → R ≡ done cs bs p → R' ≡ done cs' bs' p' → length bs ≡ j → length bs' ≡ j'
     → C₂ ≡ written (cs ++ cs') C → F₂ ≡ written (firsts_of (bs ++ bs')) F → W₂ ≡ written (worsts_of (bs ++ bs')) W → p₂ ≡ take k p ++ p'
-    → Left (join k R R') (Curves (j + j')) C C₂ F F₂ W W₂ p₂
+    → Left (join k R R') (Ok (j + j')) C C₂ F F₂ W W₂ p₂
 both_done k R R' cs cs' bs bs' p p' j j' C C₂ F F₂ W W₂ p₂ e e' l l' ec ef ew ep =
     rw (e, e') (rw (length-append, l, l') refl, ec, ef, ew, ep)
 
@@ -94,20 +102,20 @@ beside-behind f bs bs' X X₁ E j b e l lb d =
 
 -- ---- fit_part's returns
 
-module _ (ms : List Float) (first : ℕ) (s e : Point) (tol : Float) (h : 2 ≤ count ms) (u : Usable ms tol) (r : Tried) (p : List Float) (did : Did (part_of ms s e tol) r p) where
-  pub fit_good : (k : Solved) (C C₁ : List Float) (F F₁ W W₁ : List ℕ) → r ≡ Good k → C₁ ≡ written (flat k.curve k.far.err) C
-      → F₁ ≡ written (first ∷ []) F → W₁ ≡ written ((first + k.far.at) ∷ []) W → Left (run_of ms first s e tol) (Curves 1) C C₁ F F₁ W W₁ p
+module _ (ms : List Float) (first : ℕ) (s e : Point) (tol : Float) (h : 2 ≤ count ms) (u : Usable ms tol) (r : Result Tried Refusal) (p : List Float) (did : Did (part_of ms s e tol) r p) where
+  pub fit_good : (k : Solved) (C C₁ : List Float) (F F₁ W W₁ : List ℕ) → r ≡ Ok (Good k) → C₁ ≡ written (flat k.curve k.far.err) C
+      → F₁ ≡ written (first ∷ []) F → W₁ ≡ written ((first + k.far.at) ∷ []) W → Left (run_of ms first s e tol) (Ok 1) C C₁ F F₁ W W₁ p
   fit_good k C C₁ F F₁ W W₁ q ec ef ew = rw (run_fits ms first s e tol h k.curve k.far p (from_good _ r p k did q)) (refl, ec, ef, ew, refl)
 
   -- the worst mark is a mark of the part
-  pub worst_within : (k : Solved) → r ≡ Good k → k.far.at < count ms
+  pub worst_within : (k : Solved) → r ≡ Ok (Good k) → k.far.at < count ms
   worst_within k q = let good : Fits ms tol k.curve k.far p = subst (Sound ms tol) (from_good (part_of ms s e tol) r p k did q) (part_sound ms tol h u s e) in good.among
 
-  pub fit_cut : (k : ℕ) (r' : Fitted) (C C₁ : List Float) (F F₁ W W₁ : List ℕ) (p₁ : List Float) → r ≡ Cut k → Left (cut_of ms k first s e tol) r' C C₁ F F₁ W W₁ p₁ → Left (run_of ms first s e tol) r' C C₁ F F₁ W W₁ p₁
+  pub fit_cut : (k : ℕ) (r' : Result ℕ Refusal) (C C₁ : List Float) (F F₁ W W₁ : List ℕ) (p₁ : List Float) → r ≡ Ok (Cut k) → Left (cut_of ms k first s e tol) r' C C₁ F F₁ W W₁ p₁ → Left (run_of ms first s e tol) r' C C₁ F F₁ W W₁ p₁
   fit_cut k r' C C₁ F F₁ W W₁ p₁ q g = rw (run-cuts ms first s e tol h u k (from_cut _ r p k did q)) g
 
-  pub fit_refused : (k : ℕ) (C C₁ : List Float) (F F₁ W W₁ : List ℕ) (p₁ : List Float) → r ≡ TRefused k → Left (run_of ms first s e tol) (Refused k) C C₁ F F₁ W W₁ p₁
-  fit_refused k C C₁ F F₁ W W₁ p₁ q = rw (run-fails ms first s e tol h k (from_refused _ r p k did q)) refl
+  pub fit_refused : (q : Refusal) (C C₁ : List Float) (F F₁ W W₁ : List ℕ) (p₁ : List Float) → r ≡ Err q → Left (run_of ms first s e tol) (Err q) C C₁ F F₁ W W₁ p₁
+  fit_refused q C C₁ F F₁ W W₁ p₁ is = rw (run-fails ms first s e tol h (number q) (from_refused _ r p q did is)) refl
 
 pub sizes : (ms : List Float) (first : ℕ) (s e : Point) (tol : Float) (cs : List Float) (bs : List Beside) (p : List Float) → 2 ≤ count ms → Usable ms tol → run_of ms first s e tol ≡ done cs bs p → Sized ms first (done cs bs p)
 sizes ms first s e tol cs bs p h u q = rw q at (run_sized ms first s e tol h u)
@@ -118,8 +126,8 @@ set_first a (x ∷ F) h = refl
 
 -- ---- fit_part calls cut_part
 
-pub cut_asks : (ms : List Float) (first : ℕ) (s e : Point) (tol : Float) (C : List Float) (F W : List ℕ) (P p : List Float) (r : Tried) (k : ℕ)
-    → Ready ms first tol C F W P → length p ≡ length P → Did (part_of ms s e tol) r p → r ≡ Cut k → Ready ms first tol C F W p × ((0 < k) × (k + 1 < length p))
+pub cut_asks : (ms : List Float) (first : ℕ) (s e : Point) (tol : Float) (C : List Float) (F W : List ℕ) (P p : List Float) (r : Result Tried Refusal) (k : ℕ)
+    → Ready ms first tol C F W P → length p ≡ length P → Did (part_of ms s e tol) r p → r ≡ Ok (Cut k) → Ready ms first tol C F W p × ((0 < k) × (k + 1 < length p))
 cut_asks ms first s e tol C F W P p r k ready l did q =
     let n : count ms ≡ length P = omega arith in
     let inside : Inside ms k = cuts-inside ms s e tol k (omega arith) ready.usable (from_cut (part_of ms s e tol) r p k did q) in
@@ -143,17 +151,13 @@ pub record Call : Type 0 where
   pub low : 0 < at
   pub high : at + 1 < length P
 
--- what ways_at answered
-pub ways_are : (r : Turn) (A : Answer Ways) (T : Ways) → turn_answer r ≡ A → r ≡ turn.At T → A ≡ ok T
-unfolding turn_answer
-ways_are r A T h e = sym h ∙ ap turn_answer e
+-- the same by what is known at its place
+abbrev pub call : {ms : List Float} {first : ℕ} {tol : Float} {C : List Float} {F W : List ℕ} {P : List Float} (at : ℕ) (s e : Point) → Ready ms first tol C F W P → (0 < at) × (at + 1 < length P) → Call
+call {ms} {first} {tol} {C} {F} {W} {P} at s e ready inside =
+    record { ms = ms; at = at; first = first; s = s; e = e; tol = tol; C = C; F = F; W = W; P = P; ready = ready; low = inside.0; high = inside.1 }
 
-pub ways_lost : (r : Turn) (A : Answer Ways) → turn_answer r ≡ A → r ≡ turn.Lost → A ≡ no 6
-unfolding turn_answer
-ways_lost r A h e = sym h ∙ ap turn_answer e
-
-pub cut_refused : (K : Call) (q : ℕ) (C₂ : List Float) (F₂ W₂ : List ℕ) (p₂ : List Float) → outcome (ways_at K.ms K.at) ≡ no q
-    → Left (cut_of K.ms K.at K.first K.s K.e K.tol) (Refused q) K.C C₂ K.F F₂ K.W W₂ p₂
+pub cut_refused : (K : Call) (q : Refusal) (C₂ : List Float) (F₂ W₂ : List ℕ) (p₂ : List Float) → outcome (ways_at K.ms K.at) ≡ no (number q)
+    → Left (cut_of K.ms K.at K.first K.s K.e K.tol) (Err q) K.C C₂ K.F F₂ K.W W₂ p₂
 cut_refused K q C₂ F₂ W₂ p₂ e = rw e refl
 
 pub ready_left : (K : Call) → Ready (left_of K.at K.ms) K.first K.tol K.C K.F K.W (take (K.at + 1) K.P)
@@ -182,11 +186,11 @@ right_run K T = run_of (right_of K.at K.ms) (K.first + K.at) T.start K.e K.tol
 pub cut_is : (K : Call) (T : Ways) → outcome (ways_at K.ms K.at) ≡ ok T → cut_of K.ms K.at K.first K.s K.e K.tol ≡ join K.at (left_run K T) (right_run K T)
 cut_is K T e = rw e
 
-pub cut_stops_left : (K : Call) (T : Ways) (r : Fitted) (q : ℕ) (C₁ C₂ : List Float) (F₁ F₂ W₁ W₂ : List ℕ) (p p₂ : List Float)
-    → outcome (ways_at K.ms K.at) ≡ ok T → Left (left_run K T) r K.C C₁ K.F F₁ K.W W₁ p → r ≡ Refused q
+pub cut_stops_left : (K : Call) (T : Ways) (r : Result ℕ Refusal) (q : Refusal) (C₁ C₂ : List Float) (F₁ F₂ W₁ W₂ : List ℕ) (p p₂ : List Float)
+    → outcome (ways_at K.ms K.at) ≡ ok T → Left (left_run K T) r K.C C₁ K.F F₁ K.W W₁ p → r ≡ Err q
     → Left (cut_of K.ms K.at K.first K.s K.e K.tol) r K.C C₂ K.F F₂ K.W W₂ p₂
 cut_stops_left K T r q C₁ C₂ F₁ F₂ W₁ W₂ p p₂ e h n =
-    rw (cut_is K T e, is_refused (left_run K T) r q K.C C₁ K.F F₁ K.W W₁ p h n) n
+    rw (cut_is K T e, is_refused (left_run K T) r q K.C C₁ K.F F₁ K.W W₁ p h n) (ap answer n)
 
 -- what is known once the left side has given j curves
 pub record Half (K : Call) : Type 0 where
@@ -202,6 +206,12 @@ pub record Half (K : Call) : Type 0 where
   pub lf : length F₁ ≡ length K.F
   pub lw : length W₁ ≡ length K.W
   pub each : length p ≡ length (take (K.at + 1) K.P)
+
+-- the same by what the left side answered
+abbrev pub half : (K : Call) {T : Ways} → outcome (ways_at K.ms K.at) ≡ ok T → {r : Result ℕ Refusal} {j : ℕ} (C₁ : List Float) (F₁ W₁ : List ℕ) (p : List Float) → Left (left_run K T) r K.C C₁ K.F F₁ K.W W₁ p → r ≡ Ok j
+    → length C₁ ≡ length K.C → length F₁ ≡ length K.F → length W₁ ≡ length K.W → length p ≡ length (take (K.at + 1) K.P) → Half K
+half K {T} ways {r} {j} C₁ F₁ W₁ p left is lc lf lw each =
+    record { T = T; is = cut_is K T ways; j = j; C₁ = C₁; F₁ = F₁; W₁ = W₁; p = p; side = is_done (left_run K T) r j K.C C₁ K.F F₁ K.W W₁ p left is; lc = lc; lf = lf; lw = lw; each = each }
 
 module _ (K : Call) (H : Half K) where
   -- the numbers that the needs of the second call are worked out from
@@ -261,7 +271,7 @@ module _ (K : Call) (H : Half K) where
 
   -- what the right side answered, and what it left of the parts that it was lent
   pub record Right : Type 0 where
-    pub r : Fitted
+    pub r : Result ℕ Refusal
     pub D₁ : List Float
     pub E₁ : List ℕ
     pub V₁ : List ℕ
@@ -271,6 +281,11 @@ module _ (K : Call) (H : Half K) where
     pub le : length E₁ ≡ length (take (length H.F₁ - H.j) (drop H.j H.F₁))
     pub lv : length V₁ ≡ length (take (length H.W₁ - H.j) (drop H.j H.W₁))
     pub lp : length p' ≡ length (take (length P₁ - K.at) (drop K.at P₁))
+
+  -- the same by its contract
+  abbrev pub right : (r : Result ℕ Refusal) (D₁ : List Float) (E₁ V₁ : List ℕ) (p' : List Float) → Left (run_of (take (length K.ms - 2 * K.at) (drop (2 * K.at) K.ms)) (K.first + K.at) H.T.start K.e K.tol) r (take (length H.C₁ - record_numbers * H.j) (drop (record_numbers * H.j) H.C₁)) D₁ (take (length H.F₁ - H.j) (drop H.j H.F₁)) E₁ (take (length H.W₁ - H.j) (drop H.j H.W₁)) V₁ p'
+      → length D₁ ≡ length (take (length H.C₁ - record_numbers * H.j) (drop (record_numbers * H.j) H.C₁)) → length E₁ ≡ length (take (length H.F₁ - H.j) (drop H.j H.F₁)) → length V₁ ≡ length (take (length H.W₁ - H.j) (drop H.j H.W₁)) → length p' ≡ length (take (length P₁ - K.at) (drop K.at P₁)) → Right
+  right r D₁ E₁ V₁ p' left ld le lv lp = record { r = r; D₁ = D₁; E₁ = E₁; V₁ = V₁; p' = p'; left = left; ld = ld; le = le; lv = lv; lp = lp }
 
   module _ (R : Right) where
     -- the four lent slices when their parts are back
@@ -302,15 +317,15 @@ module _ (K : Call) (H : Half K) where
     ran : Left (right_run K H.T) R.r (take (length H.C₁ - record_numbers * H.j) (drop (record_numbers * H.j) H.C₁)) R.D₁ (take (length H.F₁ - H.j) (drop H.j H.F₁)) R.E₁ (take (length H.W₁ - H.j) (drop H.j H.W₁)) R.V₁ R.p'
     ran = rw (take_all (length K.ms - 2 * K.at) (drop (2 * K.at) K.ms) (simp length-drop (omega arith))) at R.left
 
-    abbrev did : (k : ℕ) → R.r ≡ Curves k → Done (right_run K H.T) k (take (length H.C₁ - record_numbers * H.j) (drop (record_numbers * H.j) H.C₁)) R.D₁ (take (length H.F₁ - H.j) (drop H.j H.F₁)) R.E₁ (take (length H.W₁ - H.j) (drop H.j H.W₁)) R.V₁ R.p'
+    abbrev did : (k : ℕ) → R.r ≡ Ok k → Done (right_run K H.T) k (take (length H.C₁ - record_numbers * H.j) (drop (record_numbers * H.j) H.C₁)) R.D₁ (take (length H.F₁ - H.j) (drop H.j H.F₁)) R.E₁ (take (length H.W₁ - H.j) (drop H.j H.W₁)) R.V₁ R.p'
     did k q = is_done (right_run K H.T) R.r k _ R.D₁ _ R.E₁ _ R.V₁ R.p' ran q
 
-    pub cut_stops_right : (q : ℕ) (C₂ : List Float) (F₂ W₂ : List ℕ) (p₂ : List Float) → R.r ≡ Refused q → Left (cut_of K.ms K.at K.first K.s K.e K.tol) R.r K.C C₂ K.F F₂ K.W W₂ p₂
+    pub cut_stops_right : (q : Refusal) (C₂ : List Float) (F₂ W₂ : List ℕ) (p₂ : List Float) → R.r ≡ Err q → Left (cut_of K.ms K.at K.first K.s K.e K.tol) R.r K.C C₂ K.F F₂ K.W W₂ p₂
     cut_stops_right q C₂ F₂ W₂ p₂ n =
-        rw (H.is, H.side.is, is_refused (right_run K H.T) R.r q _ R.D₁ _ R.E₁ _ R.V₁ R.p' ran n) n
+        rw (H.is, H.side.is, is_refused (right_run K H.T) R.r q _ R.D₁ _ R.E₁ _ R.V₁ R.p' ran n) (ap answer n)
 
     -- all is done
-    pub cut_done : (k : ℕ) → R.r ≡ Curves k → Left (cut_of K.ms K.at K.first K.s K.e K.tol) (Curves (H.j + k)) K.C C₂ K.F F₂ K.W W₂ P₂
+    pub cut_done : (k : ℕ) → R.r ≡ Ok k → Left (cut_of K.ms K.at K.first K.s K.e K.tol) (Ok (H.j + k)) K.C C₂ K.F F₂ K.W W₂ P₂
     cut_done k q =
         let right = did k q in
         let n = numbers in
@@ -320,7 +335,7 @@ module _ (K : Call) (H : Half K) where
         (beside-behind (λ b. b.worst) H.side.bs right.bs K.W H.W₁ R.V₁ H.j (length H.W₁ - H.j) H.side.worsts H.side.long refl right.worsts)
         (params-join K.at (length P₁ - K.at) H.p R.p' K.P P₁ refl (omega (arith, n)) refl))
 
-    pub right_few : (k : ℕ) → R.r ≡ Curves k → k + K.at < length K.P
+    pub right_few : (k : ℕ) → R.r ≡ Ok k → k + K.at < length K.P
     right_few k q =
         let right = did k q in
         let n = numbers in

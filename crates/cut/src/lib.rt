@@ -8,33 +8,19 @@ ghost use Rattle.form.specs.Form.{record_numbers};
 ghost use Rattle.cut.specs.Run.{flat, run_of, cut_of};
 ghost use Rattle.cut.specs.Lent.{Left, Ready};
 
-use float::refusal::NOT_FINITE;
+use float::refusal::Refusal;
 use form::RECORD_NUMBERS;
 use part::Tried;
 use plane::{Curve, Point};
-use tangents::Turn;
-
-// How many curves a fit made, or its refusal by number.
-#[derive(Clone, Copy)]
-pub enum Fitted {
-    Curves(usize),
-    Refused(u32),
-}
 
 // A curve's eight numbers and its largest distance, at the front of the slice.
 pub fn put_record(curves: &mut [f64], c: Curve, far: f64)
     requires { record_numbers ≤ length curves.old }
     ensures { curves.new ≡ written (flat c far) curves.old }
 {
-    curves[0] = c.start.x;
-    curves[1] = c.start.y;
-    curves[2] = c.cp1.x;
-    curves[3] = c.cp1.y;
-    curves[4] = c.cp2.x;
-    curves[5] = c.cp2.y;
-    curves[6] = c.end.x;
-    curves[7] = c.end.y;
-    curves[8] = far;
+    curves[..RECORD_NUMBERS].copy_from_slice(&[
+        c.start.x, c.start.y, c.cp1.x, c.cp1.y, c.cp2.x, c.cp2.y, c.end.x, c.end.y, far,
+    ]);
 }
 
 // The curves of a part whose first mark has the number `first`, with the tangents at its ends.
@@ -49,23 +35,22 @@ pub fn fit_part(
     firsts: &mut [u32],
     worsts: &mut [u32],
     params: &mut [f64],
-) -> Fitted
+) -> Result<usize, Refusal>
     requires { Ready marks.now first tolerance curves.old firsts.old worsts.old params.old }
     ensures { Left (run_of marks.now first start end tolerance) result curves.old curves.new firsts.old firsts.new worsts.old worsts.new params.new }
 {
-    let tried = part::try_part(marks, start, end, tolerance, params);
-    match tried {
-        Tried::Good(s) => {
+    match part::try_part(marks, start, end, tolerance, params) {
+        Ok(Tried::Good(s)) => {
             let worst = first + s.far.at;
             put_record(curves, s.curve, s.far.err);
             firsts[0] = first as u32;
             worsts[0] = worst as u32;
-            Fitted::Curves(1)
+            Ok(1)
         }
-        Tried::Cut(at) => cut_part(
+        Ok(Tried::Cut(at)) => cut_part(
             marks, at, first, start, end, tolerance, curves, firsts, worsts, params,
         ),
-        Tried::Refused(q) => Fitted::Refused(q),
+        Err(q) => Err(q),
     }
 }
 
@@ -82,13 +67,13 @@ fn cut_part(
     firsts: &mut [u32],
     worsts: &mut [u32],
     params: &mut [f64],
-) -> Fitted
+) -> Result<usize, Refusal>
     requires ready { Ready marks.now first tolerance curves.old firsts.old worsts.old params.old }
     requires at_nonzero { (0 < at) × (at + 1 < length params.old) }
     ensures { Left (cut_of marks.now at first start end tolerance) result curves.old curves.new firsts.old firsts.new worsts.old worsts.new params.new }
 {
-    let Turn::At(ways) = tangents::ways_at(marks, at) else {
-        return Fitted::Refused(NOT_FINITE);
+    let Ok(ways) = tangents::ways_at(marks, at) else {
+        return Err(Refusal::NotFinite);
     };
     let middle = ways.end;
     let front = 2 * at + 2;
@@ -104,7 +89,7 @@ fn cut_part(
         worsts,
         &mut params[..shared],
     );
-    let Fitted::Curves(j) = left else {
+    let Ok(j) = left else {
         return left;
     };
     let turned = ways.start;
@@ -121,8 +106,8 @@ fn cut_part(
         &mut worsts[j..],
         &mut params[at..],
     );
-    let Fitted::Curves(k) = right else {
+    let Ok(k) = right else {
         return right;
     };
-    Fitted::Curves(j + k)
+    Ok(j + k)
 }

@@ -2,8 +2,10 @@
 // and its arguments; each has a line of output, 0 and the numbers of the answer, or the refusal's number.
 #![tactic(auto)]
 
-use bezier::{CoefficientsAnswer, HalvesAnswer, NumberAnswer, PointAnswer};
 use cases::STDIN;
+use cubic::eval::Coefficients;
+use cubic::split::Halves;
+use float::refusal::Refusal;
 use plane::{Curve, Point};
 
 // The point that stands at a place of the record.
@@ -29,53 +31,28 @@ fn print_curve(c: Curve) {
     print_point(c.end);
 }
 
-// A refusal is its number alone.
-fn refused(n: u32) {
-    cases::print_count(n as u64);
+fn print_coefficients(k: Coefficients) {
+    cases::print_next(k.a);
+    cases::print_next(k.b);
+    cases::print_next(k.c);
+    cases::print_next(k.d);
 }
 
-// The lines of the answers.
-fn point_line(a: PointAnswer) {
-    match a {
-        PointAnswer::At(p) => {
-            cases::print_count(0);
-            print_point(p);
-        }
-        PointAnswer::Refused(n) => refused(n),
-    }
+fn print_halves(h: Halves) {
+    print_curve(h.left);
+    print_curve(h.right);
 }
 
-fn coefficients_line(a: CoefficientsAnswer) {
-    match a {
-        CoefficientsAnswer::Are(k) => {
+// An answer's line: 0 and what `print` makes of the value, or the refusal's number alone.
+fn line<T: Copy, P: Fn(T)>(answer: Result<T, Refusal>, print: P)
+    requires { P.IsAlwaysCallable print }
+{
+    match answer {
+        Ok(value) => {
             cases::print_count(0);
-            cases::print_next(k.a);
-            cases::print_next(k.b);
-            cases::print_next(k.c);
-            cases::print_next(k.d);
+            print(value);
         }
-        CoefficientsAnswer::Refused(n) => refused(n),
-    }
-}
-
-fn halves_line(a: HalvesAnswer) {
-    match a {
-        HalvesAnswer::Are(h) => {
-            cases::print_count(0);
-            print_curve(h.left);
-            print_curve(h.right);
-        }
-        HalvesAnswer::Refused(n) => refused(n),
-    }
-}
-
-fn number_line(a: NumberAnswer) {
-    match a {
-        NumberAnswer::Is(t) => {
-            cases::print_count(0);
-            cases::print_next(t);
-        }
-        NumberAnswer::Refused(n) => refused(n),
+        Err(q) => cases::print_count(q.number() as u64),
     }
 }
 
@@ -88,18 +65,15 @@ fn answer(r: &[u8; 104]) {
     let p4 = point(r, 64);
     let op = cases::word(r, 0);
     match op {
-        0 => point_line(bezier::basis(t, p1, p2, p3, p4)),
-        1 => point_line(bezier::de_casteljau2(t, p1, p2)),
-        2 => point_line(bezier::de_casteljau3(t, p1, p2, p3)),
-        3 => point_line(bezier::de_casteljau4(t, p1, p2, p3, p4)),
-        4 => coefficients_line(bezier::bezier_coefficients(
-            cases::word(r, 8) as usize,
-            p1,
-            p2,
-            p3,
-            p4,
-        )),
-        5 => halves_line(bezier::subdivide4(t, p1, p2, p3, p4)),
+        0 => line(bezier::basis(t, p1, p2, p3, p4), print_point),
+        1 => line(bezier::de_casteljau2(t, p1, p2), print_point),
+        2 => line(bezier::de_casteljau3(t, p1, p2, p3), print_point),
+        3 => line(bezier::de_casteljau4(t, p1, p2, p3, p4), print_point),
+        4 => line(
+            bezier::bezier_coefficients(cases::word(r, 8) as usize, p1, p2, p3, p4),
+            print_coefficients,
+        ),
+        5 => line(bezier::subdivide4(t, p1, p2, p3, p4), print_halves),
         _ => refine_line(r, t, p1, p2, p3, p4),
     }
 }
@@ -112,12 +86,11 @@ fn refine_line(r: &[u8; 104], t: f64, p1: Point, p2: Point, p3: Point, p4: Point
         cp2: p3,
         end: p4,
     };
-    number_line(bezier::nearest_point_on_curve_newton_raphson_with_estimate(
-        c,
-        point(r, 80),
-        t,
-        cases::word(r, 96) as usize,
-    ))
+    let rounds = cases::word(r, 96) as usize;
+    line(
+        bezier::nearest_point_on_curve_newton_raphson_with_estimate(c, point(r, 80), t, rounds),
+        cases::print_next,
+    )
 }
 
 // One record, if there is one.
@@ -132,11 +105,9 @@ fn step() -> bool {
 }
 
 fn main() {
-    let mut k: usize = 0;
-    while k < 65536 {
+    for _ in 0..65536 {
         if !step() {
             return;
         }
-        k += 1;
     }
 }

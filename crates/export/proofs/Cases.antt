@@ -26,7 +26,7 @@ use Rattle.export.specs.declared.Test.TheVariants.{Finite, Within}
 use Rattle.export.proofs.Records.{whole-held}
 
 -- what a test of so many curves answered, where it is known how many they are
-pub told : (P : ℕ → Bool) {h h' : ℕ} {r b : Bool} → h ≡ h' → r ≡ P h → r ≡ b → P h' ≡ b
+told : (P : ℕ → Bool) {h h' : ℕ} {r b : Bool} → h ≡ h' → r ≡ P h → r ≡ b → P h' ≡ b
 told P e t u = rw (sym e) (sym t ∙ u)
 
 -- there are curves where they meet
@@ -73,29 +73,46 @@ module _ (form : Form) (C : List Float) (k : ℕ) (ring : Bool) (O : List ℕ) w
     unfolding export_text
     text m g = granted no_room _ (le-leb k (whole_in form (length C) k) g) ∙ granted not_joined _ m ∙ granted too_large _ w ∙ granted not_finite _ f
 
-  -- ---- what is left of the lent bytes
-
+  -- what is left of the lent bytes
   left : {a : Answer (List ℕ)} → a ≡ export_text form C k ring → over_to O a ≡ export_of form C k ring O
   unfolding export_of
   left e = ap (over_to O) e
 
-  pub not_finite_is : all Finite ≡ false → handed (refused 5) O ≡ export_of form C k ring O
-  not_finite_is e = left (text_5 e)
+-- ---- what each way out leaves, where h curves are held and the tests of them answered f, w and m
+module _ (form : Form) (C : List Float) (k : ℕ) (ring : Bool) (O : List ℕ) {h : ℕ} (held : h ≡ whole_in form (length C) k) {f : Bool} (finite : f ≡ every h (passes Finite (curve_at form C))) where
+  finite_is : {b : Bool} → f ≡ b → all form C k ring O Finite ≡ b
+  finite_is e = told (λ h. every h (passes Finite (curve_at form C))) held finite e
 
-  pub too_large_is : all Finite ≡ true → all Within ≡ false → handed (refused 10) O ≡ export_of form C k ring O
-  too_large_is f e = left (text_10 f e)
+  pub not_finite_is : f ≡ false → handed (refused 5) O ≡ export_of form C k ring O
+  not_finite_is e = left form C k ring O (text_5 form C k ring O (finite_is e))
 
-  module _ (f : all Finite ≡ true) (w : all Within ≡ true) where
-    pub apart : meet ≡ false → handed (refused 12) O ≡ export_of form C k ring O
-    apart e = left (text_12 f w e)
+  module _ (F : f ≡ true) {w : Bool} (within : w ≡ every h (passes Within (curve_at form C))) where
+    within_is : {b : Bool} → w ≡ b → all form C k ring O Within ≡ b
+    within_is e = told (λ h. every h (passes Within (curve_at form C))) held within e
 
-    module _ (m : meet ≡ true) where
-      pub not_held : whole_in form (length C) k < k → handed (refused 4) O ≡ export_of form C k ring O
-      not_held e = left (text_4 f w m e)
+    pub too_large_is : w ≡ false → handed (refused 10) O ≡ export_of form C k ring O
+    too_large_is e = left form C k ring O (text_10 form C k ring O (finite_is F) (within_is e))
 
-      module _ (g : k ≤ whole_in form (length C) k) where
-        pub too_short : {n : ℕ} → n ≡ length (path_text ring k (curve_at form C)) → length O < n → handed (refused 4) O ≡ export_of form C k ring O
-        too_short e l = over-short (path_text ring k (curve_at form C)) O (omega (arith, e)) ∙ left (text f w m g)
+    module _ (W : w ≡ true) {m : Bool} (meets_is : m ≡ meets ring k h (curve_at form C)) where
+      meet_is : {b : Bool} → m ≡ b → meet form C k ring O ≡ b
+      meet_is e = told (λ h. meets ring k h (curve_at form C)) held meets_is e
 
-        pub put_whole : {O' : List ℕ} {n e : ℕ} → n ≡ length (path_text ring k (curve_at form C)) → n ≤ length O → Put O 0 (path_text ring k (curve_at form C)) O' e → handed (ok e) O' ≡ export_of form C k ring O
-        put_whole z l p = over-whole (path_text ring k (curve_at form C)) O (omega (arith, z)) (p.end, p.out) ∙ left (text f w m g)
+      pub apart : m ≡ false → handed (refused 12) O ≡ export_of form C k ring O
+      apart e = left form C k ring O (text_12 form C k ring O (finite_is F) (within_is W) (meet_is e))
+
+      module _ (M : m ≡ true) where
+        pub not_held : h < k → handed (refused 4) O ≡ export_of form C k ring O
+        not_held e = left form C k ring O (text_4 form C k ring O (finite_is F) (within_is W) (meet_is M) (omega arith))
+
+        module _ (g : k ≤ h) where
+          pub listed : (0 < k) × Writable form C k
+          listed = (some_curves ring form C k (whole_in form (length C) k) (meet_is M), whole form C k (omega arith) (finite_is F) (within_is W))
+
+          text_is : ok (path_text ring k (curve_at form C)) ≡ export_text form C k ring
+          text_is = text form C k ring O (finite_is F) (within_is W) (meet_is M) (omega arith)
+
+          pub too_short : {n : ℕ} → n ≡ length (path_text ring k (curve_at form C)) → length O < n → handed (refused 4) O ≡ export_of form C k ring O
+          too_short e l = over-short (path_text ring k (curve_at form C)) O (omega (arith, e)) ∙ left form C k ring O text_is
+
+          pub put_whole : {O' : List ℕ} {n e : ℕ} → n ≡ length (path_text ring k (curve_at form C)) → n ≤ length O → Put O 0 (path_text ring k (curve_at form C)) O' e → handed (ok e) O' ≡ export_of form C k ring O
+          put_whole z l p = over-whole (path_text ring k (curve_at form C)) O (omega (arith, z)) (p.end, p.out) ∙ left form C k ring O text_is

@@ -2,24 +2,13 @@
 #![tactic(auto)]
 
 ghost use Rattle.std.specs.Prelude.{◌≡◌, ◌+◌, ◌<◌, ◌≤◌, length};
-ghost use Rattle.text.specs.Text.{decimal};
 ghost use Rattle.text.specs.Put.{Put};
 ghost use Rattle.path.specs.Decimals.{figure, places_text, sign_text, decimal_text};
 
 use path::Decimal;
-use text::{put_bytes, put_decimal};
+use text::{decimal_len, put_bytes, put_decimal};
 
 // ---- how long
-
-// How many digits n has: those before the last are those of a tenth of it.
-fn decimal_length(n: u64) -> usize
-    ensures { (result ≡ length (decimal n)) × (result ≤ 20) }
-{
-    if n < 10 {
-        return 1;
-    }
-    decimal_length(n / 10) + 1
-}
 
 // How long the point and the digits behind it are.
 fn places_length(r: u64) -> usize
@@ -52,7 +41,7 @@ pub fn length_of(d: Decimal) -> usize
     ensures { (result ≡ length (decimal_text d)) × (result ≤ 25) }
 {
     sign_length(d.negative)
-        + (decimal_length(d.thousandths / 1000) + places_length(d.thousandths % 1000))
+        + (decimal_len(d.thousandths / 1000) + places_length(d.thousandths % 1000))
 }
 
 // ---- the text

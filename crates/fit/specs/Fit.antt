@@ -11,17 +11,10 @@ use Rattle.marks.specs.Marks.{count}
 use Rattle.marks.specs.Block.{block_size}
 use Rattle.gate.specs.Gate.{refuse, gate_of}
 use Rattle.cut.specs.Run.{Run, refused, done, firsts_of, worsts_of, run_of}
-use Rattle.cut.specs.declared.Fitted.{Fitted}
-use Rattle.cut.specs.declared.Fitted.TheVariants as fitted
 use Rattle.ring.specs.declared.Outline.TheVariants.{Open}
 use Rattle.tangents.specs.Ways.{outline_of, marks_of}
 use Rattle.tangents.specs.declared.Cutting.{Cutting}
 use Rattle.blocks.specs.Blocks.{blocks_of}
-
--- how many curves, or the refusal's number
-unfoldable pub fitted_answer : Fitted → Answer ℕ
-fitted_answer (fitted.Curves n) = ok n
-fitted_answer (fitted.Refused q) = no q
 
 -- the answer, and what the lent slices hold after the call
 pub record Ending : Type 0 where

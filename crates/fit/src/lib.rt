@@ -3,11 +3,11 @@
 
 ghost use Rattle.std.specs.Prelude.{◌≡◌, length, replicate};
 ghost use Rattle.float.specs.Number.{f0};
+ghost use Rattle.float.specs.Refusal.{answer, refusal};
 ghost use Rattle.tangents.specs.declared.Cutting.TheVariants as variants;
-ghost use Rattle.fit.specs.Fit.{fitted_answer, ending, component, are_tangents, fit_of, cubic_of, cubic_gate};
+ghost use Rattle.fit.specs.Fit.{ending, component, are_tangents, fit_of, cubic_of, cubic_gate};
 
-use cut::Fitted;
-use float::refusal::OUT_OF_RANGE;
+use float::refusal::Refusal;
 use limits::MOST_MARKS;
 use plane::Point;
 use ring::Outline;
@@ -50,10 +50,10 @@ pub fn gate_cubic(
     firsts: usize,
     worsts: usize,
     params: usize,
-) -> u32
-    ensures { result ≡ cubic_gate marks.now start end tolerance «curves» «firsts» «worsts» «params» }
+) -> Result<(), Refusal>
+    ensures { refusal result ≡ cubic_gate marks.now start end tolerance «curves» «firsts» «worsts» «params» }
 {
-    let refusal = gate::gate(
+    gate::gate(
         Outline::Open,
         marks,
         tolerance,
@@ -62,14 +62,11 @@ pub fn gate_cubic(
         firsts,
         worsts,
         params,
-    );
-    if refusal != 0 {
-        return refusal;
-    }
+    )?;
     if !are_tangents(start, end) {
-        return OUT_OF_RANGE;
+        return Err(Refusal::OutOfRange);
     }
-    0
+    Ok(())
 }
 
 // The direct fit: all marks as one part, with the tangents at its ends given.
@@ -82,10 +79,10 @@ pub fn fit_curve_cubic(
     firsts: &mut [u32],
     worsts: &mut [u32],
     params: &mut [f64],
-) -> Fitted
-    ensures { ending (fitted_answer result) curves.new firsts.new worsts.new params.new ≡ cubic_of marks.now start end tolerance curves.old firsts.old worsts.old params.old }
+) -> Result<usize, Refusal>
+    ensures { ending (answer result) curves.new firsts.new worsts.new params.new ≡ cubic_of marks.now start end tolerance curves.old firsts.old worsts.old params.old }
 {
-    let refusal = gate_cubic(
+    gate_cubic(
         marks,
         start,
         end,
@@ -94,10 +91,7 @@ pub fn fit_curve_cubic(
         firsts.len(),
         worsts.len(),
         params.len(),
-    );
-    if refusal != 0 {
-        return Fitted::Refused(refusal);
-    }
+    )?;
     let n = marks.len() / 2;
     let out = cut::fit_part(
         marks,
@@ -110,11 +104,11 @@ pub fn fit_curve_cubic(
         worsts,
         &mut params[..n],
     );
-    let Fitted::Curves(made) = out else {
+    let Ok(made) = out else {
         zero_all(curves, firsts, worsts, params);
         return out;
     };
-    Fitted::Curves(made)
+    Ok(made)
 }
 
 // A fit by blocks, of the size that suits the number of marks that are cut.
@@ -126,11 +120,11 @@ fn fit_cut(
     firsts: &mut [u32],
     worsts: &mut [u32],
     params: &mut [f64],
-) -> Fitted
-    ensures { ending (fitted_answer result) curves.new firsts.new worsts.new params.new ≡ fit_of cutting marks.now tolerance curves.old firsts.old worsts.old params.old }
+) -> Result<usize, Refusal>
+    ensures { ending (answer result) curves.new firsts.new worsts.new params.new ≡ fit_of cutting marks.now tolerance curves.old firsts.old worsts.old params.old }
 {
     let outline = tangents::outline_of(cutting);
-    let refusal = gate::gate(
+    gate::gate(
         outline,
         marks,
         tolerance,
@@ -139,10 +133,7 @@ fn fit_cut(
         firsts.len(),
         worsts.len(),
         params.len(),
-    );
-    if refusal != 0 {
-        return Fitted::Refused(refusal);
-    }
+    )?;
     let n = ring::again(outline) + marks.len() / 2;
     let size = marks::max_points_to_fit(n);
     let out = blocks::fit_blocks(
@@ -155,11 +146,11 @@ fn fit_cut(
         worsts,
         &mut params[..n],
     );
-    let Fitted::Curves(total) = out else {
+    let Ok(total) = out else {
         zero_all(curves, firsts, worsts, params);
         return out;
     };
-    Fitted::Curves(total)
+    Ok(total)
 }
 
 // The fit as the source cuts an outline into blocks, which do not meet.
@@ -170,8 +161,8 @@ pub fn fit_curve(
     firsts: &mut [u32],
     worsts: &mut [u32],
     params: &mut [f64],
-) -> Fitted
-    ensures { ending (fitted_answer result) curves.new firsts.new worsts.new params.new ≡ fit_of variants.Source marks.now tolerance curves.old firsts.old worsts.old params.old }
+) -> Result<usize, Refusal>
+    ensures { ending (answer result) curves.new firsts.new worsts.new params.new ≡ fit_of variants.Source marks.now tolerance curves.old firsts.old worsts.old params.old }
 {
     fit_cut(
         Cutting::Source,
@@ -192,8 +183,8 @@ pub fn fit_curve_loop(
     firsts: &mut [u32],
     worsts: &mut [u32],
     params: &mut [f64],
-) -> Fitted
-    ensures { ending (fitted_answer result) curves.new firsts.new worsts.new params.new ≡ fit_of variants.Loop marks.now tolerance curves.old firsts.old worsts.old params.old }
+) -> Result<usize, Refusal>
+    ensures { ending (answer result) curves.new firsts.new worsts.new params.new ≡ fit_of variants.Loop marks.now tolerance curves.old firsts.old worsts.old params.old }
 {
     fit_cut(
         Cutting::Loop,
@@ -214,8 +205,8 @@ pub fn fit_joined(
     firsts: &mut [u32],
     worsts: &mut [u32],
     params: &mut [f64],
-) -> Fitted
-    ensures { ending (fitted_answer result) curves.new firsts.new worsts.new params.new ≡ fit_of variants.Joined marks.now tolerance curves.old firsts.old worsts.old params.old }
+) -> Result<usize, Refusal>
+    ensures { ending (answer result) curves.new firsts.new worsts.new params.new ≡ fit_of variants.Joined marks.now tolerance curves.old firsts.old worsts.old params.old }
 {
     fit_cut(
         Cutting::Joined,
@@ -237,8 +228,8 @@ pub fn fit_ring(
     firsts: &mut [u32],
     worsts: &mut [u32],
     params: &mut [f64],
-) -> Fitted
-    ensures { ending (fitted_answer result) curves.new firsts.new worsts.new params.new ≡ fit_of variants.Ring marks.now tolerance curves.old firsts.old worsts.old params.old }
+) -> Result<usize, Refusal>
+    ensures { ending (answer result) curves.new firsts.new worsts.new params.new ≡ fit_of variants.Ring marks.now tolerance curves.old firsts.old worsts.old params.old }
 {
     fit_cut(
         Cutting::Ring,

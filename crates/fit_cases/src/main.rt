@@ -9,9 +9,9 @@
 
 ghost use Rattle.std.specs.Prelude.{◌≤◌};
 
-use cases::parts::{front_floats, lent_firsts, lent_floats};
+use cases::parts::{front, lent};
 use cases::{STDIN, STDOUT};
-use cut::Fitted;
+use float::refusal::Refusal;
 use form::RECORD_NUMBERS;
 use plane::Point;
 
@@ -43,75 +43,52 @@ fn same(a: u64, b: u64) -> u64
     if a == b { 1 } else { 0 }
 }
 
-// What a call left in a slice of floats.
+// What a call left in a slice that held a word everywhere: how many places are as before, how many are zero, and a digest of all their words.
+fn print_words_left<T, F: Fn(&T) -> u64>(xs: &[T], before: u64, word: F)
+    requires { F.IsAlwaysCallable word }
+{
+    let mut kept: u64 = 0;
+    let mut zeros: u64 = 0;
+    let mut digest: u64 = 0;
+    for x in xs {
+        let w = word(x);
+        kept += same(w, before);
+        zeros += same(w, 0);
+        digest = cases::mix(digest, w);
+    }
+    print_state(kept, zeros, digest);
+}
+
 fn print_floats_left(xs: &[f64]) {
-    let mut before: u64 = 0;
-    let mut zeros: u64 = 0;
-    let mut digest: u64 = 0;
-    let mut i: usize = 0;
-    while i < xs.len() {
-        let w = float::to_bits(xs[i]);
-        before += same(w, BEFORE);
-        zeros += same(w, 0);
-        digest = cases::mix(digest, w);
-        i += 1;
-    }
-    print_state(before, zeros, digest);
+    print_words_left(xs, BEFORE, |x| float::to_bits(*x));
 }
 
-fn wide(x: u32) -> u64 {
-    x as u64
-}
-
-// What a call left in a slice of mark numbers.
 fn print_marks_left(xs: &[u32]) {
-    let mut before: u64 = 0;
-    let mut zeros: u64 = 0;
-    let mut digest: u64 = 0;
-    let mut i: usize = 0;
-    while i < xs.len() {
-        let w = wide(xs[i]);
-        before += same(w, BEFORE_MARK);
-        zeros += same(w, 0);
-        digest = cases::mix(digest, w);
-        i += 1;
-    }
-    print_state(before, zeros, digest);
+    print_words_left(xs, BEFORE_MARK, |x| u64::from(*x));
 }
 
 // The numbers of a slice, each after a blank.
 fn print_floats(xs: &[f64]) {
-    let mut i: usize = 0;
-    while i < xs.len() {
-        cases::print_next(xs[i]);
-        i += 1;
+    for x in xs {
+        cases::print_next(*x);
     }
 }
 
 // The worst mark of curve i.
 fn print_worst(worsts: &[u32], i: usize) {
-    if i < worsts.len() {
-        cases::print_next_count(wide(worsts[i]));
+    if let Some(worst) = worsts.get(i) {
+        cases::print_next_count(u64::from(*worst));
     }
 }
 
 // A line for each of the first n curves.
 fn print_curves(n: usize, curves: &[f64], firsts: &[u32], worsts: &[u32]) {
-    let mut i: usize = 0;
-    while i < firsts.len() {
-        if i >= n {
-            return;
-        }
-        if i >= curves.len() / RECORD_NUMBERS {
-            return;
-        }
-        let from = RECORD_NUMBERS * i;
-        let to = from + RECORD_NUMBERS;
-        cases::print_count(wide(firsts[i]));
+    let records = curves.chunks_exact(RECORD_NUMBERS);
+    for (i, (first, record)) in firsts.iter().zip(records).take(n).enumerate() {
+        cases::print_count(u64::from(*first));
         print_worst(worsts, i);
-        print_floats(&curves[from..to]);
+        print_floats(record);
         cases::end_line();
-        i += 1;
     }
 }
 
@@ -135,7 +112,7 @@ fn fit_direct(
     worsts: &mut [u32],
     params: &mut [f64],
     open: &mut [u32],
-) -> Fitted {
+) -> Result<usize, Refusal> {
     let start = point_at(head, 72);
     let end = point_at(head, 88);
     let tolerance = cases::number(head, 64);
@@ -156,7 +133,7 @@ fn fit_by_kind(
     worsts: &mut [u32],
     params: &mut [f64],
     open: &mut [u32],
-) -> Fitted {
+) -> Result<usize, Refusal> {
     let tolerance = cases::number(head, 64);
     match cases::word(head, 0) {
         0 => fit::fit_curve(marks, tolerance, curves, firsts, worsts, params),
@@ -178,20 +155,20 @@ fn params_of(head: &[u8; 104], marks: &[f64]) -> usize {
 }
 
 // A fit's number: 0 and how many curves, or the refusal.
-fn print_fitted(fitted: Fitted) {
+fn print_fitted(fitted: Result<usize, Refusal>) {
     match fitted {
-        Fitted::Curves(n) => {
+        Ok(n) => {
             cases::print_count(0);
             cases::print_next_count(n as u64);
         }
-        Fitted::Refused(q) => cases::print_count(q as u64),
+        Err(q) => cases::print_count(u64::from(q.number())),
     }
 }
 
 // The lines of an answer whose slices are as the call left them.
 fn print_answer(
     lists: u64,
-    fitted: Fitted,
+    fitted: Result<usize, Refusal>,
     times: usize,
     curves: &[f64],
     firsts: &[u32],
@@ -204,7 +181,7 @@ fn print_answer(
     if lists != 1 {
         return;
     }
-    let Fitted::Curves(n) = fitted else {
+    let Ok(n) = fitted else {
         return;
     };
     print_lists(n, curves, firsts, worsts, params, times);
@@ -254,8 +231,7 @@ fn print_lists(
     if times > params.len() {
         return;
     }
-    let from: usize = 0;
-    print_floats(&params[from..times]);
+    print_floats(&params[..times]);
     cases::end_line();
 }
 
@@ -284,11 +260,11 @@ fn record(head: &[u8; 104], marks: &[f64]) {
     answer(
         head,
         marks,
-        lent_floats(&mut curves, length_at(head, 16)),
-        lent_firsts(&mut firsts, length_at(head, 24)),
-        lent_firsts(&mut worsts, length_at(head, 32)),
-        lent_floats(&mut params, length_at(head, 40)),
-        lent_firsts(&mut open, length_at(head, 48)),
+        lent(&mut curves, length_at(head, 16)),
+        lent(&mut firsts, length_at(head, 24)),
+        lent(&mut worsts, length_at(head, 32)),
+        lent(&mut params, length_at(head, 40)),
+        lent(&mut open, length_at(head, 48)),
     );
 }
 
@@ -304,16 +280,14 @@ fn step() -> bool {
     let mut marks = [0.0; NUMBERS];
     let m = length_at(&head, 8);
     cases::read_floats(&mut marks, m);
-    record(&head, front_floats(&marks, m));
+    record(&head, front(&marks, m));
     true
 }
 
 fn main() {
-    let mut k: usize = 0;
-    while k < 65536 {
+    for _ in 0..65536 {
         if !step() {
             return;
         }
-        k += 1;
     }
 }

@@ -11,15 +11,13 @@
 
 ghost use Rattle.std.specs.Prelude.{◌<◌, length};
 
-use cases::parts::{front_bytes, front_words, lent_bytes, lent_firsts, lent_words};
+use cases::parts::{front, lent};
 use cases::{STDIN, STDOUT};
-use form::Form;
-use lines::Listed;
+use float::refusal::Refusal;
 use packer::pack_file;
-use reader::Read;
-use salvaging::{Salvaged, salvage};
+use reader::Found;
+use salvaging::{Sizes, salvage};
 use unpacker::unpack_file;
-use writer::Wrote;
 
 // The room for a file, for what is written, for marks and curves, for first marks and for parameters. A file of 100,001 marks is only refused: nothing of it is read.
 const FILE: usize = 2400256;
@@ -55,7 +53,7 @@ struct Runs {
 }
 
 // How often each answer was given.
-#[derive(Clone, Copy)]
+#[derive(Clone, Copy, Default)]
 struct Tally {
     taken: u64,
     many: u64,
@@ -63,12 +61,8 @@ struct Tally {
     formed: u64,
 }
 
-fn more(n: u64) -> u64 {
-    std::num::wrapping_add_u64(n, 1)
-}
-
 fn more_if(n: u64, b: bool) -> u64 {
-    if b { more(n) } else { n }
+    if b { n.wrapping_add(1) } else { n }
 }
 
 // One more answer: 9 is the only one beside 0, 2 and 4.
@@ -81,45 +75,19 @@ fn count(t: Tally, answer: u32) -> Tally {
     }
 }
 
-fn print_next(n: u64) {
-    io::write_all(STDOUT, b" ");
-    cases::print_count(n);
-}
-
 fn print_tally(t: Tally) {
     cases::print_count(t.taken);
-    print_next(t.many);
-    print_next(t.room);
-    print_next(t.formed);
+    cases::print_next_count(t.many);
+    cases::print_next_count(t.room);
+    cases::print_next_count(t.formed);
     cases::end_line();
 }
 
-// The number of the reader's answer.
-fn read_answer(
-    file: &[u8],
-    marks: &mut [u64],
-    firsts: &mut [u32],
-    worsts: &mut [u32],
-    curves: &mut [u64],
-    params: &mut [u64],
-) -> u32 {
-    let read = reader::read_file(file, marks, firsts, worsts, curves, params);
-    match read {
-        Read::File {
-            form: _,
-            tolerance: _,
-            marks: _,
-            curves: _,
-        } => 0,
-        Read::Refused(q) => q,
-    }
-}
-
-// The number of the unpacker's answer.
-fn unpack_answer(file: &[u8], out: &mut [u8]) -> u32 {
-    match unpack_file(file, out) {
-        Listed::Bytes(_) => 0,
-        Listed::Refused(q) => q,
+// The number of an answer: 0, or that of the refusal.
+fn number_of<T: Copy>(answer: Result<T, Refusal>) -> u32 {
+    match answer {
+        Ok(_) => 0,
+        Err(q) => q.number(),
     }
 }
 
@@ -135,9 +103,11 @@ fn answer_of(
     out: &mut [u8],
 ) -> u32 {
     if what < UNPACK_PREFIXES {
-        return read_answer(file, marks, firsts, worsts, curves, params);
+        return number_of(reader::read_file(
+            file, marks, firsts, worsts, curves, params,
+        ));
     }
-    unpack_answer(file, out)
+    number_of(unpack_file(file, out))
 }
 
 // Every prefix, the file itself not among them.
@@ -151,30 +121,12 @@ fn prefixes(
     params: &mut [u64],
     out: &mut [u8],
 ) -> Tally {
-    let mut t = Tally {
-        taken: 0,
-        many: 0,
-        room: 0,
-        formed: 0,
-    };
-    let mut i: usize = 0;
-    let from: usize = 0;
-    while i < file.len() {
-        let next = i + 1;
+    let mut t = Tally::default();
+    for i in 0..file.len() {
         t = count(
             t,
-            answer_of(
-                what,
-                &file[from..i],
-                marks,
-                firsts,
-                worsts,
-                curves,
-                params,
-                out,
-            ),
+            answer_of(what, &file[..i], marks, firsts, worsts, curves, params, out),
         );
-        i = next;
     }
     t
 }
@@ -214,15 +166,12 @@ fn change_at(
 {
     let was = file[at];
     let mut t = start;
-    let mut d: u64 = 1;
-    while d < values {
-        let next = d + 1;
+    for d in 1..values {
         file[at] = turned(was, d);
         t = count(
             t,
             answer_of(what, file, marks, firsts, worsts, curves, params, out),
         );
-        d = next;
     }
     file[at] = was;
     t
@@ -240,61 +189,38 @@ fn changes(
     params: &mut [u64],
     out: &mut [u8],
 ) -> Tally {
-    let mut t = Tally {
-        taken: 0,
-        many: 0,
-        room: 0,
-        formed: 0,
-    };
-    let mut i: usize = 0;
-    while i < file.len() {
-        let next = i + 1;
+    let mut t = Tally::default();
+    for i in 0..file.len() {
         let values = values_at(runs, i);
         t = change_at(
             what, file, i, values, t, marks, firsts, worsts, curves, params, out,
         );
-        i = next;
     }
     t
 }
 
-// Whether two slices hold the same bytes.
-fn same(a: &[u8], b: &[u8]) -> bool {
-    if a.len() != b.len() {
-        return false;
-    }
-    let mut i: usize = 0;
-    while i < a.len() {
-        if a[i] != b[i] {
-            return false;
-        }
-        i += 1;
-    }
-    true
-}
-
 // A refusal's number, which ends its line.
-fn print_refusal(q: u32) {
-    cases::print_count(q as u64);
+fn print_refusal(q: Refusal) {
+    cases::print_count(u64::from(q.number()));
     cases::end_line();
 }
 
 // How many bytes were written, and whether they are the file's.
 fn print_bytes(n: usize, file: &[u8], out: &[u8]) {
     cases::print_count(0);
-    print_next(n as u64);
+    cases::print_next_count(n as u64);
     cases::end_line();
-    if !same(file, front_bytes(out, n)) {
+    if file != front(out, n) {
         io::write_all(STDOUT, b"DIFFERS\n");
     }
 }
 
 // What was written, against the file.
-fn print_written(wrote: Wrote, file: &[u8], out: &[u8]) {
+fn print_written(wrote: Result<usize, Refusal>, file: &[u8], out: &[u8]) {
     io::write_all(STDOUT, b" ");
     match wrote {
-        Wrote::Bytes(n) => print_bytes(n, file, out),
-        Wrote::Refused(q) => print_refusal(q),
+        Ok(n) => print_bytes(n, file, out),
+        Err(q) => print_refusal(q),
     }
 }
 
@@ -311,9 +237,7 @@ fn beyond(too_far: bool, beside: &mut [u32]) {
 // What the reader found, written again.
 fn write_again(
     what: u64,
-    form: Form,
-    tolerance: u64,
-    count: usize,
+    found: Found,
     file: &[u8],
     marks: &[u64],
     firsts: &mut [u32],
@@ -325,15 +249,23 @@ fn write_again(
     beyond(what == 5, firsts);
     beyond(what == 4, worsts);
     let wrote = writer::write_file(
-        form, tolerance, marks, count, firsts, worsts, curves, params, out,
+        found.form,
+        found.tolerance,
+        marks,
+        found.curves,
+        firsts,
+        worsts,
+        curves,
+        params,
+        out,
     );
     print_written(wrote, file, out);
 }
 
 fn print_counts(marks: usize, curves: usize) {
     cases::print_count(0);
-    print_next(marks as u64);
-    print_next(curves as u64);
+    cases::print_next_count(marks as u64);
+    cases::print_next_count(curves as u64);
 }
 
 // The file read, and written again.
@@ -348,21 +280,14 @@ fn read_and_write(
     out: &mut [u8],
 ) {
     match reader::read_file(file, marks, firsts, worsts, curves, params) {
-        Read::File {
-            form,
-            tolerance: t,
-            marks: n,
-            curves: k,
-        } => {
-            print_counts(n, k);
-            let m = std::num::wrapping_add_usize(n, n);
+        Ok(found) => {
+            print_counts(found.marks, found.curves);
+            let m = found.marks.wrapping_add(found.marks);
             write_again(
                 what,
-                form,
-                t,
-                k,
+                found,
                 file,
-                front_words(marks, m),
+                front(marks, m),
                 firsts,
                 worsts,
                 curves,
@@ -370,31 +295,25 @@ fn read_and_write(
                 out,
             );
         }
-        Read::Refused(q) => print_refusal(q),
+        Err(q) => print_refusal(q),
     }
 }
 
 // The file's listing.
 fn list(file: &[u8], out: &mut [u8]) {
     match outline::list_outline(file, out) {
-        Listed::Bytes(n) => {
-            io::write_all(STDOUT, front_bytes(out, n));
+        Ok(n) => {
+            io::write_all(STDOUT, front(out, n));
         }
-        Listed::Refused(q) => print_refusal(q),
+        Err(q) => print_refusal(q),
     }
-}
-
-fn wide(x: u8) -> u64 {
-    x as u64
 }
 
 // A digest of all bytes.
 fn digest(xs: &[u8]) -> u64 {
     let mut h: u64 = 0;
-    let mut i: usize = 0;
-    while i < xs.len() {
-        h = cases::mix(h, wide(xs[i]));
-        i += 1;
+    for x in xs {
+        h = cases::mix(h, u64::from(*x));
     }
     h
 }
@@ -405,19 +324,17 @@ fn print_digest(xs: &[u8]) {
 }
 
 // The answer of either way, without the end of its line.
-fn print_packing(made: Listed) {
+fn print_packing(made: Result<usize, Refusal>) {
     match made {
-        Listed::Bytes(n) => {
+        Ok(n) => {
             cases::print_count(0);
-            print_next(n as u64);
+            cases::print_next_count(n as u64);
         }
-        Listed::Refused(q) => {
-            cases::print_count(q as u64);
-        }
+        Err(q) => cases::print_count(u64::from(q.number())),
     }
 }
 
-fn packed_or_unpacked(what: u64, file: &[u8], out: &mut [u8]) -> Listed {
+fn packed_or_unpacked(what: u64, file: &[u8], out: &mut [u8]) -> Result<usize, Refusal> {
     if what == PACK {
         return pack_file(file, out);
     }
@@ -433,16 +350,14 @@ fn pack(what: u64, file: &[u8], out: &mut [u8]) {
 }
 
 // What cleaning answered, without the end of its line.
-fn print_cleaning(made: Salvaged) {
+fn print_cleaning(made: Result<Sizes, Refusal>) {
     match made {
-        Salvaged::Bytes { file, report } => {
+        Ok(Sizes { file, report }) => {
             cases::print_count(0);
-            print_next(file as u64);
-            print_next(report as u64);
+            cases::print_next_count(file as u64);
+            cases::print_next_count(report as u64);
         }
-        Salvaged::Refused(q) => {
-            cases::print_count(q as u64);
-        }
+        Err(q) => cases::print_count(u64::from(q.number())),
     }
 }
 
@@ -463,17 +378,17 @@ fn length_at(head: &[u8; 104], at: usize) -> usize {
 // The runs of a head. Where a sum wraps around, a run's end is before its beginning, and nothing is done with it.
 fn runs_of(head: &[u8; 104]) -> Runs {
     let end = length_at(head, 8);
-    let second = std::num::wrapping_add_usize(end, length_at(head, 16));
-    let second_end = std::num::wrapping_add_usize(second, length_at(head, 24));
-    let third = std::num::wrapping_add_usize(second_end, length_at(head, 32));
-    let third_end = std::num::wrapping_add_usize(third, length_at(head, 40));
+    let second = end.wrapping_add(length_at(head, 16));
+    let second_end = second.wrapping_add(length_at(head, 24));
+    let third = second_end.wrapping_add(length_at(head, 32));
+    let third_end = third.wrapping_add(length_at(head, 40));
     Runs {
         end,
         second,
         second_end,
         third,
         third_end,
-        length: std::num::wrapping_add_usize(third_end, length_at(head, 48)),
+        length: third_end.wrapping_add(length_at(head, 48)),
     }
 }
 
@@ -491,12 +406,12 @@ fn fits(head: &[u8; 104]) -> bool {
 
 fn list_record(head: &[u8; 104], file: &[u8]) {
     let mut out = [0u8; WRITTEN];
-    list(file, lent_bytes(&mut out, length_at(head, 96)));
+    list(file, lent(&mut out, length_at(head, 96)));
 }
 
 fn pack_record(what: u64, head: &[u8; 104], file: &[u8]) {
     let mut out = [7u8; WRITTEN];
-    pack(what, file, lent_bytes(&mut out, length_at(head, 96)));
+    pack(what, file, lent(&mut out, length_at(head, 96)));
 }
 
 fn clean_record(head: &[u8; 104], file: &[u8]) {
@@ -504,8 +419,8 @@ fn clean_record(head: &[u8; 104], file: &[u8]) {
     let mut list = [7u8; NUMBERS];
     clean(
         file,
-        lent_bytes(&mut out, length_at(head, 96)),
-        lent_bytes(&mut list, length_at(head, 56)),
+        lent(&mut out, length_at(head, 96)),
+        lent(&mut list, length_at(head, 56)),
     );
 }
 
@@ -519,12 +434,12 @@ fn write_record(what: u64, head: &[u8; 104], file: &[u8]) {
     read_and_write(
         what,
         file,
-        lent_words(&mut marks, length_at(head, 56)),
-        lent_firsts(&mut firsts, length_at(head, 64)),
-        lent_firsts(&mut worsts, length_at(head, 72)),
-        lent_words(&mut curves, length_at(head, 80)),
-        lent_words(&mut params, length_at(head, 88)),
-        lent_bytes(&mut out, length_at(head, 96)),
+        lent(&mut marks, length_at(head, 56)),
+        lent(&mut firsts, length_at(head, 64)),
+        lent(&mut worsts, length_at(head, 72)),
+        lent(&mut curves, length_at(head, 80)),
+        lent(&mut params, length_at(head, 88)),
+        lent(&mut out, length_at(head, 96)),
     );
 }
 
@@ -557,12 +472,12 @@ fn tally_record(what: u64, head: &[u8; 104], file: &mut [u8]) {
         what,
         runs_of(head),
         file,
-        lent_words(&mut marks, length_at(head, 56)),
-        lent_firsts(&mut firsts, length_at(head, 64)),
-        lent_firsts(&mut worsts, length_at(head, 72)),
-        lent_words(&mut curves, length_at(head, 80)),
-        lent_words(&mut params, length_at(head, 88)),
-        lent_bytes(&mut out, length_at(head, 96)),
+        lent(&mut marks, length_at(head, 56)),
+        lent(&mut firsts, length_at(head, 64)),
+        lent(&mut worsts, length_at(head, 72)),
+        lent(&mut curves, length_at(head, 80)),
+        lent(&mut params, length_at(head, 88)),
+        lent(&mut out, length_at(head, 96)),
     );
     print_tally(t);
 }
@@ -601,7 +516,7 @@ fn read_runs(runs: Runs, file: &mut [u8]) {
 // The file of a head, read and looked at.
 fn read_record(head: &[u8; 104], room: &mut [u8]) {
     let runs = runs_of(head);
-    let file = lent_bytes(room, runs.length);
+    let file = lent(room, runs.length);
     read_runs(runs, file);
     record(head, file);
 }
@@ -626,11 +541,9 @@ fn step() -> bool {
 }
 
 fn main() {
-    let mut k: usize = 0;
-    while k < 65536 {
+    for _ in 0..65536 {
         if !step() {
             return;
         }
-        k += 1;
     }
 }

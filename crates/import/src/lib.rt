@@ -117,14 +117,9 @@ fn put_eight(out: &mut [f64], c: Curve)
     requires { curve_numbers ≤ length out.old }
     ensures { out.new ≡ written (eights (c ∷ [])) out.old }
 {
-    out[0] = c.start.x;
-    out[1] = c.start.y;
-    out[2] = c.cp1.x;
-    out[3] = c.cp1.y;
-    out[4] = c.cp2.x;
-    out[5] = c.cp2.y;
-    out[6] = c.end.x;
-    out[7] = c.end.y;
+    out[..CURVE_NUMBERS].copy_from_slice(&[
+        c.start.x, c.start.y, c.cp1.x, c.cp1.y, c.cp2.x, c.cp2.y, c.end.x, c.end.y,
+    ]);
 }
 
 // Curve k at its place, if there is room for it.

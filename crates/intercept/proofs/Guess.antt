@@ -1,12 +1,12 @@
 -- The first guess was fine exactly where the section's width and the guess itself are finite. Assumes nothing.
-use mathlib.Core.Path.{◌≡◌, refl, sym, ap}
+use mathlib.Core.Path.{◌≡◌, refl, sym, ◌∙◌}
 use mathlib.Core.Bool.{Bool, true, false, ◌&&◌}
 use lib.Ieee.{Float, binary64, sub}
 use Rattle.float.specs.Number.{finite}
+use Rattle.float.specs.Answer.{ok, refused, outcome}
 use Rattle.float.proofs.Truth.{never, and_left, and_right, and-false, same, is_so}
 use Rattle.float.proofs.Strict.{sub-finite, div-finite}
-use Rattle.float.proofs.Answers.{Fine}
-use Rattle.newton.specs.Tests.{as_step}
+use Rattle.float.proofs.Answers.{Fine, outcome_ok, outcome_no}
 use Rattle.quintic.specs.declared.points.Section.{Section}
 use Rattle.flat.proofs.Baseline.{neg-back, coefficients-fine}
 use Rattle.intercept.specs.Intercept.{guess_of}
@@ -38,6 +38,12 @@ module _ (s : Section) where
       go true false p q h = simp (q, and-false)
       go true true p q h = never (sym h)
 
-  pub guess_is : record { t = G; fine = finite width && finite G } ≡ as_step (guess_of s)
-  unfolding as_step
-  guess_is = ap (λ (b : Bool). record { t = G; fine = b }) (same (finite width && finite G) (guess_of s).fine guess_on (λ k. is_so (guess_of s).fine (finite width && finite G) k guess_off))
+  guess-fine : (guess_of s).fine ≡ finite width && finite G
+  guess-fine = sym (same (finite width && finite G) (guess_of s).fine guess_on (λ k. is_so (guess_of s).fine (finite width && finite G) k guess_off))
+
+  -- by the code's test
+  pub guess_is : finite width && finite G ≡ true → ok G ≡ outcome (guess_of s)
+  guess_is k = sym (outcome_ok (guess_of s) (guess-fine ∙ k))
+
+  pub guess_lost : finite width && finite G ≡ false → refused 6 ≡ outcome (guess_of s)
+  guess_lost k = sym (outcome_no (guess_of s) (guess-fine ∙ k))

@@ -1,13 +1,14 @@
 -- Newton's method for a root of six heights, by the tests that the code makes; and runs one after the other. Assumes nothing.
-use mathlib.Core.Path.{◌≡◌, refl, sym, ap, ◌∙◌, subst}
+use Rattle.std.proofs.Common.{Ok, Err, Some, None}
+use mathlib.Core.Path.{◌≡◌, refl, sym, ap, ◌∙◌}
 use mathlib.Core.Bool.{Bool, true, false, ◌&&◌, ◌||◌, cond}
-use Prim.Native.Nat.{ℕ, suc, ◌-◌, ◌≤◌, ◌<◌}
-use native.Mathlib.Omega.{arith}
+use Prim.Native.Nat.{ℕ, suc}
 use lib.Ieee.{Float, binary64, le, eq, sub, div}
 use Rattle.float.specs.Number.{finite, f0, abs}
 use Rattle.float.specs.Calc.{Calc, give, ◌>>=◌, ◌-!◌, ◌/!◌}
 use Rattle.float.specs.Answer.{Answer, ok, refused, unless, outcome}
 use Rattle.float.specs.Answer.{◌>>=◌ as chain}
+use Rattle.float.specs.declared.refusal.Refusal.TheVariants.{NotFinite}
 use Rattle.float.proofs.Truth.{and-false, or_left, or_right, or_neither}
 use Rattle.float.proofs.Strict.{Fin, sub-finite}
 use Rattle.float.proofs.Answers.{granted, denied, outcome_ok, outcome_no, outcome-then}
@@ -16,9 +17,7 @@ use Rattle.quintic.specs.declared.numbers.Six.{Six}
 use Rattle.quintic.specs.declared.numbers.Five.{Five}
 use Rattle.quintic.proofs.Fine.{number5_same, number6_same}
 use Rattle.intercept.specs.Intercept.{newton_by, epsilon}
-use Rattle.intercept.specs.Tests.{onward}
-use Rattle.intercept.specs.declared.intercept.Round.{Round}
-use Rattle.intercept.specs.declared.intercept.Round.TheVariants as round
+use Rattle.newton.specs.Tests.{onward}
 
 -- ---- a run, and then another: what is left to answer
 module _ {A B : Type 0} (m : Calc A) (f : A → Calc B) where
@@ -92,7 +91,7 @@ module _ (h : Six) (d : Five) (t : Float) where
 
 -- ---- as the code comes to it: x and y are the fraction's sides, a the numerator's magnitude
 module _ (h : Six) (d : Five) (t x y : Float) (of : x ≡ N h d t) (by : y ≡ M h d t) where
-  pub round_lost : finite x && finite y ≡ false → (n : ℕ) → outcome (newton_by h d (suc n) t) ≡ onward h d n t round.Lost
+  pub round_lost : finite x && finite y ≡ false → (n : ℕ) → outcome (newton_by h d (suc n) t) ≡ onward (newton_by h d) n t (Err NotFinite)
   unfolding onward
   round_lost k n = lost h d t n (rw (of, by) at k)
 
@@ -100,7 +99,7 @@ module _ (h : Six) (d : Five) (t x y : Float) (of : x ≡ N h d t) (by : y ≡ M
     good_is : finite (N h d t) && finite (M h d t) ≡ true
     good_is = rw (of, by) at good
 
-    pub round-small : le a epsilon ≡ true → (n : ℕ) → outcome (newton_by h d (suc n) t) ≡ onward h d n t round.Stop
+    pub round-small : le a epsilon ≡ true → (n : ℕ) → outcome (newton_by h d (suc n) t) ≡ onward (newton_by h d) n t (Ok None)
     unfolding onward
     round-small k n = stopped h d t n good_is (or_left _ _ (rw (size ∙ ap abs of) at k))
 
@@ -108,7 +107,7 @@ module _ (h : Six) (d : Five) (t x y : Float) (of : x ≡ N h d t) (by : y ≡ M
       large_is : le (abs (N h d t)) epsilon ≡ false
       large_is = rw (size ∙ ap abs of) at large
 
-      pub round-flat : eq y f0 ≡ true → (n : ℕ) → outcome (newton_by h d (suc n) t) ≡ onward h d n t round.Stop
+      pub round-flat : eq y f0 ≡ true → (n : ℕ) → outcome (newton_by h d (suc n) t) ≡ onward (newton_by h d) n t (Ok None)
       unfolding onward
       round-flat k n = stopped h d t n good_is (or_right _ _ large_is (rw by at k))
 
@@ -119,38 +118,10 @@ module _ (h : Six) (d : Five) (t x y : Float) (of : x ≡ N h d t) (by : y ≡ M
         abbrev u : Float
         u = sub binary64 t (div binary64 x y)
 
-        pub round_next : Fin u → (n : ℕ) → outcome (newton_by h d (suc n) t) ≡ onward h d n t (round.Next u)
+        pub round_next : Fin u → (n : ℕ) → outcome (newton_by h d (suc n) t) ≡ onward (newton_by h d) n t (Ok (Some u))
         unfolding onward
         round_next k n = rw (of, by) (moved h d t n good_is goes_down (rw (of, by) at k))
 
-        pub round_flown : finite u ≡ false → (n : ℕ) → outcome (newton_by h d (suc n) t) ≡ onward h d n t round.Lost
+        pub round_flown : finite u ≡ false → (n : ℕ) → outcome (newton_by h d (suc n) t) ≡ onward (newton_by h d) n t (Err NotFinite)
         unfolding onward
         round_flown k n = flown h d t n good_is goes_down (rw (of, by) at k)
-
--- ---- the loop: what is left to answer, with n rounds to go from t, after a round that came to r
-module _ (h : Six) (d : Five) (n : ℕ) (t : Float) (r : Round) (whole : Answer Float)
-    (left : whole ≡ outcome (newton_by h d n t)) (more : 0 < n) (turn : (k : ℕ) → outcome (newton_by h d (suc k) t) ≡ onward h d k t r) where
-  turned : whole ≡ onward h d (n - 1) t r
-  turned = left ∙ subst (λ (k : ℕ). outcome (newton_by h d k t) ≡ onward h d (n - 1) t r) (back n more) (turn (n - 1))
-    where
-      back : (n : ℕ) → 0 < n → suc (n - 1) ≡ n
-      back n k = omega arith
-
-  pub goes_next : (v : Float) → r ≡ round.Next v → whole ≡ outcome (newton_by h d (n - 1) v)
-  unfolding onward
-  goes_next v e = turned ∙ ap (onward h d (n - 1) t) e
-
-  pub goes_stop : r ≡ round.Stop → ok t ≡ whole
-  unfolding onward
-  goes_stop e = sym (turned ∙ ap (onward h d (n - 1) t) e)
-
-  pub goes_lost : r ≡ round.Lost → refused 6 ≡ whole
-  unfolding onward
-  goes_lost e = sym (turned ∙ ap (onward h d (n - 1) t) e)
-
-pub at_end : (h : Six) (d : Five) (n : ℕ) (t : Float) (whole : Answer Float) → whole ≡ outcome (newton_by h d n t) → n ≤ 0 → ok t ≡ whole
-unfolding newton_by outcome
-at_end h d n t whole left k = sym (left ∙ ap (λ (k : ℕ). outcome (newton_by h d k t)) (none n k))
-  where
-    none : (n : ℕ) → n ≤ 0 → n ≡ 0
-    none n k = omega arith

@@ -1,15 +1,12 @@
 -- The root of a section, step by step as the code comes to it. Assumes nothing.
-use mathlib.Core.Path.{◌≡◌, sym, ap, ◌∙◌}
+use mathlib.Core.Path.{◌≡◌, sym, ◌∙◌}
 use mathlib.Core.Bool.{true, false}
 use Prim.Native.Nat.{ℕ}
 use lib.Ieee.{Float}
 use Rattle.float.specs.Calc.{Calc, give, ◌>>=◌}
 use Rattle.float.specs.Answer.{ok, refused, outcome}
-use Rattle.float.proofs.Answers.{outcome_ok, outcome_no}
 use Rattle.plane.specs.declared.Point.{Point}
 use Rattle.plane.specs.Range.{point_finite}
-use Rattle.newton.specs.Tests.{as_step}
-use Rattle.newton.specs.declared.Step.{Step}
 use Rattle.quintic.specs.Points.{casteljau6}
 use Rattle.quintic.specs.Numbers.{derivative6_of}
 use Rattle.quintic.specs.Tests.{five_finite}
@@ -33,19 +30,15 @@ module _ (h : Six) (t : Float) (d : Five) (is : d ≡ (derivative6_of h).val) wh
   unfolding newton
   newton_off k = ends (derivative6_of h) rounds 6 (gone (derivative6_of h) five_finite (derivative_same h) d is k)
 
--- ---- the intercept, from the guess g
-module _ (s : Section) (g : Step) (is : g ≡ as_step (guess_of s)) where
-  guess-fine : g.fine ≡ (guess_of s).fine
-  unfolding as_step
-  guess-fine = ap (λ (x : Step). x.fine) is
-
-  pub intercept_on : g.fine ≡ true → outcome (newton (heights_of s) g.t) ≡ outcome (intercept_of s)
-  unfolding intercept_of as_step
-  intercept_on k = sym (goes_on (guess_of s) (newton (heights_of s)) g.t (ap (λ (x : Step). ok x.t) is ∙ sym (outcome_ok (guess_of s) (sym guess-fine ∙ k))))
-
-  pub intercept_off : g.fine ≡ false → refused 6 ≡ outcome (intercept_of s)
+-- ---- the intercept, from the guess t
+module _ (s : Section) where
+  pub intercept_on : (t : Float) → ok t ≡ outcome (guess_of s) → outcome (newton (heights_of s) t) ≡ outcome (intercept_of s)
   unfolding intercept_of
-  intercept_off k = ends (guess_of s) (newton (heights_of s)) 6 (sym (outcome_no (guess_of s) (sym guess-fine ∙ k)))
+  intercept_on t k = sym (goes_on (guess_of s) (newton (heights_of s)) t k)
+
+  pub intercept_off : (q : ℕ) → refused q ≡ outcome (guess_of s) → refused q ≡ outcome (intercept_of s)
+  unfolding intercept_of
+  intercept_off q k = ends (guess_of s) (newton (heights_of s)) q k
 
 -- ---- the root, with the section's point p at the intercept t
 module _ (s : Section) where

@@ -1,2 +1,1 @@
 pub mod Intercept
-pub mod Tests

@@ -1,13 +1,13 @@
 // The root of a section that is flat enough: where its baseline meets the x-axis, and Newton's method from there.
 ghost use Rattle.std.specs.Prelude.{◌≡◌, ℕ, suc};
 ghost use Rattle.float.specs.Answer.{outcome};
-ghost use Rattle.newton.specs.Tests.{as_step};
+ghost use Rattle.float.specs.Refusal.{answer};
+ghost use Rattle.newton.specs.Tests.{onward};
 ghost use Rattle.quintic.specs.Tests.{five_finite};
 ghost use Rattle.intercept.specs.Intercept.{heights_of, guess_of, newton_by, newton, intercept_of, root_of};
-ghost use Rattle.intercept.specs.Tests.{onward, root_answer};
 
 use flat::line::coefficients;
-use newton::Step;
+use float::refusal::Refusal;
 use quintic::numbers::{Five, Six};
 use quintic::points::Section;
 
@@ -16,21 +16,6 @@ const EPSILON: f64 = 0.0000000001;
 
 // The most rounds of Newton's method.
 const MAX_ITERATIONS: usize = 30;
-
-// A root, or that an operation gave NaN or infinity.
-#[derive(Clone, Copy)]
-pub enum Root {
-    At(f64),
-    Lost,
-}
-
-// What one round comes to: the next estimate, the end of the search, or an operation that gave NaN or infinity.
-#[derive(Clone, Copy)]
-enum Round {
-    Next(f64),
-    Stop,
-    Lost,
-}
 
 // The heights of a section's points.
 fn heights_of(s: Section) -> Six
@@ -53,89 +38,72 @@ fn five_finite(h: Five) -> bool
     float::three_finite(h.y1, h.y2, h.y3) & float::two_finite(h.y4, h.y5)
 }
 
-// One round of Newton's method for a root of the heights h with the derivative d, at the estimate t.
-fn newton_round(h: Six, d: Five, t: f64) -> Round
-    ensures { (n : ℕ) → outcome (newton_by h d (suc n) t) ≡ onward h d n t result }
+// One round of Newton's method for a root of the heights h with the derivative d, at the estimate t: the next estimate, or none where the search ends.
+fn newton_round(h: Six, d: Five, t: f64) -> Result<Option<f64>, Refusal>
+    ensures { (n : ℕ) → outcome (newton_by h d (suc n) t) ≡ onward (newton_by h d) n t result }
 {
     let numerator = quintic::numbers::de_casteljau6(t, h);
     let denominator = quintic::numbers::de_casteljau5(t, d);
-    if float::two_finite(numerator, denominator) {
-        if float::abs(numerator) <= EPSILON {
-            return Round::Stop;
-        }
-        if denominator == 0.0 {
-            return Round::Stop;
-        }
-        let u = t - numerator / denominator;
-        if float::finite(u) {
-            return Round::Next(u);
-        }
+    if !float::two_finite(numerator, denominator) {
+        return Err(Refusal::NotFinite);
     }
-    Round::Lost
-}
-
-// At most 30 rounds from the estimate t.
-fn newton_rounds(h: Six, d: Five, t: f64) -> Root
-    ensures { root_answer result ≡ outcome (newton_by h d 30 t) }
-{
-    let mut left = MAX_ITERATIONS;
-    let mut u = t;
-    while left > 0 {
-        match newton_round(h, d, u) {
-            Round::Next(v) => u = v,
-            Round::Stop => return Root::At(u),
-            Round::Lost => return Root::Lost,
-        }
-        left -= 1;
+    if float::abs(numerator) <= EPSILON {
+        return Ok(None);
     }
-    Root::At(u)
+    if denominator == 0.0 {
+        return Ok(None);
+    }
+    let u = t - numerator / denominator;
+    if !float::finite(u) {
+        return Err(Refusal::NotFinite);
+    }
+    Ok(Some(u))
 }
 
 // find_roots.rs's Newton's method for a root of six heights.
-pub fn find_x_intercept_newton_raphson(points: Six, estimated_t: f64) -> Root
-    ensures { root_answer result ≡ outcome (newton points estimated_t) }
+pub fn find_x_intercept_newton_raphson(points: Six, estimated_t: f64) -> Result<f64, Refusal>
+    ensures { answer result ≡ outcome (newton points estimated_t) }
 {
     let derivative = quintic::numbers::derivative6(points);
-    if five_finite(derivative) {
-        return newton_rounds(points, derivative, estimated_t);
+    if !five_finite(derivative) {
+        return Err(Refusal::NotFinite);
     }
-    Root::Lost
+    newton::search(
+        MAX_ITERATIONS,
+        estimated_t,
+        |t| newton_round(points, derivative, t),
+    )
 }
 
 // Where the baseline meets the x-axis, relative to the section.
-fn first_guess(s: Section) -> Step
-    ensures { result ≡ as_step (guess_of s) }
+fn first_guess(s: Section) -> Result<f64, Refusal>
+    ensures { answer result ≡ outcome (guess_of s) }
 {
     let l = coefficients(s.w1, s.w6);
     let width = s.w6.x - s.w1.x;
     let t = (-l.c / l.a - s.w1.x) / width;
-    Step {
-        t,
-        fine: float::two_finite(width, t),
+    if !float::two_finite(width, t) {
+        return Err(Refusal::NotFinite);
     }
+    Ok(t)
 }
 
 // The parameter where a section meets the x-axis, relative to the section.
-fn find_x_intercept(s: Section) -> Root
-    ensures { root_answer result ≡ outcome (intercept_of s) }
+fn find_x_intercept(s: Section) -> Result<f64, Refusal>
+    ensures { answer result ≡ outcome (intercept_of s) }
 {
-    let guess = first_guess(s);
-    if guess.fine {
-        return find_x_intercept_newton_raphson(heights_of(s), guess.t);
-    }
-    Root::Lost
+    let guess = first_guess(s)?;
+    find_x_intercept_newton_raphson(heights_of(s), guess)
 }
 
 // The root of a section: the x of its point there.
-pub fn root_of(s: Section) -> Root
-    ensures { root_answer result ≡ outcome (root_of s) }
+pub fn root_of(s: Section) -> Result<f64, Refusal>
+    ensures { answer result ≡ outcome (root_of s) }
 {
-    let Root::At(intercept) = find_x_intercept(s) else {
-        return Root::Lost;
-    };
+    let intercept = find_x_intercept(s)?;
     let p = quintic::points::de_casteljau6(intercept, s);
-    if float::two_finite(p.x, p.y) {
-        return Root::At(p.x);
+    if !float::two_finite(p.x, p.y) {
+        return Err(Refusal::NotFinite);
     }
-    Root::Lost
+    Ok(p.x)
 }

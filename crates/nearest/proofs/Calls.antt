@@ -1,4 +1,5 @@
 -- The search, then the choice; and the call, step by step as the code comes to it. Assumes nothing.
+use Rattle.std.proofs.Common.{Ok, Err}
 use mathlib.Core.Path.{◌≡◌, sym, ap, ◌∙◌}
 use mathlib.Core.Bool.{true, false, ◌&&◌}
 use mathlib.Core.List.{List}
@@ -7,6 +8,8 @@ use lib.Ieee.{Float}
 use lib.ListN.{take}
 use Rattle.float.specs.Answer.{Answer, ok, refused, outcome}
 use Rattle.float.specs.Answer.{◌>>=◌ as chain}
+use Rattle.float.specs.Refusal.{number}
+use Rattle.float.specs.declared.refusal.Refusal.{Refusal}
 use Rattle.float.proofs.Answers.{granted, outcome_ok, outcome_no}
 use Rattle.plane.specs.Range.{point_in_range, curve_in_range}
 use Rattle.plane.specs.declared.Point.{Point}
@@ -17,29 +20,28 @@ use Rattle.quintic.specs.declared.points.Section.{Section}
 use Rattle.quintic.proofs.Fine.{form_same}
 use Rattle.roots.specs.Find.{find_roots}
 use Rattle.roots.specs.Tests.{roots_answer}
-use Rattle.roots.specs.declared.find.Roots.{Roots}
-use Rattle.roots.specs.declared.find.Roots.TheVariants as found
 use Rattle.intercept.proofs.Rounds.{came, gone}
 use Rattle.nearest.specs.Choose.{Nearest, choose_of}
 use Rattle.nearest.specs.Nearest.{nearest_by, nearest_of, nearest_call}
-use Rattle.nearest.specs.Tests.{refusal_of, as_best, run_of}
+use Rattle.nearest.specs.Tests.{as_best, run_of}
 use Rattle.nearest.specs.declared.choose.Best.{Best}
 
 module _ (c : Curve) (p : Point) (form : Section) where
   abbrev choice : Answer (List Float) → Answer Nearest
   choice a = chain a (λ roots. outcome (choose_of c p roots))
 
-  -- the search came to r, with the numbers l lent to it
-  module _ (r : Roots) (l : List Float) (came_to : roots_answer r l ≡ find_roots form) where
-    pub none_found : (n : ℕ) → r ≡ found.Refused n → (q : ℕ) → q ≡ refusal_of r → refused q ≡ nearest_by c p form
-    unfolding nearest_by roots_answer
-    none_found n e q is = ap refused (is ∙ ap refusal_of e) ∙ ap choice (sym (ap (λ (r : Roots). roots_answer r l) e) ∙ came_to)
+  -- the search was refused
+  pub none_found : (l : List Float) (q : Refusal) → roots_answer (Err q) l ≡ find_roots form → refused (number q) ≡ nearest_by c p form
+  unfolding nearest_by roots_answer
+  none_found l q came_to = ap choice came_to
 
-    module _ (n : ℕ) (e : r ≡ found.Found n) (b : Best) (is : b ≡ as_best (choose_of c p (take n l))) where
-      roots_are : ok (take n l) ≡ find_roots form
-      unfolding roots_answer
-      roots_are = sym (ap (λ (r : Roots). roots_answer r l) e) ∙ came_to
+  -- the search came to n roots, in the numbers l lent to it
+  module _ (l : List Float) (n : ℕ) (came_to : roots_answer (Ok n) l ≡ find_roots form) where
+    roots_are : ok (take n l) ≡ find_roots form
+    unfolding roots_answer
+    roots_are = came_to
 
+    module _ (b : Best) (is : b ≡ as_best (choose_of c p (take n l))) where
       best_fine : (choose_of c p (take n l)).fine ≡ b.fine
       unfolding as_best
       best_fine = sym (ap (λ (x : Best). x.fine) is)

@@ -1,6 +1,7 @@
 -- nearest_point_on_curve: refusal 5 for an argument out of range, then 6 or 8, whichever the run meets first. Definitions only.
 use Rattle.std.specs.Prelude.{◌&&◌}
 use Rattle.float.specs.Answer.{Answer, ok, refused, unless, outcome, ◌>>=◌}
+use Rattle.float.specs.Refusal.{number}
 use Rattle.plane.specs.Range.{point_in_range, curve_in_range}
 use Rattle.plane.specs.declared.Point.{Point}
 use Rattle.plane.specs.declared.Curve.{Curve}
@@ -14,7 +15,7 @@ use Rattle.nearest.specs.declared.NearestPoint.TheVariants as nearest
 -- the document's number or values of each case of the answer
 unfoldable pub nearest_answer : NearestPoint → Answer Nearest
 nearest_answer (nearest.Found t d) = ok (record { t = t; distance_sq_is = d })
-nearest_answer (nearest.Refused n) = refused n
+nearest_answer (nearest.Refused q) = refused (number q)
 
 -- the roots of the curve of six points, and then the choice among the candidates
 unfoldable pub nearest_by : Curve → Point → Section → Answer Nearest

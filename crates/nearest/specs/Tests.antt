@@ -1,17 +1,10 @@
 -- What the inner functions return: words of their contracts alone, of which no public promise speaks. Definitions only.
 use Rattle.float.specs.Calc.{Calc, ◌>>=◌}
-use Rattle.std.specs.Prelude.{ℕ, Float}
+use Rattle.std.specs.Prelude.{Float}
 use Rattle.plane.specs.declared.Point.{Point}
 use Rattle.plane.specs.declared.Curve.{Curve}
-use Rattle.roots.specs.declared.find.Roots.{Roots}
-use Rattle.roots.specs.declared.find.Roots.TheVariants as found
 use Rattle.nearest.specs.Choose.{Nearest, better_of}
 use Rattle.nearest.specs.declared.choose.Best.{Best}
-
--- the number by which a search was refused
-abbrev pub refusal_of : Roots → ℕ
-refusal_of (found.Found n) = 0
-refusal_of (found.Refused n) = n
 
 -- a run in the code's struct, and back
 unfoldable pub as_best : Calc Nearest → Best

@@ -5,7 +5,8 @@ ghost use Rattle.nearest.specs.Tests.{as_best, try_of};
 
 use plane::{Curve, Point};
 
-// The best candidate so far, its squared distance, and whether each operation on the way gave a finite number.
+// The best candidate so far, its squared distance, and whether each operation on the way gave a finite number. A flag and no `Result`: one
+// would have to lead from this struct to the definition's `Nearest` besides, and the loop has no way out to tell.
 #[derive(Clone, Copy)]
 pub struct Best {
     pub t: f64,
@@ -68,10 +69,8 @@ pub fn choose(c: Curve, p: Point, roots: &[f64]) -> Best
     ensures { result ≡ as_best (choose_of c p roots.now) }
 {
     let mut best = start_at(c, p);
-    let mut i = 0;
-    while i < roots.len() {
-        best = better_root(c, p, best, roots[i]);
-        i += 1;
+    for t in roots {
+        best = better_root(c, p, best, *t);
     }
     better(c, p, best, 1.0)
 }

@@ -7,20 +7,19 @@ mod choose;
 ghost use Rattle.std.specs.Prelude.{◌≡◌};
 ghost use Rattle.quintic.specs.Tests.{heights_finite};
 ghost use Rattle.nearest.specs.Nearest.{nearest_answer, nearest_by, nearest_call};
-ghost use Rattle.nearest.specs.Tests.{refusal_of};
 
 use crate::choose::choose;
-use float::refusal::{NOT_FINITE, OUT_OF_RANGE};
+use float::refusal::Refusal;
 use plane::{Curve, Point};
 use quintic::heights::distance_in_bezier_form;
 use quintic::points::Section;
-use roots::find::{Roots, find_bezier_roots};
+use roots::find::find_bezier_roots;
 
-// The parameter of the nearest point and its squared distance, or the refusal's number.
+// The parameter of the nearest point and its squared distance, or the refusal. An enum of its own, as the found case has two numbers.
 #[derive(Clone, Copy)]
 pub enum NearestPoint {
     Found(f64, f64),
-    Refused(u32),
+    Refused(Refusal),
 }
 
 // Whether a section's heights are finite.
@@ -30,42 +29,33 @@ fn heights_finite(s: Section) -> bool
     float::three_finite(s.w1.y, s.w2.y, s.w3.y) & float::three_finite(s.w4.y, s.w5.y, s.w6.y)
 }
 
-// The number by which a search was refused, and 0 where it was not.
-fn refusal_of(found: Roots) -> u32
-    ensures { result ≡ refusal_of found }
-{
-    match found {
-        Roots::Found(_) => 0,
-        Roots::Refused(n) => n,
-    }
-}
-
 // The nearest point, from the curve of six points whose roots are the candidates.
 fn nearest_by(curve: Curve, point: Point, form: Section) -> NearestPoint
     ensures { nearest_answer result ≡ nearest_by curve point form }
 {
     let mut roots = [0.0; 2048];
-    let found = find_bezier_roots(form, &mut roots);
-    let Roots::Found(n) = found else {
-        return NearestPoint::Refused(refusal_of(found));
-    };
-    let best = choose(curve, point, &roots[..n]);
-    if best.fine {
-        return NearestPoint::Found(best.t, best.distance_sq);
+    match find_bezier_roots(form, &mut roots) {
+        Ok(n) => {
+            let best = choose(curve, point, &roots[..n]);
+            if best.fine {
+                return NearestPoint::Found(best.t, best.distance_sq);
+            }
+            NearestPoint::Refused(Refusal::NotFinite)
+        }
+        Err(q) => NearestPoint::Refused(q),
     }
-    NearestPoint::Refused(NOT_FINITE)
 }
 
 // nearest_point.rs's `nearest_point_on_curve`: the parameter of the curve's point nearest to `point`, by the roots of a curve of degree five.
 pub fn nearest_point_on_curve(curve: Curve, point: Point) -> NearestPoint
     ensures { nearest_answer result ≡ nearest_call curve point }
 {
-    if plane::curve_in_range(curve) & plane::point_in_range(point) {
-        let form = distance_in_bezier_form(curve, point);
-        if heights_finite(form) {
-            return nearest_by(curve, point, form);
-        }
-        return NearestPoint::Refused(NOT_FINITE);
+    if !(plane::curve_in_range(curve) & plane::point_in_range(point)) {
+        return NearestPoint::Refused(Refusal::OutOfRange);
     }
-    NearestPoint::Refused(OUT_OF_RANGE)
+    let form = distance_in_bezier_form(curve, point);
+    if !heights_finite(form) {
+        return NearestPoint::Refused(Refusal::NotFinite);
+    }
+    nearest_by(curve, point, form)
 }

@@ -1,3 +1,4 @@
 pub mod Fine
 pub mod Steps
 pub mod Rounds
+pub mod Turns

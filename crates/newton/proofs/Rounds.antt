@@ -1,15 +1,13 @@
 -- One round of refinement, by the tests that the code makes. Assumes nothing.
-use Rattle.std.proofs.Common.{Result, Ok, Err, Option, Some, None}
-use mathlib.Core.Path.{◌≡◌, refl, sym, ap, ◌∙◌, subst}
+use Rattle.std.proofs.Common.{Ok, Err, Some, None}
+use mathlib.Core.Path.{◌≡◌, refl, sym, ap, ◌∙◌}
 use mathlib.Core.Bool.{Bool, true, false, ◌&&◌, ◌||◌, cond}
-use Prim.Native.Nat.{ℕ, suc, ◌+◌, ◌-◌, ◌≤◌, ◌<◌}
-use native.Mathlib.Omega.{arith}
+use Prim.Native.Nat.{ℕ, suc}
 use lib.Ieee.{Float, binary64, lt, eq, sub, div}
 use Rattle.float.specs.Number.{finite, f0, abs}
 use Rattle.float.specs.Calc.{Calc, give, ◌>>=◌, ◌-!◌, ◌/!◌}
 use Rattle.float.specs.Answer.{Answer, ok, refused, unless, outcome}
 use Rattle.float.specs.Answer.{◌>>=◌ as chain}
-use Rattle.float.specs.declared.refusal.Refusal.{Refusal}
 use Rattle.float.specs.declared.refusal.Refusal.TheVariants.{NotFinite}
 use Rattle.float.proofs.Truth.{and_assoc, and-false, or_left, or_right, or_neither}
 use Rattle.float.proofs.Strict.{Fin, sub-finite}
@@ -82,12 +80,12 @@ module _ (c : Curve) (q : Vertices) (p : Point) (t : Float) (qt : Point) (r : Ra
   same_ratio : r ≡ R c q p t
   same_ratio = of ∙ ap (λ (x : Point). (ratio_of x q p t).val) at
 
-  pub round_lost : finite r.numerator && finite r.denominator ≡ false → (n : ℕ) → outcome (refine_by c q p (suc n) t) ≡ onward c q p n t (Err NotFinite)
+  pub round_lost : finite r.numerator && finite r.denominator ≡ false → (n : ℕ) → outcome (refine_by c q p (suc n) t) ≡ onward (refine_by c q p) n t (Err NotFinite)
   unfolding onward
   round_lost h n = lost c q p t n (rw same_ratio at h)
 
   module _ (good : finite r.numerator && finite r.denominator ≡ true) (a : Float) (size : a ≡ abs r.numerator) where
-    pub round-small : lt a epsilon ≡ true → (n : ℕ) → outcome (refine_by c q p (suc n) t) ≡ onward c q p n t (Ok None)
+    pub round-small : lt a epsilon ≡ true → (n : ℕ) → outcome (refine_by c q p (suc n) t) ≡ onward (refine_by c q p) n t (Ok None)
     unfolding onward
     round-small h n = stopped c q p t n (rw same_ratio at good) (or_left _ _ (rw (size ∙ ap (λ (x : Ratio). abs x.numerator) same_ratio) at h))
 
@@ -95,7 +93,7 @@ module _ (c : Curve) (q : Vertices) (p : Point) (t : Float) (qt : Point) (r : Ra
       large_is : lt (abs (R c q p t).numerator) epsilon ≡ false
       large_is = rw (size ∙ ap (λ (x : Ratio). abs x.numerator) same_ratio) at large
 
-      pub round-flat : eq r.denominator f0 ≡ true → (n : ℕ) → outcome (refine_by c q p (suc n) t) ≡ onward c q p n t (Ok None)
+      pub round-flat : eq r.denominator f0 ≡ true → (n : ℕ) → outcome (refine_by c q p (suc n) t) ≡ onward (refine_by c q p) n t (Ok None)
       unfolding onward
       round-flat h n = stopped c q p t n (rw same_ratio at good) (or_right _ _ large_is (rw same_ratio at h))
 
@@ -106,31 +104,13 @@ module _ (c : Curve) (q : Vertices) (p : Point) (t : Float) (qt : Point) (r : Ra
         abbrev u : Float
         u = sub binary64 t (div binary64 r.numerator r.denominator)
 
-        pub round_next : Fin u → (n : ℕ) → outcome (refine_by c q p (suc n) t) ≡ onward c q p n t (Ok (Some u))
+        pub round_next : Fin u → (n : ℕ) → outcome (refine_by c q p (suc n) t) ≡ onward (refine_by c q p) n t (Ok (Some u))
         unfolding onward
         round_next h n = moved c q p t n (rw same_ratio at good) goes_on (rw same_ratio at h) ∙ ap (λ (x : Ratio). outcome (refine_by c q p n (sub binary64 t (div binary64 x.numerator x.denominator)))) (sym same_ratio)
 
-        pub round_flown : finite u ≡ false → (n : ℕ) → outcome (refine_by c q p (suc n) t) ≡ onward c q p n t (Err NotFinite)
+        pub round_flown : finite u ≡ false → (n : ℕ) → outcome (refine_by c q p (suc n) t) ≡ onward (refine_by c q p) n t (Err NotFinite)
         unfolding onward
         round_flown h n = flown c q p t n (rw same_ratio at good) goes_on (rw same_ratio at h)
-
--- ---- the loop: what is left to answer, with n - i rounds to go from t, after a round that came to r
-pub turned : (c : Curve) (q : Vertices) (p : Point) (n i : ℕ) (t : Float) (whole : Answer Float)
-    → whole ≡ outcome (refine_by c q p (n - i) t) → i < n
-    → (r : Result (Option Float) Refusal) → ((k : ℕ) → outcome (refine_by c q p (suc k) t) ≡ onward c q p k t r)
-    → whole ≡ onward c q p (n - (i + 1)) t r
-turned c q p n i t whole left more r turn =
-    left ∙ subst (λ (k : ℕ). outcome (refine_by c q p k t) ≡ onward c q p (n - (i + 1)) t r) (back n i more) (turn (n - (i + 1)))
-  where
-    back : (n i : ℕ) → i < n → suc (n - (i + 1)) ≡ n - i
-    back n i h = omega arith
-
-pub at_end : (c : Curve) (q : Vertices) (p : Point) (n : ℕ) (t : Float) (whole : Answer Float) → whole ≡ outcome (refine_by c q p n t) → n ≤ 0 → ok t ≡ whole
-unfolding refine_by outcome
-at_end c q p n t whole left h = sym (left ∙ ap (λ (k : ℕ). outcome (refine_by c q p k t)) (none n h))
-  where
-    none : (n : ℕ) → n ≤ 0 → n ≡ 0
-    none n h = omega arith
 
 -- ---- the whole: the vertices q, the rounds, and into 0..1
 module _ (c : Curve) (p : Point) (t : Float) (n : ℕ) where

@@ -1,13 +1,10 @@
 -- What the inner functions test and return: words of their contracts alone, of which no public promise speaks. Definitions only.
-use Rattle.std.specs.Prelude.{Bool, ◌&&◌, ℕ, Float, Result, Ok, Err, Option, Some, None}
-use Rattle.float.specs.Calc.{Calc}
+use Rattle.std.specs.Prelude.{Bool, ◌≡◌, ◌&&◌, ℕ, suc, Float, Result, Ok, Err, Option, Some, None}
+use Rattle.float.specs.Calc.{Calc, give}
 use Rattle.float.specs.Answer.{Answer, ok, refused, outcome}
 use Rattle.float.specs.Refusal.{number}
 use Rattle.float.specs.declared.refusal.Refusal.{Refusal}
 use Rattle.plane.specs.Range.{point_finite}
-use Rattle.plane.specs.declared.Point.{Point}
-use Rattle.plane.specs.declared.Curve.{Curve}
-use Rattle.newton.specs.Newton.{refine_by}
 use Rattle.newton.specs.declared.Vertices.{Vertices}
 use Rattle.newton.specs.declared.Step.{Step}
 
@@ -19,8 +16,12 @@ vertices_finite q = point_finite q.qnn1 && point_finite q.qnn2
 unfoldable pub as_step : Calc Float → Step
 as_step m = record { t = m.val; fine = m.fine }
 
--- what is left to answer after one round from t, with n rounds to go
-unfoldable pub onward : Curve → Vertices → Point → ℕ → Float → Result (Option Float) Refusal → Answer Float
-onward c q p n t (Ok (Some u)) = outcome (refine_by c q p n u)
-onward c q p n t (Ok None) = ok t
-onward c q p n t (Err r) = refused (number r)
+-- what is left to answer of a search after one round from t, with n rounds to go: the next estimate, the search's end, or a refusal
+unfoldable pub onward : (ℕ → Float → Calc Float) → ℕ → Float → Result (Option Float) Refusal → Answer Float
+onward search n t (Ok (Some u)) = outcome (search n u)
+onward search n t (Ok None) = ok t
+onward search n t (Err q) = refused (number q)
+
+-- a search with no round to go is at its end, and otherwise goes on as the round that post tells of
+abbrev pub SearchBy : (Float → Result (Option Float) Refusal → Type 0) → (ℕ → Float → Calc Float) → Type 0
+SearchBy post search = ((t : Float) → search 0 t ≡ give t) × ((t : Float) (r : Result (Option Float) Refusal) → post t r → (n : ℕ) → outcome (search (suc n) t) ≡ onward search n t r)

@@ -2,11 +2,12 @@
 // nearest_point.rs, round by round.
 #![tactic(auto)]
 
-ghost use Rattle.std.specs.Prelude.{◌≡◌, cond, ℕ, suc};
+ghost use Rattle.std.specs.Prelude.{◌≡◌, cond, ℕ, suc, Float};
+ghost use Rattle.float.specs.Calc.{Calc};
 ghost use Rattle.float.specs.Answer.{outcome};
 ghost use Rattle.float.specs.Refusal.{answer};
 ghost use Rattle.newton.specs.Newton.{vertices_of, ratio_of, newton_by, refine_by, refine as refine_of};
-ghost use Rattle.newton.specs.Tests.{vertices_finite, as_step, onward};
+ghost use Rattle.newton.specs.Tests.{vertices_finite, as_step, onward, SearchBy};
 
 use cubic::eval::{de_casteljau2, de_casteljau3, de_casteljau4, point_at_pos};
 use float::refusal::Refusal;
@@ -102,7 +103,7 @@ pub fn newton_raphson_root_find(c: Curve, q: Vertices, p: Point, t: f64) -> Step
 
 // One round of refinement, at the estimate t: the next estimate, or none where the search ends.
 fn round_at(c: Curve, q: Vertices, p: Point, t: f64) -> Result<Option<f64>, Refusal>
-    ensures { (n : ℕ) → outcome (refine_by c q p (suc n) t) ≡ onward c q p n t result }
+    ensures { (n : ℕ) → outcome (refine_by c q p (suc n) t) ≡ onward (refine_by c q p) n t result }
 {
     let r = ratio_at(de_casteljau4(t, c.start, c.cp1, c.cp2, c.end), q, p, t);
     if !float::two_finite(r.numerator, r.denominator) {
@@ -121,13 +122,18 @@ fn round_at(c: Curve, q: Vertices, p: Point, t: f64) -> Result<Option<f64>, Refu
     Ok(Some(u))
 }
 
-// At most `rounds` rounds of refinement from the estimate t.
-fn refine_rounds(c: Curve, q: Vertices, p: Point, rounds: usize, t: f64) -> Result<f64, Refusal>
-    ensures { answer result ≡ outcome (refine_by c q p rounds t) }
+// The end of a search that takes at most `rounds` rounds from the estimate t.
+pub fn search<R: Fn(f64) -> Result<Option<f64>, Refusal>>(
+    rounds: usize,
+    t: f64,
+    round: R,
+) -> Result<f64, Refusal>
+    requires { R.IsAlwaysCallable round }
+    ensures { (s : ℕ → Float → Calc Float) → SearchBy (λ u r. R.post round u r) s → answer result ≡ outcome (s rounds t) }
 {
     let mut u = t;
     for _ in 0..rounds {
-        let Some(v) = round_at(c, q, p, u)? else {
+        let Some(v) = round(u)? else {
             return Ok(u);
         };
         u = v;
@@ -143,6 +149,6 @@ pub fn refine(c: Curve, p: Point, t: f64, rounds: usize) -> Result<f64, Refusal>
     if !vertices_finite(q) {
         return Err(Refusal::NotFinite);
     }
-    let u = refine_rounds(c, q, p, rounds, t)?;
+    let u = search(rounds, t, |t| round_at(c, q, p, t))?;
     Ok(float::min(float::max(u, 0.0), 1.0))
 }

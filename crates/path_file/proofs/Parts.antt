@@ -1,11 +1,9 @@
 -- The fit of a file, and the line of its curves. Assumes nothing.
 use mathlib.Core.Path.{◌≡◌, refl, sym, ap, ◌∙◌}
 use mathlib.Core.Bool.{Bool}
-use mathlib.Core.List.{List, ◌∷◌, [], ◌++◌}
+use mathlib.Core.List.{List, ◌++◌}
 use Prim.Native.Nat.{ℕ, ◌+◌, ◌*◌, ◌≤◌}
 use native.Mathlib.Omega.{arith}
-use types.Run.{OneOf}
-use denote.Enum.Declared.{tag_of}
 use lib.ListN.{length, take, drop}
 use lib.Seq.{sets}
 use lib.Ieee.{Float, binary64, of_bits}
@@ -16,10 +14,7 @@ use Rattle.fit.specs.Fit.{Ending, ending, fit_of}
 use Rattle.text.specs.Put.{Put}
 use Rattle.text.proofs.Stores.{next}
 use Rattle.lines.specs.Lines.{newline}
-use Rattle.lines.specs.Handed.{Handed, handed, listed_answer, over_to}
-use Rattle.lines.specs.declared.Listed.{Listed}
-use Rattle.lines.specs.declared.Listed.TheVariants.{Bytes, Refused}
-use Rattle.lines.specs.contracts.Listed.{the_type}
+use Rattle.lines.specs.Handed.{Handed, handed, over_to}
 use Rattle.lines.proofs.Handed.{over-whole}
 use Rattle.house.specs.Bytes.{num, words}
 use Rattle.house.specs.Held.{file_at}
@@ -29,11 +24,7 @@ use Rattle.export.specs.Export.{export_text, export_of}
 use Rattle.float.proofs.Answers.{not_refused}
 use Rattle.export.proofs.Exported.{exported_short}
 use Rattle.path_file.specs.PathFile.{cutting_for, ring_fit, line_of}
-use Rattle.path_file.specs.Left.{Left, refusal_in}
-
--- the arm of a text that was refused
-pub refused_tag : (r : Listed) {q : ℕ} → r ≡ Refused q → OneOf (1 ∷ []) (tag_of the_type r)
-refused_tag r e = rw e refl
+use Rattle.path_file.specs.Left.{Left}
 
 -- what the fit left, in the definition's words
 pub fit_left_is : (ring : Bool) (b : List ℕ) (n : ℕ) (l M C : List Float) (P W : List ℕ) (Q : List Float) (w : ℕ) (t : Float) (X : Answer ℕ) (C' : List Float) (P' W' : List ℕ) (Q' : List Float)
@@ -115,11 +106,3 @@ module _ (ring : Bool) (C : List Float) (k : ℕ) (O : List ℕ) (c : 4608 ≡ l
   pub line_is : {s : ℕ} {O' : List ℕ} (x : Text s O') → line_of ring C k ≡ ok (x.text ++ newline)
   unfolding line_of
   line_is x = rw x.is
-
-  -- by the answer of the call
-  pub bytes_by : (r : Listed) {s : ℕ} {O' : List ℕ} → r ≡ Bytes s → handed (listed_answer r) O' ≡ export_of Nine C k ring O → Text s O'
-  bytes_by r e h = bytes (rw e at h)
-
-  pub none_by : (r : Listed) {O' : List ℕ} → OneOf (1 ∷ []) (tag_of the_type r) → handed (listed_answer r) O' ≡ export_of Nine C k ring O → None (refusal_in r) O'
-  none_by (Bytes n) o h = absurd (omega arith)
-  none_by (Refused q) o h = none h

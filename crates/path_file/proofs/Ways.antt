@@ -1,5 +1,5 @@
 -- What each way through the call shows. Assumes nothing.
-use mathlib.Core.Path.{◌≡◌, refl}
+use mathlib.Core.Path.{◌≡◌, refl, sym}
 use mathlib.Core.Bool.{Bool}
 use mathlib.Core.List.{List}
 use Prim.Native.Nat.{ℕ, ◌*◌, ◌/◌, ◌<◌, ◌≤◌}
@@ -8,10 +8,9 @@ use borrow.Author.Tests.{le-leb, lt-leb}
 use lib.Dec.{leb}
 use lib.ListN.{length, drop}
 use lib.Ieee.{Float}
-use Rattle.float.specs.Answer.{Answer, ok, unless}
-use Rattle.cut.specs.declared.Fitted.{Fitted}
-use Rattle.cut.specs.declared.Fitted.TheVariants.{Curves, Refused}
-use Rattle.fit.specs.Fit.{Ending, fitted_answer}
+use Rattle.std.proofs.Common.{Some, None}
+use Rattle.float.specs.Answer.{Answer, ok, refused, unless}
+use Rattle.fit.specs.Fit.{Ending}
 use Rattle.lines.specs.Lines.{refusal_line}
 use Rattle.lines.specs.Handed.{shown}
 use Rattle.house.specs.Bytes.{num, words}
@@ -23,11 +22,15 @@ use Rattle.form.specs.declared.Form.TheVariants.{Eight}
 use Rattle.packed.specs.Unpacked.{held_of}
 use Rattle.packed_heads.specs.declared.Joints.{Joints}
 use Rattle.packed_heads.specs.declared.Joints.TheVariants.{Twice, Once}
-use Rattle.packed_heads.specs.declared.Held.TheVariants as held
+use Rattle.packed_heads.specs.declared.Held.{Held}
 use Rattle.packed_heads.specs.Layout.{held_layout_of}
-use Rattle.packed_heads.proofs.Told.{HeldTold, held_untold}
+use Rattle.packed_heads.proofs.Told.{HeldTold, held_told, held_untold}
 use Rattle.path_file.specs.PathFile.{ring_fit, line_of, fit_path, path_line, path_file_of}
 use Rattle.path_file.specs.Left.{Left}
+
+-- what a file that was found tells
+pub found_is : {b : List ℕ} {h : Held} → Some h ≡ held_layout_of b → HeldTold b h.joints h.layout.form h.layout.marks h.layout.curves
+found_is {b} {h} e = held_told b h.joints h.layout.form h.layout.marks h.layout.curves (sym e)
 
 -- ---- refusals before the fit
 
@@ -36,7 +39,7 @@ module _ (ring : Bool) where
   unfolding path_line
   path_long b h = rw (lt-leb (length b) 65536 h)
 
-  pub path_broken : (b : List ℕ) → length b ≤ 65536 → held_layout_of b ≡ held.Broken → path_file_of ring b ≡ refusal_line 9
+  pub path_broken : (b : List ℕ) → length b ≤ 65536 → held_layout_of b ≡ None → path_file_of ring b ≡ refusal_line 9
   unfolding path_line
   path_broken b h e = rw (le-leb (length b) 65536 h, held_untold b e)
 
@@ -64,11 +67,11 @@ module _ (ring : Bool) where
 
   -- ---- what a fit shows
 
-  module _ (E : Ending) {C : List Float} (r : Fitted) (l : Left E (fitted_answer r) C) where
-    pub fit-done : {k : ℕ} → r ≡ Curves k → shown (fit_path ring E) ≡ shown (line_of ring C k)
-    unfolding fit_path fitted_answer
-    fit-done e = rw (← l.answer, e, ← l.curves) refl
+  module _ (E : Ending) {C : List Float} where
+    pub fit-done : {k : ℕ} → Left E (ok k) C → shown (fit_path ring E) ≡ shown (line_of ring C k)
+    unfolding fit_path
+    fit-done l = rw (← l.answer, ← l.curves) refl
 
-    pub fit_refused : {q : ℕ} → r ≡ Refused q → shown (fit_path ring E) ≡ refusal_line q
-    unfolding fit_path fitted_answer
-    fit_refused e = rw (← l.answer, e) refl
+    pub fit_refused : {q : ℕ} → Left E (refused q) C → shown (fit_path ring E) ≡ refusal_line q
+    unfolding fit_path
+    fit_refused l = rw (← l.answer) refl

@@ -3,25 +3,25 @@
 
 ghost use Rattle.std.specs.Prelude.{◌≡◌, ◌+◌, ◌*◌, ◌≤◌, length};
 ghost use Rattle.text.specs.Put.{Put};
-ghost use Rattle.fit.specs.Fit.{ending, fitted_answer, fit_of};
+ghost use Rattle.float.specs.Refusal.{answer};
+ghost use Rattle.fit.specs.Fit.{ending, fit_of};
 ghost use Rattle.house.specs.Limits.{mark_bytes, marks_at};
 ghost use Rattle.house.specs.Held.{file_at};
 ghost use Rattle.form.specs.declared.Form.TheVariants as forms;
 ghost use Rattle.desk.specs.Desk.{zeros, no_marks};
-ghost use Rattle.lines.specs.Handed.{shown, handed, listed_answer, hand_over};
+ghost use Rattle.lines.specs.Handed.{shown, handed, hand_over};
 ghost use Rattle.path_file.specs.PathFile.{cutting_for, ring_fit, line_of, fit_path, path_file_of};
-ghost use Rattle.path_file.specs.Left.{Left, refusal_in};
+ghost use Rattle.path_file.specs.Left.{Left};
 
-use cut::Fitted;
 use export::export_path;
-use file_fit::{copy_numbers, mark_room, refusal_of};
+use file_fit::{copy_numbers, mark_room};
 use float::of_bits;
-use float::refusal::{BADLY_FORMED, TOO_MANY};
+use float::refusal::Refusal;
 use form::Form;
 use house::bytes::eight;
 use house::sizes;
-use lines::{Listed, hand_over, put_refusal};
-use packed_heads::{Held, find_held};
+use lines::{hand_over, put_refusal};
+use packed_heads::find_held;
 use text::put_bytes;
 
 // The most bytes that a file has.
@@ -67,8 +67,8 @@ fn fit_marks(
     firsts: &mut [u32],
     worsts: &mut [u32],
     params: &mut [f64],
-) -> Fitted
-    ensures { ending (fitted_answer result) curves.new firsts.new worsts.new params.new ≡ fit_of (cutting_for ring) marks.now tolerance curves.old firsts.old worsts.old params.old }
+) -> Result<usize, Refusal>
+    ensures { ending (answer result) curves.new firsts.new worsts.new params.new ≡ fit_of (cutting_for ring) marks.now tolerance curves.old firsts.old worsts.old params.old }
 {
     if ring {
         return fit::fit_ring(marks, tolerance, curves, firsts, worsts, params);
@@ -77,9 +77,9 @@ fn fit_marks(
 }
 
 // Fits the outline of a file of n marks; only the curves are asked for.
-fn fit_file(file: &[u8], n: usize, ring: bool, curves: &mut [f64]) -> Fitted
+fn fit_file(file: &[u8], n: usize, ring: bool, curves: &mut [f64]) -> Result<usize, Refusal>
     requires { (marks_at + mark_bytes * n ≤ length file.now) × ((n ≤ 512) × (curves.old ≡ zeros 4608)) }
-    ensures { Left (ring_fit ring (file_at file.now forms.Eight n 0)) (fitted_answer result) curves.new }
+    ensures { Left (ring_fit ring (file_at file.now forms.Eight n 0)) (answer result) curves.new }
 {
     let mut marks = mark_room();
     let mut firsts = first_room();
@@ -99,26 +99,15 @@ fn fit_file(file: &[u8], n: usize, ring: bool, curves: &mut [f64]) -> Fitted
     )
 }
 
-// The number of a refusal, and 0 where there is none.
-fn refusal_in(listed: Listed) -> u32
-    ensures { result ≡ refusal_in listed }
-{
-    match listed {
-        Listed::Bytes(_) => 0,
-        Listed::Refused(q) => q,
-    }
-}
-
 // The path data of k curves and a newline, or the line of export's refusal.
 fn put_line(curves: &[f64], k: usize, ring: bool, text: &mut [u8]) -> usize
     requires { (4608 ≡ length curves.now) × (47138 ≤ length text.old) }
     ensures { (result ≤ 47138) × Put text.old 0 (shown (line_of ring curves.now k)) text.new result }
 {
-    let listed = export_path(Form::Nine, curves, k, ring, text);
-    let Listed::Bytes(size) = listed else {
-        return put_refusal(text, refusal_in(listed));
-    };
-    put_bytes(text, size, b"\n")
+    match export_path(Form::Nine, curves, k, ring, text) {
+        Ok(size) => put_bytes(text, size, b"\n"),
+        Err(q) => put_refusal(text, q.number()),
+    }
 }
 
 // The line for a file of n marks that is well formed.
@@ -127,11 +116,10 @@ fn put_fit(file: &[u8], n: usize, ring: bool, text: &mut [u8]) -> usize
     ensures { (result ≤ 47138) × Put text.old 0 (shown (fit_path ring (ring_fit ring (file_at file.now forms.Eight n 0)))) text.new result }
 {
     let mut curves = curve_room();
-    let fitted = fit_file(file, n, ring, &mut curves);
-    let Fitted::Curves(k) = fitted else {
-        return put_refusal(text, refusal_of(fitted));
-    };
-    put_line(&curves, k, ring, text)
+    match fit_file(file, n, ring, &mut curves) {
+        Ok(k) => put_line(&curves, k, ring, text),
+        Err(q) => put_refusal(text, q.number()),
+    }
 }
 
 // The line for any bytes.
@@ -140,28 +128,22 @@ fn put_path(file: &[u8], ring: bool, text: &mut [u8]) -> usize
     ensures { (result ≤ 47138) × Put text.old 0 (path_file_of ring file.now) text.new result }
 {
     if file.len() > MOST_BYTES {
-        return put_refusal(text, BADLY_FORMED);
+        return put_refusal(text, Refusal::BadlyFormed.number());
     }
-    let held = find_held(file);
-    let Held::Counts {
-        joints: _,
-        form: _,
-        marks: n,
-        curves: _,
-    } = held
-    else {
-        return put_refusal(text, BADLY_FORMED);
+    let Some(held) = find_held(file) else {
+        return put_refusal(text, Refusal::BadlyFormed.number());
     };
+    let n = held.layout.marks;
     if n > MOST_TAKEN {
-        return put_refusal(text, TOO_MANY);
+        return put_refusal(text, Refusal::TooMany.number());
     }
     put_fit(file, n, ring, text)
 }
 
 // Writes the joined fit of a house file, packed or not, or its ring fit, as path data and a newline into the first bytes of `out`; or one line that names a refusal. Where `out` is
 // too short the call itself is refused, and `out` stays as it is.
-pub fn path_file(file: &[u8], ring: bool, out: &mut [u8]) -> Listed
-    ensures { handed (listed_answer result) out.new ≡ hand_over (path_file_of ring file.now) out.old }
+pub fn path_file(file: &[u8], ring: bool, out: &mut [u8]) -> Result<usize, Refusal>
+    ensures { handed (answer result) out.new ≡ hand_over (path_file_of ring file.now) out.old }
 {
     let mut text = text_room();
     let size = put_path(file, ring, &mut text);

@@ -1,5 +1,5 @@
 -- What each way through the reader answers. Assumes nothing.
-use mathlib.Core.Path.{◌≡◌, refl, sym, ◌∙◌}
+use mathlib.Core.Path.{◌≡◌, refl, sym, ap, ◌∙◌}
 use mathlib.Core.Bool.{true, false, ◌&&◌}
 use mathlib.Core.List.{List}
 use Prim.Native.Nat.{ℕ, zero, suc, ◌*◌, ◌/◌, ◌<◌, ◌≤◌}
@@ -25,7 +25,8 @@ use Rattle.grammar.proofs.Laid.{Laid, plain, full}
 use Rattle.grammar.proofs.Rooms.{Places, size_none, size_some, places}
 use Rattle.grammar.proofs.Candidate.{candidate_is, candidate_holds}
 use Rattle.heads.specs.declared.Layout.{Layout}
-use Rattle.heads.specs.declared.Layout.TheVariants as layout
+use Rattle.std.proofs.Common.{Option, Some, None}
+use Rattle.std.proofs.lemmas.Option.{same_Some}
 use Rattle.heads.specs.Layout.{layout_of}
 use Rattle.heads.proofs.Ways.{untold}
 use Rattle.packed.proofs.Pieces.{sized_packed}
@@ -33,12 +34,12 @@ use Rattle.packed.proofs.Laid.{some_joined}
 use Rattle.packed.proofs.Candidate.{Stored, twice, once, plain_both, held_stored}
 use Rattle.packed_heads.specs.declared.Joints.{Joints}
 use Rattle.packed_heads.specs.declared.Joints.TheVariants.{Twice, Once}
-use Rattle.packed_heads.specs.declared.Held.TheVariants as held
+use Rattle.packed_heads.specs.declared.Held.{Held}
 use Rattle.packed_heads.specs.Layout.{packed_layout_of, either_of, held_layout_of, held_at}
-use Rattle.packed_heads.proofs.Told.{HeldTold, HeldLaid, held_told, held_untold}
+use Rattle.packed_heads.proofs.Told.{HeldTold, HeldLaid, held_told, held_untold, stored}
 use Rattle.packed_heads.proofs.Told as told
 
-pub read_broken : (b : List ℕ) {M P W C Q : List ℕ} → held_layout_of b ≡ held.Broken → outcome (refused 9) M P W C Q ≡ read_of b M P W C Q
+pub read_broken : (b : List ℕ) {M P W C Q : List ℕ} → held_layout_of b ≡ None → outcome (refused 9) M P W C Q ≡ read_of b M P W C Q
 unfolding read_of judged
 read_broken b e = rw (held_untold b e)
 
@@ -95,15 +96,18 @@ plain-file : {b : List ℕ} {F : File} → Stored b F → curves_in F ≡ 0 → 
 plain-file {b} {F} (twice h) z = held-file h
 plain-file {b} {F} (once p) z = held-file (record { formed = p.formed; bytes = sym (plain_both F z p.formed) ∙ p.bytes })
 
+twice_once : ◌≡◌ {A = Joints} Twice Once → ⊥
+twice_once e = cc
+
 -- so where the joints stand once, there are curves
-module _ (b : List ℕ) (form : Form) (n k : ℕ) (e : held_layout_of b ≡ held.Counts Once form n k) where
-  untwice : layout_of b ≡ layout.Broken
+module _ (b : List ℕ) (form : Form) (n k : ℕ) (e : held_layout_of b ≡ Some (stored Once form n k)) where
+  untwice : layout_of b ≡ None
   unfolding held_layout_of
   untwice = go (layout_of b) refl e
     where
-      go : (l : Layout) → layout_of b ≡ l → either_of l (packed_layout_of b) ≡ held.Counts Once form n k → layout_of b ≡ layout.Broken
-      go (layout.Counts f m i) x q = let z : ◌≡◌ {A = ℕ} 0 1 = cc in absurd (omega arith)
-      go layout.Broken x q = x
+      go : (l : Option Layout) → layout_of b ≡ l → either_of l (packed_layout_of b) ≡ Some (stored Once form n k) → layout_of b ≡ None
+      go (Some l) x q = absurd (twice_once (ap (λ (h : Held). h.joints) (same_Some _ _ q)))
+      go None x q = x
 
   once_some : 0 < k
   once_some = go k refl
@@ -121,13 +125,13 @@ module _ (b : List ℕ) (form : Form) (n k : ℕ) (M P W C Q : List ℕ) where
   file-fits (plain s z f x) = omega (arith, size_none form n x)
   file-fits (full s d) = omega (arith, size_some form n d.some, d.size)
 
-  pub held-room : (joints : Joints) → held_layout_of b ≡ held.Counts joints form n k → 2 * n ≤ length M → room form n k (length P) (length W) (length C) (length Q) ≡ true → HeldRoom joints form n k b M P W C Q
+  pub held-room : (joints : Joints) → held_layout_of b ≡ Some (stored joints form n k) → 2 * n ≤ length M → room form n k (length P) (length W) (length C) (length Q) ≡ true → HeldRoom joints form n k b M P W C Q
   held-room joints e m r = go (held_told b joints form n k e).laid e
     where
       s : Places form n k (length P) (length W) (length C) (length Q)
       s = places form n k (length P) (length W) (length C) (length Q) r
 
-      go : {j : Joints} → HeldLaid b j form n k → held_layout_of b ≡ held.Counts j form n k → HeldRoom j form n k b M P W C Q
+      go : {j : Joints} → HeldLaid b j form n k → held_layout_of b ≡ Some (stored j form n k) → HeldRoom j form n k b M P W C Q
       go (told.twice l) x = record { bytes = file-fits l; marks = m; firsts = s.firsts; worsts = s.worsts; curves = s.curves; params = s.params }
       go (told.once l) x =
           let some = once_some b form n k x in

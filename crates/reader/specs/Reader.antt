@@ -1,9 +1,7 @@
 -- What the reader answers to a file in either form: 9, 2, 4, or what it holds. Definitions only.
 use Rattle.std.specs.Prelude.{ℕ, ◌&&◌, List, leb, length}
 use Rattle.float.specs.Answer.{Answer, ok, refused, unless, ◌>>=◌}
-use Rattle.form.specs.declared.Form.{Form}
-use Rattle.reader.specs.declared.Read.{Read}
-use Rattle.reader.specs.declared.Read.TheVariants as read
+use Rattle.reader.specs.declared.Found.{Found}
 use Rattle.limits.specs.Limits.{most_marks}
 use Rattle.house.specs.Limits.{too_many, no_room}
 use Rattle.house.specs.File.{File, marks_in, curves_in}
@@ -24,19 +22,8 @@ judged b m p w c q = do
   within F m p w c q
 
 -- what the answer holds of a file
-pub record Found : Type 0 where
-  pub form : Form
-  pub tolerance : ℕ
-  pub marks : ℕ
-  pub curves : ℕ
-
 abbrev pub found_in : File → Found
 found_in F = record { form = F.form; tolerance = F.tolerance; marks = marks_in F; curves = curves_in F }
-
--- the document's number and values for each case of the answer: `ok` is its number 0
-abbrev pub read_answer : Read → Answer Found
-read_answer (read.File form t n k) = ok (record { form = form; tolerance = t; marks = n; curves = k })
-read_answer (read.Refused q) = refused q
 
 -- the answer, and the lent slices as they are left
 pub record Outcome : Type 0 where

@@ -20,10 +20,8 @@ fn copy_marks(b: &[u8], at: usize, p: usize, field: Field, step: usize, k: usize
     requires { (at + step * k ≤ length b.now) × ((p + mark_field field ≤ step) × (k ≤ length out.old)) }
     ensures { out.new ≡ written (in_each (mark_field field) 1 p step k (drop at b.now)) out.old }
 {
-    let mut i = 0;
-    while i < k {
+    for i in 0..k {
         out[i] = mark_number(b, at + step * i + p, field) as u32;
-        i += 1;
     }
 }
 
@@ -32,11 +30,9 @@ fn copy_rows(b: &[u8], at: usize, p: usize, n: usize, step: usize, k: usize, out
     requires { (at + step * k ≤ length b.now) × ((p + number_field * n ≤ step) × (n * k ≤ length out.old)) }
     ensures { out.new ≡ written (in_each number_field n p step k (drop at b.now)) out.old }
 {
-    let mut i = 0;
-    while i < k {
+    for i in 0..k {
         let j = n * i;
         copy_words(b, at + step * i + p, n, &mut out[j..]);
-        i += 1;
     }
 }
 

@@ -4,27 +4,25 @@
 mod bodies;
 
 ghost use Rattle.std.specs.Prelude.{◌≡◌};
-ghost use Rattle.reader.specs.Reader.{outcome, read_answer, read_of};
+ghost use Rattle.float.specs.Refusal.{answer};
+ghost use Rattle.reader.specs.Reader.{outcome, read_of};
 
 use bodies::copy_held;
-use float::refusal::{BADLY_FORMED, NO_ROOM, TOO_MANY};
+use float::refusal::Refusal;
 use form::Form;
 use house::bytes::eight;
 use house::sizes;
 use house::sizes::has_room;
 use limits::MOST_MARKS;
-use packed_heads::{Held, find_held};
+use packed_heads::find_held;
 
-// What a file holds beside the slices: how its curves are stored, its tolerance, and how many marks and curves; or why it is not read.
+// What a file holds beside the slices: how its curves are stored, its tolerance, and how many marks and curves.
 #[derive(Clone, Copy)]
-pub enum Read {
-    File {
-        form: Form,
-        tolerance: u64,
-        marks: usize,
-        curves: usize,
-    },
-    Refused(u32),
+pub struct Found {
+    pub form: Form,
+    pub tolerance: u64,
+    pub marks: usize,
+    pub curves: usize,
 }
 
 // Takes a file apart into the lent slices, which stay as they are where it is refused. No number's value is judged.
@@ -35,24 +33,20 @@ pub fn read_file(
     worsts: &mut [u32],
     curves: &mut [u64],
     params: &mut [u64],
-) -> Read
-    ensures { outcome (read_answer result) marks.new firsts.new worsts.new curves.new params.new ≡ read_of file.now marks.old firsts.old worsts.old curves.old params.old }
+) -> Result<Found, Refusal>
+    ensures { outcome (answer result) marks.new firsts.new worsts.new curves.new params.new ≡ read_of file.now marks.old firsts.old worsts.old curves.old params.old }
 {
-    let found = find_held(file);
-    let Held::Counts {
-        joints,
-        form,
-        marks: n,
-        curves: k,
-    } = found
-    else {
-        return Read::Refused(BADLY_FORMED);
+    let Some(held) = find_held(file) else {
+        return Err(Refusal::BadlyFormed);
     };
+    let form = held.layout.form;
+    let n = held.layout.marks;
+    let k = held.layout.curves;
     if n > MOST_MARKS {
-        return Read::Refused(TOO_MANY);
+        return Err(Refusal::TooMany);
     }
     if marks.len() < sizes::MARK_NUMBERS * n {
-        return Read::Refused(NO_ROOM);
+        return Err(Refusal::NoRoom);
     }
     if has_room(
         form,
@@ -64,14 +58,23 @@ pub fn read_file(
         params.len(),
     ) {
         copy_held(
-            joints, file, form, n, k, marks, firsts, worsts, curves, params,
+            held.joints,
+            file,
+            form,
+            n,
+            k,
+            marks,
+            firsts,
+            worsts,
+            curves,
+            params,
         );
-        return Read::File {
+        return Ok(Found {
             form,
             tolerance: eight(file, sizes::HEAD_BYTES),
             marks: n,
             curves: k,
-        };
+        });
     }
-    Read::Refused(NO_ROOM)
+    Err(Refusal::NoRoom)
 }

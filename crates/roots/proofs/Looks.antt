@@ -6,35 +6,35 @@ use borrow.Author.Tests.{eq-eqb, ne_eqb, lt-ltb, le-ltb}
 use lib.Ieee.{Float}
 use Rattle.float.specs.Answer.{Answer, ok, refused, outcome}
 use Rattle.float.specs.Answer.{◌>>=◌ as chain}
-use Rattle.float.proofs.Answers.{granted, denied, outcome_ok, outcome_no}
+use Rattle.float.proofs.Answers.{granted, denied}
 use Rattle.quintic.specs.Points.{subdivide6_of}
 use Rattle.quintic.specs.Tests.{halves_finite}
 use Rattle.quintic.specs.declared.points.Section.{Section}
 use Rattle.quintic.specs.declared.points.Halves.{Halves}
 use Rattle.quintic.proofs.Fine.{subdivide6_same}
 use Rattle.flat.specs.Flat.{crossings, flat_enough}
-use Rattle.flat.specs.Tests.{as_test}
-use Rattle.flat.specs.declared.flat.Test.{Test}
 use Rattle.intercept.specs.Intercept.{root_of}
 use Rattle.intercept.proofs.Rounds.{came, gone}
-use Rattle.roots.specs.Find.{half, Seen, nothing, root, halved, root_seen, halve, look_of}
+use Rattle.roots.specs.Find.{half, root_seen, halve, look_of}
+use Rattle.roots.specs.declared.find.Look.{Look}
+use Rattle.roots.specs.declared.find.Look.TheVariants.{Nothing, Root, Halved}
 use Rattle.roots.specs.Tests.{one_of}
 
 -- ---- what is seen
-pub seen-root : (s : Section) (a : Answer Float) → a ≡ outcome (root_of s) → chain a (λ t. ok (root t)) ≡ root_seen s
+pub seen-root : (s : Section) (a : Answer Float) → a ≡ outcome (root_of s) → chain a (λ t. ok (Root t)) ≡ root_seen s
 unfolding root_seen
-seen-root s a k = ap (λ a. chain a (λ t. ok (root t))) k
+seen-root s a k = ap (λ a. chain a (λ t. ok (Root t))) k
 
 module _ (s : Section) (depth : ℕ) where
-  abbrev parts : Answer Halves → Answer Seen
-  parts a = chain a (λ h. ok (halved h))
+  abbrev parts : Answer Halves → Answer Look
+  parts a = chain a (λ h. ok (Halved h))
 
   pub deep : 64 ≤ depth → refused 8 ≡ halve s depth
   unfolding halve
   deep k = denied 8 _ (le-ltb _ _ k)
 
   module _ (low : depth < 64) (h : Halves) (is : h ≡ (subdivide6_of half s).val) where
-    pub halved_on : halves_finite h ≡ true → ok (halved h) ≡ halve s depth
+    pub halved_on : halves_finite h ≡ true → ok (Halved h) ≡ halve s depth
     unfolding halve
     halved_on k = ap parts (came (subdivide6_of half s) halves_finite (subdivide6_same half s) h is k) ∙ granted 8 _ (lt-ltb _ _ low)
 
@@ -43,25 +43,20 @@ module _ (s : Section) (depth : ℕ) where
     halved_off k = ap parts (gone (subdivide6_of half s) halves_finite (subdivide6_same half s) h is k) ∙ granted 8 _ (lt-ltb _ _ low)
 
   -- ---- one crossing
-  abbrev either : Answer Bool → Answer Seen
+  abbrev either : Answer Bool → Answer Look
   either a = chain a (λ flat. cond flat (root_seen s) (halve s depth))
 
-  module _ (t : Test) (is : t ≡ as_test (flat_enough s)) where
-    test_fine : t.fine ≡ (flat_enough s).fine
-    unfolding as_test
-    test_fine = ap (λ (x : Test). x.fine) is
+  pub one_off : (q : ℕ) → refused q ≡ outcome (flat_enough s) → refused q ≡ one_of s depth
+  unfolding one_of
+  one_off q k = ap either k
 
-    pub one_off : t.fine ≡ false → refused 6 ≡ one_of s depth
-    unfolding one_of
-    one_off k = ap either (sym (outcome_no (flat_enough s) (sym test_fine ∙ k)))
-
-    pub one_on : t.fine ≡ true → cond t.holds (root_seen s) (halve s depth) ≡ one_of s depth
-    unfolding one_of as_test
-    one_on k = ap either (ap (λ (x : Test). ok x.holds) is ∙ sym (outcome_ok (flat_enough s) (sym test_fine ∙ k)))
+  pub one_on : (flat : Bool) → ok flat ≡ outcome (flat_enough s) → cond flat (root_seen s) (halve s depth) ≡ one_of s depth
+  unfolding one_of
+  one_on flat k = ap either k
 
   -- ---- by the number of crossings
   module _ (n : ℕ) (is : n ≡ crossings s) where
-    pub look_none : n ≡ 0 → ok nothing ≡ look_of s depth
+    pub look_none : n ≡ 0 → ok Nothing ≡ look_of s depth
     unfolding look_of
     look_none k = simp (eq-eqb _ _ (sym is ∙ k))
 

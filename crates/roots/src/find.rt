@@ -1,11 +1,13 @@
 // The search itself: a stack of sections, halved left first.
 ghost use Rattle.std.specs.Prelude.{◌≡◌, ◌≤◌, length};
+ghost use Rattle.std.specs.Result.{IfOk};
+ghost use Rattle.float.specs.Refusal.{answer};
 ghost use Rattle.roots.specs.Find.{root_seen, halve as halve_of, look_of, find_roots};
-ghost use Rattle.roots.specs.Tests.{seen_answer, one_of, roots_answer, count_of};
+ghost use Rattle.roots.specs.Tests.{one_of, roots_answer};
 
 use flat::flat::{count_x_axis_crossings, flat_enough};
-use float::refusal::{NOT_FINITE, TOO_DEEP};
-use intercept::intercept::{Root, root_of};
+use float::refusal::Refusal;
+use intercept::intercept::root_of;
 use quintic::points::{Halves, Section};
 
 // A section at this depth is not halved.
@@ -21,67 +23,54 @@ pub struct Waiting {
     pub depth: usize,
 }
 
-// What a look at a section comes to: no root, a root, its halves, or the refusal's number.
+// What a look at a section comes to: no root, a root, or its halves.
 #[derive(Clone, Copy)]
-enum Look {
+pub enum Look {
     Nothing,
     Root(f64),
     Halved(Halves),
-    Refused(u32),
-}
-
-// How many roots were found, or the refusal's number.
-#[derive(Clone, Copy)]
-pub enum Roots {
-    Found(usize),
-    Refused(u32),
 }
 
 // A section's root.
-fn look_for_root(s: Section) -> Look
-    ensures { seen_answer result ≡ root_seen s }
+fn look_for_root(s: Section) -> Result<Look, Refusal>
+    ensures { answer result ≡ root_seen s }
 {
-    let Root::At(t) = root_of(s) else {
-        return Look::Refused(NOT_FINITE);
-    };
-    Look::Root(t)
+    let t = root_of(s)?;
+    Ok(Look::Root(t))
 }
 
 // A section's halves, where it may be halved.
-fn halve(s: Section, depth: usize) -> Look
-    ensures { seen_answer result ≡ halve_of s depth }
+fn halve(s: Section, depth: usize) -> Result<Look, Refusal>
+    ensures { answer result ≡ halve_of s depth }
 {
-    if depth < DEEPEST {
-        let halves = quintic::points::subdivide6(0.5, s);
-        if float::two_finite(halves.left.w6.x, halves.left.w6.y) {
-            return Look::Halved(halves);
-        }
-        return Look::Refused(NOT_FINITE);
+    if depth >= DEEPEST {
+        return Err(Refusal::TooDeep);
     }
-    Look::Refused(TOO_DEEP)
+    let halves = quintic::points::subdivide6(0.5, s);
+    if !float::two_finite(halves.left.w6.x, halves.left.w6.y) {
+        return Err(Refusal::NotFinite);
+    }
+    Ok(Look::Halved(halves))
 }
 
 // A look at a section with one crossing.
-fn look_at_one(s: Section, depth: usize) -> Look
-    ensures { seen_answer result ≡ one_of s depth }
+fn look_at_one(s: Section, depth: usize) -> Result<Look, Refusal>
+    ensures { answer result ≡ one_of s depth }
 {
-    let flat = flat_enough(s);
-    if flat.fine {
-        if flat.holds {
-            return look_for_root(s);
-        }
-        return halve(s, depth);
+    let flat = flat_enough(s)?;
+    if flat {
+        return look_for_root(s);
     }
-    Look::Refused(NOT_FINITE)
+    halve(s, depth)
 }
 
 // A look at a section.
-fn look_at(s: Section, depth: usize) -> Look
-    ensures { seen_answer result ≡ look_of s depth }
+fn look_at(s: Section, depth: usize) -> Result<Look, Refusal>
+    ensures { answer result ≡ look_of s depth }
 {
     let num_crossings = count_x_axis_crossings(s);
     if num_crossings == 0 {
-        return Look::Nothing;
+        return Ok(Look::Nothing);
     }
     if num_crossings == 1 {
         return look_at_one(s, depth);
@@ -89,27 +78,26 @@ fn look_at(s: Section, depth: usize) -> Look
     halve(s, depth)
 }
 
-// The roots of a curve of six points, left to right, into `roots`: no section has more than one.
-pub fn find_bezier_roots(points: Section, roots: &mut [f64]) -> Roots
+// The roots of a curve of six points, left to right, into `roots`, and how many they are: no section has more than one.
+pub fn find_bezier_roots(points: Section, roots: &mut [f64]) -> Result<usize, Refusal>
     requires { 2048 ≤ length roots.old }
-    ensures { (roots_answer result roots.new ≡ find_roots points) × (count_of result ≤ 2048) }
+    ensures found { roots_answer result roots.new ≡ find_roots points }
+    ensures few { IfOk result (λ n. n ≤ 2048) }
 {
     let mut sections = [Waiting {
         section: points,
         depth: 0,
     }; 65];
     let mut waiting: usize = 1;
-    let mut left = MOST_SECTIONS;
     let mut found: usize = 0;
-    while waiting > 0 {
-        if left == 0 {
-            return Roots::Refused(TOO_DEEP);
+    for _ in 0..MOST_SECTIONS {
+        if waiting == 0 {
+            break;
         }
-        left -= 1;
         waiting -= 1;
         let next = sections[waiting];
         let depth = next.depth;
-        match look_at(next.section, depth) {
+        match look_at(next.section, depth)? {
             Look::Nothing => {}
             Look::Root(t) => {
                 roots[found] = t;
@@ -128,8 +116,10 @@ pub fn find_bezier_roots(points: Section, roots: &mut [f64]) -> Roots
                 };
                 waiting += 2;
             }
-            Look::Refused(n) => return Roots::Refused(n),
         }
     }
-    Roots::Found(found)
+    if waiting > 0 {
+        return Err(Refusal::TooDeep);
+    }
+    Ok(found)
 }

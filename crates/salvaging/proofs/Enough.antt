@@ -16,13 +16,13 @@ use Rattle.packed.proofs.Sizes.{packed_size_none, packed_size_some, packed_lengt
 use Rattle.packed.proofs.Candidate.{Stored, twice, once, held_stored, stored_formed}
 use Rattle.sieve.specs.declared.Fate.{Fate}
 use Rattle.sieve.specs.declared.Fate.TheVariants.{Kept, Dropped}
-use Rattle.sieve.specs.declared.Last.TheVariants.{Nothing}
+use Rattle.std.proofs.Common.{None}
 use Rattle.sieve.specs.Sieve.{drop_by, drops_from, fates_of, drops_of}
 use Rattle.sieve.proofs.Traces.{length-fates, adds}
 use Rattle.salvaging.specs.Report.{count_line, drop_lines, report_of}
 use Rattle.salvaging.specs.Salvage.{cleaned, texts_of}
 use Rattle.salvaging.specs.Twice.{Enough}
-use Rattle.salvaging.proofs.Sizes.{count-length, dropped_length, lines_append, lines_kept}
+use Rattle.salvaging.proofs.Lengths.{count-length, dropped_length, lines_append, lines_kept}
 use Rattle.salvaging.proofs.Twice.{fewer, length-clean}
 
 -- ---- the file
@@ -59,7 +59,7 @@ list-most : (k : ℕ) (M : List ℕ) → k < 10 ^ 9 → length M / 2 < 10 ^ 9 �
 unfolding report_of
 list-most k M hk hn hd =
     let e = length-append (count_line k (length (drops_of M))) (drop_lines (drops_of M)) in
-    let n = length-fates Nothing M in
+    let n = length-fates None M in
     omega (arith, count-length k (length (drops_of M)), decimal-length 8 k hk, decimal-length 8 (length (drops_of M)) (omega arith), lines_most (fates_of M) 0 (omega arith))
 
 pub enough : Enough

@@ -1,4 +1,4 @@
-mod Sizes
+mod Lengths
 mod Goes
 mod Walk
 mod Texts

@@ -14,21 +14,20 @@ use Rattle.house.specs.Bytes.{num, row, words, row_bytes, les, all_fit}
 use Rattle.house.proofs.Rows.{length-words, length-les, bytes_append, bytes_there}
 use Rattle.sieve.specs.declared.Fate.{Fate}
 use Rattle.sieve.specs.declared.Fate.TheVariants.{Kept, Dropped}
-use Rattle.sieve.specs.declared.Last.{Last}
-use Rattle.sieve.specs.declared.Last.TheVariants.{Nothing}
+use Rattle.std.proofs.Common.{Option, None}
 use Rattle.sieve.specs.Sieve.{mark, fate_of, after, fates, kept_by, kept_in, drop_by, drops_from, kept_of, drops_of}
 use Rattle.salvaging.specs.Report.{drop_lines}
 use Rattle.salvaging.specs.declared.walks.Part.{Part}
 use Rattle.salvaging.specs.declared.walks.Part.TheVariants.{Marks, Lines}
 use Rattle.salvaging.specs.Layout.{marks_of, mark_of, piece_of, mark_length, piece_length, part_of}
-use Rattle.salvaging.proofs.Sizes.{lines_append}
+use Rattle.salvaging.proofs.Lengths.{lines_append}
 
 -- the marks from number i on
 abbrev pub rest : List ℕ → ℕ → ℕ → List ℕ
 rest b n i = words (2 * (n - i)) (drop (20 + 16 * i) b)
 
 -- what is left to put for them
-abbrev pub left_of : Part → List ℕ → ℕ → Last → ℕ → List ℕ
+abbrev pub left_of : Part → List ℕ → ℕ → Option Point → ℕ → List ℕ
 left_of Marks b n last i = les (kept_in (fates last (rest b n i)) (rest b n i))
 left_of Lines b n last i = drop_lines (drops_from i (fates last (rest b n i)))
 
@@ -41,11 +40,11 @@ module _ (b : List ℕ) (n : ℕ) where
   rest_none i e = let z : 2 * (n - i) ≡ 0 = omega arith in rw z
 
   -- all of it, at first, and nothing at the end
-  pub left_all : (part : Part) → left_of part b n Nothing 0 ≡ part_of part b n
+  pub left_all : (part : Part) → left_of part b n None 0 ≡ part_of part b n
   left_all Marks = ap (λ (M : List ℕ). les (kept_of M)) rest_all
   left_all Lines = ap (λ (M : List ℕ). drop_lines (drops_of M)) rest_all
 
-  pub left_none : (part : Part) (last : Last) (i : ℕ) → i ≡ n → left_of part b n last i ≡ []
+  pub left_none : (part : Part) (last : Option Point) (i : ℕ) → i ≡ n → left_of part b n last i ≡ []
   unfolding fates kept_in row_bytes drops_from drop_lines
   left_none Marks last i e = rw (rest_none i e)
   left_none Lines last i e = rw (rest_none i e)
@@ -68,7 +67,7 @@ module _ (b : List ℕ) (n : ℕ) where
         let d : 20 + 16 * i + 8 + 8 ≡ 20 + 16 * (i + 1) = omega arith in
         rw (e, drop-drop, drop-drop, d)
 
-    module _ (last : Last) (h : i < n) {p : Point} {f : Fate} {last' : Last} (ep : p ≡ mark x y) (ef : f ≡ fate_of last p) (el : last' ≡ after last p f) where
+    module _ (last : Option Point) (h : i < n) {p : Point} {f : Fate} {last' : Option Point} (ep : p ≡ mark x y) (ef : f ≡ fate_of last p) (el : last' ≡ after last p f) where
       kept_more : kept_in (fates last (rest b n i)) (rest b n i) ≡ kept_by f (mark_of b i) ++ kept_in (fates last' (rest b n (i + 1))) (rest b n (i + 1))
       unfolding fates kept_in
       kept_more = rw (rest_more h, here, el, ef, ep)

@@ -20,10 +20,11 @@ use Rattle.house.proofs.Rows.{length-words}
 use Rattle.grammar.proofs.Formed.{formed}
 use Rattle.packed_heads.specs.declared.Joints.{Joints}
 use Rattle.packed_heads.specs.declared.Joints.TheVariants.{Twice, Once}
-use Rattle.packed_heads.specs.declared.Held.TheVariants as held
+use Rattle.std.proofs.Common.{None}
 use Rattle.packed_heads.specs.Layout.{held_layout_of, held_at}
 use Rattle.packed_heads.proofs.Told.{HeldTold, held_untold}
-use Rattle.salvaging.specs.Salvage.{cleaned, Texts, texts_of, salvage_texts, Sizes, sizes, Salvage, salvage, hand_both, salvage_of, bench_texts, printed_of}
+use Rattle.salvaging.specs.declared.Sizes.{Sizes}
+use Rattle.salvaging.specs.Salvage.{cleaned, Texts, texts_of, salvage_texts, sizes, Salvage, salvage, hand_both, salvage_of, bench_texts, printed_of}
 use Rattle.salvaging.specs.Layout.{alone}
 
 -- ---- two texts
@@ -61,7 +62,7 @@ held-few {b} {joints} {form} {n} {k} t = let m = marks_at_is joints b form n k i
 
 -- ---- the call
 
-pub salvage_broken : (b O R : List ℕ) → held_layout_of b ≡ held.Broken → salvage (refused 9) O R ≡ salvage_of b O R
+pub salvage_broken : (b O R : List ℕ) → held_layout_of b ≡ None → salvage (refused 9) O R ≡ salvage_of b O R
 unfolding salvage_of salvage_texts
 salvage_broken b O R e = rw (held_untold b e)
 
@@ -88,7 +89,7 @@ module _ (b O R : List ℕ) {S : Salvage} where
   unfolding printed_of bench_texts
   printed_long h e = e ∙ rw (lt-leb (length b) 434120 h)
 
-  pub printed_broken : length b ≤ 434120 → held_layout_of b ≡ held.Broken → S ≡ hand_both O R (record { file = []; report = refusal_line 9 }) → S ≡ printed_of b O R
+  pub printed_broken : length b ≤ 434120 → held_layout_of b ≡ None → S ≡ hand_both O R (record { file = []; report = refusal_line 9 }) → S ≡ printed_of b O R
   unfolding printed_of bench_texts
   printed_broken h u e = e ∙ rw (le-leb (length b) 434120 h, held_untold b u)
 

@@ -9,7 +9,8 @@ use Rattle.sieve.specs.Sieve.{kept_by, drop_by, kept_of, drops_of}
 use Rattle.salvaging.specs.declared.walks.Part.{Part}
 use Rattle.salvaging.specs.declared.walks.Part.TheVariants.{Marks, Lines}
 use Rattle.salvaging.specs.Report.{drop_lines}
-use Rattle.salvaging.specs.Salvage.{Sizes, sizes}
+use Rattle.salvaging.specs.declared.Sizes.{Sizes}
+use Rattle.salvaging.specs.Salvage.{sizes}
 
 -- the first n marks of a file, and mark i, by their bits
 abbrev pub marks_of : List ℕ → ℕ → List ℕ

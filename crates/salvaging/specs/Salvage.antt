@@ -9,8 +9,7 @@ use Rattle.house.specs.Limits.{too_many, no_room, badly_formed}
 use Rattle.house.specs.File.{File, marks_in, bytes_of}
 use Rattle.packed.specs.Unpacked.{held_of}
 use Rattle.sieve.specs.Sieve.{kept_of, drops_of}
-use Rattle.salvaging.specs.declared.Salvaged.{Salvaged}
-use Rattle.salvaging.specs.declared.Salvaged.TheVariants as salvaged
+use Rattle.salvaging.specs.declared.Sizes.{Sizes}
 use Rattle.salvaging.specs.Report.{report_of}
 
 -- ---- what a file is cleaned to
@@ -44,17 +43,8 @@ salvage_texts b = do
 -- ---- how they are handed over
 
 -- how many bytes each has
-pub record Sizes : Type 0 where
-  pub file : ℕ
-  pub report : ℕ
-
 abbrev pub sizes : ℕ → ℕ → Sizes
 sizes f r = record { file = f; report = r }
-
--- the document's number and values for each case of the answer: `ok` is its number 0
-abbrev pub salvaged_answer : Salvaged → Answer Sizes
-salvaged_answer (salvaged.Bytes f r) = ok (sizes f r)
-salvaged_answer (salvaged.Refused q) = refused q
 
 -- the answer, and the lent bytes as they are left
 pub record Salvage : Type 0 where

@@ -5,35 +5,36 @@ mod report;
 mod walks;
 
 ghost use Rattle.std.specs.Prelude.{◌≡◌, ◌+◌, ◌-◌, ◌*◌, ◌^◌, ◌<◌, ◌≤◌, length};
+ghost use Rattle.float.specs.Refusal.{answer, number};
 ghost use Rattle.float.specs.Slices.{written};
 ghost use Rattle.form.specs.declared.Form.TheVariants as form;
 ghost use Rattle.house.specs.Limits.{mark_numbers, mark_bytes, marks_at};
 ghost use Rattle.house.specs.File.{bytes_of};
 ghost use Rattle.house.specs.Held.{file_at};
 ghost use Rattle.lines.specs.Lines.{refusal_line};
-ghost use Rattle.lines.specs.Handed.{listed_answer, hand_over};
+ghost use Rattle.lines.specs.Handed.{hand_over};
 ghost use Rattle.sieve.specs.Sieve.{kept_of, drops_of};
 ghost use Rattle.salvaging.specs.Report.{report_of};
-ghost use Rattle.salvaging.specs.Salvage.{cleaned, texts_of, salvage as salvage_left, salvaged_answer, hand_both, salvage_of, printed_of};
+ghost use Rattle.salvaging.specs.Salvage.{cleaned, texts_of, salvage as salvage_left, hand_both, salvage_of, printed_of};
 ghost use Rattle.salvaging.specs.Layout.{marks_of, alone};
 
-use float::refusal::{BADLY_FORMED, NO_ROOM, TOO_MANY};
+use float::refusal::Refusal;
 use house::bytes::{eight, put_eight, put_head};
 use house::sizes;
 use limits::MOST_READ;
-use lines::{Listed, put_pair};
-use packed_heads::{Held, find_held};
+use lines::put_pair;
+use packed_heads::find_held;
 use report::count_len;
 use walks::{Part, measure, put_part};
 
 // The most marks that the program cleans.
 const MOST_CLEANED: usize = 512;
 
-// How many bytes of the cleaned file and of the list were written; or why none were.
+// How many bytes of the cleaned file and of the list were written.
 #[derive(Clone, Copy)]
-pub enum Salvaged {
-    Bytes { file: usize, report: usize },
-    Refused(u32),
+pub struct Sizes {
+    pub file: usize,
+    pub report: usize,
 }
 
 // The cleaned file of n marks, of which so many are kept, in the first bytes, which have room for it.
@@ -60,9 +61,9 @@ fn put_report(file: &[u8], n: usize, kept: usize, report: &mut [u8])
 }
 
 // The file of n marks that is well formed, cleaned. Nothing is written before it is known that there is room for both.
-fn clean(file: &[u8], n: usize, out: &mut [u8], report: &mut [u8]) -> Salvaged
+fn clean(file: &[u8], n: usize, out: &mut [u8], report: &mut [u8]) -> Result<Sizes, Refusal>
     requires { (marks_at + mark_bytes * n ≤ length file.now) × (n < 2 ^ 28) }
-    ensures { salvage_left (salvaged_answer result) out.new report.new ≡ hand_both out.old report.old (texts_of (file_at file.now form.Eight n 0)) }
+    ensures { salvage_left (answer result) out.new report.new ≡ hand_both out.old report.old (texts_of (file_at file.now form.Eight n 0)) }
 {
     let marks = measure(Part::Marks, file, n);
     let lines = measure(Part::Lines, file, n);
@@ -70,78 +71,56 @@ fn clean(file: &[u8], n: usize, out: &mut [u8], report: &mut [u8]) -> Salvaged
     let size = sizes::MARKS_AT + marks;
     let text = count_len(kept, n - kept) + lines;
     if out.len() < size {
-        return Salvaged::Refused(NO_ROOM);
+        return Err(Refusal::NoRoom);
     }
     if report.len() < text {
-        return Salvaged::Refused(NO_ROOM);
+        return Err(Refusal::NoRoom);
     }
     put_file(file, n, kept, out);
     put_report(file, n, kept, report);
-    Salvaged::Bytes {
+    Ok(Sizes {
         file: size,
         report: text,
-    }
+    })
 }
 
 // Cleans a house file, packed or not, of any number of marks: drops each mark with a coordinate that is not finite or exceeds 1,000,000 in magnitude, else each that is equal to the last one kept. The file of the others goes into the first
 // bytes of `out`, and the list of what was dropped into those of `report`; where the call is refused, both stay as they are.
-pub fn salvage(file: &[u8], out: &mut [u8], report: &mut [u8]) -> Salvaged
-    ensures { salvage_left (salvaged_answer result) out.new report.new ≡ salvage_of file.now out.old report.old }
+pub fn salvage(file: &[u8], out: &mut [u8], report: &mut [u8]) -> Result<Sizes, Refusal>
+    ensures { salvage_left (answer result) out.new report.new ≡ salvage_of file.now out.old report.old }
 {
-    let held = find_held(file);
-    let Held::Counts {
-        joints: _,
-        form: _,
-        marks: n,
-        curves: _,
-    } = held
-    else {
-        return Salvaged::Refused(BADLY_FORMED);
+    let Some(held) = find_held(file) else {
+        return Err(Refusal::BadlyFormed);
     };
-    clean(file, n, out, report)
+    clean(file, held.layout.marks, out, report)
 }
 
 // ---- what the program prints
 
-// The answer where there is no file.
-fn without_file(listed: Listed) -> Salvaged
-    ensures { salvaged_answer result ≡ alone (listed_answer listed) }
-{
-    match listed {
-        Listed::Bytes(size) => Salvaged::Bytes {
-            file: 0,
-            report: size,
-        },
-        Listed::Refused(q) => Salvaged::Refused(q),
-    }
-}
-
 // A refusal's line in place of the list, and no file.
-fn refuse(q: u32, report: &mut [u8]) -> Salvaged
-    ensures { (salvaged_answer result ≡ alone (hand_over (refusal_line q) report.old).answer) × (report.new ≡ (hand_over (refusal_line q) report.old).out) }
+fn refuse(q: Refusal, report: &mut [u8]) -> Result<Sizes, Refusal>
+    ensures { (answer result ≡ alone (hand_over (refusal_line (number q)) report.old).answer) × (report.new ≡ (hand_over (refusal_line (number q)) report.old).out) }
 {
-    without_file(lines::hand_refusal(q, report))
+    let size = lines::hand_refusal(q.number(), report)?;
+    Ok(Sizes {
+        file: 0,
+        report: size,
+    })
 }
 
 // Cleans a house file of at most 512 marks as the program does: a file that is refused gives no file, and in place of the list the one line that names its refusal. Where a slice is too short the call itself is refused, and both stay as they are.
-pub fn salvage_file(file: &[u8], out: &mut [u8], report: &mut [u8]) -> Salvaged
-    ensures { salvage_left (salvaged_answer result) out.new report.new ≡ printed_of file.now out.old report.old }
+pub fn salvage_file(file: &[u8], out: &mut [u8], report: &mut [u8]) -> Result<Sizes, Refusal>
+    ensures { salvage_left (answer result) out.new report.new ≡ printed_of file.now out.old report.old }
 {
     if file.len() > MOST_READ {
-        return refuse(BADLY_FORMED, report);
+        return refuse(Refusal::BadlyFormed, report);
     }
-    let held = find_held(file);
-    let Held::Counts {
-        joints: _,
-        form: _,
-        marks: n,
-        curves: _,
-    } = held
-    else {
-        return refuse(BADLY_FORMED, report);
+    let Some(held) = find_held(file) else {
+        return refuse(Refusal::BadlyFormed, report);
     };
+    let n = held.layout.marks;
     if n > MOST_CLEANED {
-        return refuse(TOO_MANY, report);
+        return refuse(Refusal::TooMany, report);
     }
     clean(file, n, out, report)
 }

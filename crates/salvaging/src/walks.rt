@@ -7,7 +7,7 @@ ghost use Rattle.salvaging.specs.Layout.{piece_of, mark_length, piece_length, pa
 
 use super::report::{fate_len, put_fate};
 use house::sizes;
-use sieve::{Fate, Last, after, fate_of, mark_at};
+use sieve::{Fate, after, fate_of, mark_at};
 use text::put_bytes;
 
 // What is put of the marks: those that are kept, or the lines of those that are dropped.
@@ -68,15 +68,13 @@ pub fn measure(part: Part, file: &[u8], n: usize) -> usize
     requires { (marks_at + mark_bytes * n ≤ length file.now) × (n < 2 ^ 28) }
     ensures { (result ≤ 32 * n) × (result ≡ length (part_of part file.now n)) }
 {
-    let mut last = Last::Nothing;
+    let mut last = None;
     let mut size = 0;
-    let mut i = 0;
-    while i < n {
+    for i in 0..n {
         let p = mark_at(file, i);
         let fate = fate_of(last, p);
         size += piece_len(part, i, fate);
         last = after(last, p, fate);
-        i += 1;
     }
     size
 }
@@ -86,15 +84,13 @@ pub fn put_part(out: &mut [u8], at: usize, part: Part, file: &[u8], n: usize) ->
     requires { (marks_at + mark_bytes * n ≤ length file.now) × (at + length (part_of part file.now n) ≤ length out.old) }
     ensures { Put out.old at (part_of part file.now n) out.new result }
 {
-    let mut last = Last::Nothing;
+    let mut last = None;
     let mut end = at;
-    let mut i = 0;
-    while i < n {
+    for i in 0..n {
         let p = mark_at(file, i);
         let fate = fate_of(last, p);
         end = put_piece(out, end, part, file, i, fate);
         last = after(last, p, fate);
-        i += 1;
     }
     end
 }

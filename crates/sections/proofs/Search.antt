@@ -31,8 +31,10 @@ use Rattle.quintic.specs.declared.points.Section.{Section}
 use Rattle.quintic.specs.declared.points.Halves.{Halves}
 use Rattle.flat.specs.Flat.{crosses, crossings, flat_enough}
 use Rattle.intercept.specs.Intercept.{root_of}
-use Rattle.roots.specs.Find.{half, Seen, nothing, root, halved, root_seen, halve, look_of, wait, next, find, find_roots}
+use Rattle.roots.specs.Find.{half, root_seen, halve, look_of, wait, next, find, find_roots}
 use Rattle.roots.specs.declared.find.Waiting.{Waiting}
+use Rattle.roots.specs.declared.find.Look.{Look}
+use Rattle.roots.specs.declared.find.Look.TheVariants.{Nothing, Root, Halved}
 use Rattle.roots.proofs.Stack.{halved-low}
 use Rattle.sections.specs.Mid.{mid, upright}
 use Rattle.sections.specs.Halving.{All, left, right, fine, ch, vary, below, live, Creators}
@@ -140,7 +142,7 @@ pub record Split (s : Section) (h : Halves) : Type 0 where
   pub is : h ≡ (subdivide6_of half s).val
   pub all : (subdivide6_of half s).fine ≡ true
 
-split : (s : Section) (depth : ℕ) (h : Halves) → ok (halved h) ≡ look_of s depth → Split s h
+split : (s : Section) (depth : ℕ) (h : Halves) → ok (Halved h) ≡ look_of s depth → Split s h
 unfolding look_of root_seen halve outcome
 split s depth h k = go (eqb (crossings s) 0) (eqb (crossings s) 1) (outcome (flat_enough s)) (outcome (root_of s)) (ltb depth 64) (subdivide6_of half s).fine refl refl k
   where
@@ -148,13 +150,13 @@ split s depth h k = go (eqb (crossings s) 0) (eqb (crossings s) 1) (outcome (fla
     clash e = absurd (omega arith)
 
     -- the halves, where nothing else was seen
-    halves : (b f : Bool) → eqb (crossings s) 0 ≡ false → (subdivide6_of half s).fine ≡ f → ok (halved h) ≡ unless 8 b (chain (unless 6 f (ok (subdivide6_of half s).val)) (λ h. ok (halved h))) → Split s h
+    halves : (b f : Bool) → eqb (crossings s) 0 ≡ false → (subdivide6_of half s).fine ≡ f → ok (Halved h) ≡ unless 8 b (chain (unless 6 f (ok (subdivide6_of half s).val)) (λ h. ok (Halved h))) → Split s h
     halves false f e q k = clash cc
     halves true false e q k = clash cc
     halves true true e q k = record { crossed = e; is = cc; all = q }
 
     go : (none one : Bool) (flat : Answer Bool) (found : Answer Float) (low f : Bool) → eqb (crossings s) 0 ≡ none → (subdivide6_of half s).fine ≡ f
-        → ok (halved h) ≡ cond none (ok nothing) (chain (cond one flat (ok false)) (λ flat. cond flat (chain found (λ t. ok (root t))) (unless 8 low (chain (unless 6 f (ok (subdivide6_of half s).val)) (λ h. ok (halved h))))))
+        → ok (Halved h) ≡ cond none (ok Nothing) (chain (cond one flat (ok false)) (λ flat. cond flat (chain found (λ t. ok (Root t))) (unless 8 low (chain (unless 6 f (ok (subdivide6_of half s).val)) (λ h. ok (Halved h))))))
         → Split s h
     go true one flat found low f e q k = clash cc
     go false false flat found low f e q k = halves low f e q k
@@ -213,11 +215,11 @@ enough full other (suc n) (suc m) h (w ∷ ws) g k = go (λ (l : List Waiting) (
     rest : total ws ≤ n
     rest = omega (arith, taken_some (64 - w.depth) (six w.section))
 
-    go : ((l : List Waiting) → Sounds l → total l ≤ n → find full m l ≡ find other n l) → (a : Answer Seen) → look_of w.section w.depth ≡ a → chain a (next (find full m) w.depth ws) ≡ chain a (next (find other n) w.depth ws)
+    go : ((l : List Waiting) → Sounds l → total l ≤ n → find full m l ≡ find other n l) → (a : Answer Look) → look_of w.section w.depth ≡ a → chain a (next (find full m) w.depth ws) ≡ chain a (next (find other n) w.depth ws)
     go ih (refused j) e = refl
-    go ih (ok nothing) e = unfold next in ih ws g.1 rest
-    go ih (ok (root t)) e = unfold next in ap (λ a. chain a (λ ts. ok (t ∷ ts))) (ih ws g.1 rest)
-    go ih (ok (halved h)) e =
+    go ih (ok Nothing) e = unfold next in ih ws g.1 rest
+    go ih (ok (Root t)) e = unfold next in ap (λ a. chain a (λ ts. ok (t ∷ ts))) (ih ws g.1 rest)
+    go ih (ok (Halved h)) e =
         unfold next in
         ih (wait h.left (w.depth + 1) ∷ wait h.right (w.depth + 1) ∷ ws) (halves-sound, (halves_sound', g.1)) fewer
       where

@@ -3,14 +3,14 @@ use mathlib.Core.Path.{◌≡◌, refl}
 use mathlib.Core.Bool.{Bool, true, false}
 use Prim.Native.Nat.{ℕ}
 use native.Mathlib.Omega.{arith}
+use Rattle.std.proofs.Common.{Option}
 use Rattle.plane.specs.Range.{point_in_range}
 use Rattle.plane.specs.declared.Point.{Point}
 use Rattle.sieve.specs.declared.Cause.TheVariants.{Range, Equal}
 use Rattle.sieve.specs.declared.Fate.TheVariants.{Kept, Dropped}
-use Rattle.sieve.specs.declared.Last.{Last}
 use Rattle.sieve.specs.Sieve.{again, fate_of}
 
-module _ (last : Last) (p : Point) where
+module _ (last : Option Point) (p : Point) where
   pub fate_range : point_in_range p ≡ false → Dropped Range ≡ fate_of last p
   unfolding fate_of
   fate_range e = rw e refl

@@ -5,16 +5,16 @@ use mathlib.Core.List.{List, [], ◌∷◌, ◌++◌}
 use native.Mathlib.Omega.{arith}
 use lib.ListN.{length, take, drop}
 use lib.Seq.{drop-drop}
+use Rattle.std.proofs.Common.{Option, Some, None}
+use Rattle.plane.specs.declared.Point.{Point}
 use Rattle.sieve.specs.declared.Fate.{Fate}
 use Rattle.sieve.specs.declared.Fate.TheVariants.{Kept, Dropped}
-use Rattle.sieve.specs.declared.Last.{Last}
-use Rattle.sieve.specs.declared.Last.TheVariants.{Nothing, Mark}
 use Rattle.sieve.specs.Sieve.{mark, fate_of, after, fates, kept_in, drops_from, fates_of}
 use Rattle.sieve.specs.Traces.{times, counting, kept_numbers, drop_numbers, picked, Adds, Once, Picks, Again}
 
 -- ---- one fate for each mark
 
-pub length-fates : (last : Last) (M : List ℕ) → length (fates last M) ≡ length M / 2
+pub length-fates : (last : Option Point) (M : List ℕ) → length (fates last M) ≡ length M / 2
 unfolding fates
 length-fates last [] = refl
 length-fates last (x ∷ []) = refl
@@ -33,7 +33,7 @@ adds_from (Dropped c ∷ fs) (x ∷ []) i e = absurd (omega arith)
 adds_from (Dropped c ∷ fs) (x ∷ (y ∷ M)) i e = let r = adds_from fs M (suc i) (omega arith) in omega arith
 
 pub kept_and_dropped : (M : List ℕ) → length (kept_in (fates_of M) M) + 2 * length (drops_from 0 (fates_of M)) ≡ 2 * (length M / 2)
-kept_and_dropped M = let e = length-fates Nothing M in adds_from (fates_of M) M 0 e ∙ ap (λ (n : ℕ). 2 * n) e
+kept_and_dropped M = let e = length-fates None M in adds_from (fates_of M) M 0 e ∙ ap (λ (n : ℕ). 2 * n) e
 
 pub adds : Adds
 adds M = let e = kept_and_dropped M in omega arith
@@ -47,7 +47,7 @@ once_from (Kept ∷ fs) i j = let r = once_from fs (suc i) j in omega arith
 once_from (Dropped c ∷ fs) i j = let r = once_from fs (suc i) j in omega arith
 
 pub once : Once
-once M j = once_from (fates_of M) 0 j ∙ ap (λ (n : ℕ). times j (counting 0 n)) (length-fates Nothing M)
+once M j = once_from (fates_of M) 0 j ∙ ap (λ (n : ℕ). times j (counting 0 n)) (length-fates None M)
 
 -- ---- the marks of those numbers
 
@@ -68,18 +68,18 @@ picks M = picks_from (fates_of M) M 0
 
 -- ---- nothing more to drop
 
-again_from : (last : Last) (M : List ℕ) (i : ℕ) → let K = kept_in (fates last M) M in (kept_in (fates last K) K ≡ K) × (drops_from i (fates last K) ≡ [])
+again_from : (last : Option Point) (M : List ℕ) (i : ℕ) → let K = kept_in (fates last M) M in (kept_in (fates last K) K ≡ K) × (drops_from i (fates last K) ≡ [])
 unfolding fates kept_in drops_from after
 again_from last [] i = (refl, refl)
 again_from last (x ∷ []) i = (refl, refl)
-again_from last (x ∷ (y ∷ M)) i = go (fate_of last (mark x y)) refl (again_from last M i) (again_from (Mark (mark x y)) M (suc i))
+again_from last (x ∷ (y ∷ M)) i = go (fate_of last (mark x y)) refl (again_from last M i) (again_from (Some (mark x y)) M (suc i))
   where
     go : (f : Fate) → fate_of last (mark x y) ≡ f
         → (let K = kept_in (fates last M) M in (kept_in (fates last K) K ≡ K) × (drops_from i (fates last K) ≡ []))
-        → (let K = kept_in (fates (Mark (mark x y)) M) M in (kept_in (fates (Mark (mark x y)) K) K ≡ K) × (drops_from (suc i) (fates (Mark (mark x y)) K) ≡ []))
+        → (let K = kept_in (fates (Some (mark x y)) M) M in (kept_in (fates (Some (mark x y)) K) K ≡ K) × (drops_from (suc i) (fates (Some (mark x y)) K) ≡ []))
         → let K = kept_in (fates last (x ∷ (y ∷ M))) (x ∷ (y ∷ M)) in (kept_in (fates last K) K ≡ K) × (drops_from i (fates last K) ≡ [])
     go Kept e a b = rw e (rw e (ap (λ (l : List ℕ). x ∷ (y ∷ l)) b.0, b.1))
     go (Dropped c) e a b = rw e a
 
 pub again : Again
-again M = again_from Nothing M 0
+again M = again_from None M 0

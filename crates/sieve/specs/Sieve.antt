@@ -1,5 +1,5 @@
 -- Which marks of a shaky trace are kept, and why the others are dropped. Definitions only.
-use Rattle.std.specs.Prelude.{ℕ, suc, Bool, false, cond, List, [], ◌∷◌, ◌++◌, take, drop}
+use Rattle.std.specs.Prelude.{ℕ, suc, Bool, false, cond, List, [], ◌∷◌, ◌++◌, take, drop, Option, Some, None}
 use Rattle.std.specs.Float.{binary64}
 use Rattle.std.specs.Float.Ieee.{of_bits}
 use Rattle.plane.specs.Plane.{at, equal}
@@ -10,8 +10,6 @@ use Rattle.sieve.specs.declared.Cause.{Cause}
 use Rattle.sieve.specs.declared.Cause.TheVariants.{Range, Equal}
 use Rattle.sieve.specs.declared.Fate.{Fate}
 use Rattle.sieve.specs.declared.Fate.TheVariants.{Kept, Dropped}
-use Rattle.sieve.specs.declared.Last.{Last}
-use Rattle.sieve.specs.declared.Last.TheVariants.{Nothing, Mark}
 
 -- ---- one mark
 
@@ -20,23 +18,23 @@ abbrev pub mark : ℕ → ℕ → Point
 mark x y = at (of_bits binary64 x) (of_bits binary64 y)
 
 -- equal in both coordinates to the last mark kept, if there is one
-unfoldable pub again : Last → Point → Bool
-again Nothing p = false
-again (Mark q) p = equal p q
+unfoldable pub again : Option Point → Point → Bool
+again None p = false
+again (Some q) p = equal p q
 
 -- dropped where a coordinate is not finite or exceeds 1,000,000 in magnitude, else where it is equal to the last mark kept
-unfoldable pub fate_of : Last → Point → Fate
+unfoldable pub fate_of : Option Point → Point → Fate
 fate_of last p = cond (point_in_range p) (cond (again last p) (Dropped Equal) Kept) (Dropped Range)
 
 -- the last mark kept, behind this one
-unfoldable pub after : Last → Point → Fate → Last
-after last p Kept = Mark p
+unfoldable pub after : Option Point → Point → Fate → Option Point
+after last p Kept = Some p
 after last p (Dropped c) = last
 
 -- ---- all marks, in order, x and y of each by their bits
 
 -- what becomes of each
-unfoldable pub fates : Last → List ℕ → List Fate
+unfoldable pub fates : Option Point → List ℕ → List Fate
 fates last [] = []
 fates last (x ∷ []) = []
 fates last (x ∷ (y ∷ M)) = fate_of last (mark x y) ∷ fates (after last (mark x y) (fate_of last (mark x y))) M
@@ -65,7 +63,7 @@ drops_from i (f ∷ fs) = drop_by i f ++ drops_from (suc i) fs
 
 -- of a whole trace
 abbrev pub fates_of : List ℕ → List Fate
-fates_of M = fates Nothing M
+fates_of M = fates None M
 
 abbrev pub kept_of : List ℕ → List ℕ
 kept_of M = kept_in (fates_of M) M

@@ -18,18 +18,11 @@ pub enum Cause {
     Equal,
 }
 
-// What becomes of a mark.
+// What becomes of a mark. An enum of its own: a mark dropped is no failure, as an `Err` would have it.
 #[derive(Clone, Copy)]
 pub enum Fate {
     Kept,
     Dropped(Cause),
-}
-
-// The last mark kept, if there is one.
-#[derive(Clone, Copy)]
-pub enum Last {
-    Nothing,
-    Mark(Point),
 }
 
 // Mark i of a house file, in either form: its marks stand at the same place.
@@ -44,18 +37,16 @@ pub fn mark_at(file: &[u8], i: usize) -> Point
     }
 }
 
-// Whether a mark is equal to the last one kept.
-fn again(last: Last, p: Point) -> bool
+// Whether a mark is equal to the last one kept, if there is one.
+#[tactic(auto, unfolding(crate::specs::Sieve::again))]
+fn again(last: Option<Point>, p: Point) -> bool
     ensures { result ≡ again_of last p }
 {
-    let Last::Mark(q) = last else {
-        return false;
-    };
-    equal(p, q)
+    last.is_some_and(|q| equal(p, q))
 }
 
 // What becomes of a mark. Its range comes first, so what is kept can be compared: it is no NaN.
-pub fn fate_of(last: Last, p: Point) -> Fate
+pub fn fate_of(last: Option<Point>, p: Point) -> Fate
     ensures { result ≡ fate_of last p }
 {
     if point_in_range(p) {
@@ -68,11 +59,12 @@ pub fn fate_of(last: Last, p: Point) -> Fate
 }
 
 // The last mark kept, behind this one.
-pub fn after(last: Last, p: Point, fate: Fate) -> Last
+#[tactic(auto, unfolding(crate::specs::Sieve::after))]
+pub fn after(last: Option<Point>, p: Point, fate: Fate) -> Option<Point>
     ensures { result ≡ after_of last p fate }
 {
     match fate {
-        Fate::Kept => Last::Mark(p),
+        Fate::Kept => Some(p),
         Fate::Dropped(_) => last,
     }
 }

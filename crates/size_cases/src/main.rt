@@ -11,10 +11,8 @@ fn size_of(n: u64) -> u64 {
 // The digest of the sizes from the first to the last. The last stands behind the loop, as no number may come after it.
 fn digest(first: u64, last: u64) -> u64 {
     let mut h: u64 = 0;
-    let mut n = first;
-    while n < last {
+    for n in first..last {
         h = cases::mix(h, size_of(n));
-        n += 1;
     }
     cases::mix(h, size_of(last))
 }

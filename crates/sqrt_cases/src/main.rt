@@ -23,11 +23,9 @@ fn step() -> bool {
 }
 
 fn main() {
-    let mut k: usize = 0;
-    while k < 65536 {
+    for _ in 0..65536 {
         if !step() {
             return;
         }
-        k += 1;
     }
 }

@@ -13,7 +13,8 @@ use Rattle.house.specs.Limits.{badly_formed}
 use Rattle.house.specs.File.{File, bytes_of, marks_in, curves_in, fewer}
 use Rattle.float.specs.Slices.{written}
 use Rattle.house.specs.Slices.{room}
-use Rattle.reader.specs.Reader.{Found, found_in, Outcome, outcome, within, judged, settled, read_of}
+use Rattle.reader.specs.declared.Found.{Found}
+use Rattle.reader.specs.Reader.{found_in, Outcome, outcome, within, judged, settled, read_of}
 use Rattle.writer.proofs.Accepted.{Sound}
 use Rattle.writer.specs.Writer.{file_for, marks_fit, checked, Writing, writing, put, write_of}
 use Rattle.float.proofs.Answers.{not_refused, unless_ok}

@@ -9,10 +9,9 @@ use lib.Seq.{take_at}
 use Rattle.float.specs.Answer.{Answer, ok}
 use Rattle.form.specs.declared.Form.{Form}
 use Rattle.form.specs.Form.{width, worsts_for}
-use Rattle.reader.specs.declared.Read.{Read}
-use Rattle.reader.specs.declared.Read.TheVariants as read
-use Rattle.writer.specs.declared.Wrote.{Wrote}
-use Rattle.writer.specs.declared.Wrote.TheVariants as wrote
+use Rattle.std.proofs.Common.{Result, Ok}
+use Rattle.float.specs.Refusal.{answer}
+use Rattle.float.specs.declared.refusal.Refusal.{Refusal}
 use Rattle.house.specs.Bytes.{all_fit}
 use Rattle.house.specs.File.{File, Holds, bytes_of, marks_in, curves_in, form_for, params_for, well_formed}
 use Rattle.house.specs.Held.{candidate, is_file, file_of}
@@ -21,8 +20,9 @@ use Rattle.packed.specs.Unpacked.{packed_candidate, packed_of, held_of}
 use Rattle.packed.proofs.Candidate.{packed_is, file_packs, Stored, twice, once, stored_formed, stored_held}
 use Rattle.float.specs.Slices.{written}
 use Rattle.house.specs.Slices.{room}
-use Rattle.reader.specs.Reader.{Found, Outcome, outcome, read_answer, read_of}
-use Rattle.writer.specs.Writer.{file_for, Writing, writing, write_answer, write_of}
+use Rattle.reader.specs.declared.Found.{Found}
+use Rattle.reader.specs.Reader.{Outcome, outcome, read_of}
+use Rattle.writer.specs.Writer.{file_for, Writing, writing, write_of}
 use Rattle.trips.specs.Trips.{given, rewritten, OneEncoding}
 use Rattle.house.proofs.Forms.{form_some, worsts-formed, width-formed, suits-formed}
 use Rattle.house.proofs.Numbers.{fit-take}
@@ -87,16 +87,16 @@ places-formed form n k p w c q s = record {
 }
 
 -- written then read: the same numbers, bit for bit
-pub written-then-read : (form : Form) (t : ℕ) (M : List ℕ) (k : ℕ) (P W C Q O M₀ P₀ W₀ C₀ Q₀ : List ℕ) (len : ℕ) (O' : List ℕ) (r : Read) (M' P' W' C' Q' : List ℕ)
+pub written-then-read : (form : Form) (t : ℕ) (M : List ℕ) (k : ℕ) (P W C Q O M₀ P₀ W₀ C₀ Q₀ : List ℕ) (len : ℕ) (O' : List ℕ) (r : Result Found Refusal) (M' P' W' C' Q' : List ℕ)
     → t < 2 ^ 64
     → all_fit 8 M ≡ true
     → all_fit 8 C ≡ true
     → all_fit 8 Q ≡ true
-    → writing (write_answer (wrote.Bytes len)) O' ≡ write_of form t M k P W C Q O
+    → writing (answer (Ok len)) O' ≡ write_of form t M k P W C Q O
     → length M ≤ length M₀
     → room form (length M / 2) k (length P₀) (length W₀) (length C₀) (length Q₀) ≡ true
-    → outcome (read_answer r) M' P' W' C' Q' ≡ read_of (take len O') M₀ P₀ W₀ C₀ Q₀
-    → Returned form t M k P W C Q (read_answer r) M₀ P₀ W₀ C₀ Q₀ M' P' W' C' Q'
+    → outcome (answer r) M' P' W' C' Q' ≡ read_of (take len O') M₀ P₀ W₀ C₀ Q₀
+    → Returned form t M k P W C Q (answer r) M₀ P₀ W₀ C₀ Q₀ M' P' W' C' Q'
 unfolding file_for
 written-then-read form t M k P W C Q O M₀ P₀ W₀ C₀ Q₀ len O' r M' P' W' C' Q' ht hm hc hq w long roomy e =
     let p = write_accepted w in
@@ -175,7 +175,7 @@ stored_again {b} {F} h = go (is_file b) refl
     go false t = let e : packed_candidate b ≡ F = once-held b (stored_held h) t in rw (t, e)
 
 rewrites : (b M P W C Q O : List ℕ) (form : Form) (t n k : ℕ) (M' P' W' C' Q' : List ℕ)
-    → outcome (read_answer (read.File form t n k)) M' P' W' C' Q' ≡ read_of b M P W C Q
+    → outcome (answer (Ok (record { form = form; tolerance = t; marks = n; curves = k }))) M' P' W' C' Q' ≡ read_of b M P W C Q
     → length (rewritten b) ≤ length O
     → write_of form t (take (2 * n) M') k P' W' C' Q' O ≡ writing (ok (length (rewritten b))) (written (rewritten b) O)
 rewrites b M P W C Q O form t n k M' P' W' C' Q' e l =
@@ -190,11 +190,11 @@ rewrites b M P W C Q O form t n k M' P' W' C' Q' e l =
     ∙ written-again (stored_formed a.stored) a.taken O (rw z l)
     ∙ ap (λ (x : List ℕ). writing (ok (length x)) (written x O)) z
 
-pub read-then-written : (b M P W C Q O : List ℕ) (form : Form) (t n k : ℕ) (M' P' W' C' Q' : List ℕ) (w : Wrote) (O' : List ℕ)
-    → outcome (read_answer (read.File form t n k)) M' P' W' C' Q' ≡ read_of b M P W C Q
+pub read-then-written : (b M P W C Q O : List ℕ) (form : Form) (t n k : ℕ) (M' P' W' C' Q' : List ℕ) (w : Result ℕ Refusal) (O' : List ℕ)
+    → outcome (answer (Ok (record { form = form; tolerance = t; marks = n; curves = k }))) M' P' W' C' Q' ≡ read_of b M P W C Q
     → length (rewritten b) ≤ length O
-    → writing (write_answer w) O' ≡ write_of form t (take (2 * n) M') k P' W' C' Q' O
-    → (write_answer w ≡ ok (length (rewritten b))) × (O' ≡ written (rewritten b) O)
+    → writing (answer w) O' ≡ write_of form t (take (2 * n) M') k P' W' C' Q' O
+    → (answer w ≡ ok (length (rewritten b))) × (O' ≡ written (rewritten b) O)
 read-then-written b M P W C Q O form t n k M' P' W' C' Q' w O' e l q =
     let y = q ∙ rewrites b M P W C Q O form t n k M' P' W' C' Q' e l in
     (ap (λ (o : Writing). o.answer) y, ap (λ (o : Writing). o.out) y)

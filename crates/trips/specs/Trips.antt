@@ -5,7 +5,8 @@ use Rattle.form.specs.declared.Form.{Form}
 use Rattle.house.specs.File.{bytes_of}
 use Rattle.house.specs.Held.{is_file}
 use Rattle.packed.specs.Unpacked.{packed_candidate}
-use Rattle.reader.specs.Reader.{Found, outcome, read_of}
+use Rattle.reader.specs.declared.Found.{Found}
+use Rattle.reader.specs.Reader.{outcome, read_of}
 
 -- the answer of a reader that takes a file: how its curves are stored, its tolerance, and how many marks and curves
 abbrev pub given : Form → ℕ → ℕ → ℕ → Answer Found

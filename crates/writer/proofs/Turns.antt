@@ -7,7 +7,7 @@ use native.Mathlib.Numerals.{add-one}
 use native.Mathlib.Omega.{arith}
 use borrow.Author.Tests.{ltb-true, lt-ltb}
 use lib.ListN.{length, take, drop, get_or, length-append, length-take, length-drop}
-use lib.Seq.{drop-cons, take-add, take-suc, take_all, take-length, length-take-le, get_or-take, sets}
+use lib.Seq.{drop-cons, take-add, take-suc, take_all, take-length, length-take-le, sets}
 use Rattle.float.proofs.Truth.{true-false}
 use Rattle.form.specs.declared.Form.{Form}
 use Rattle.form.specs.declared.Form.TheVariants.{Eight, Nine}
@@ -26,19 +26,15 @@ use Rattle.text.proofs.Stores.{sets_append}
 
 -- ---- mark numbers that fit: one more, and one that does not
 
-module _ (f : ℕ) (P : List ℕ) (k i : ℕ) (h : i < k) (l : k ≤ length P) where
+module _ (f : ℕ) (P : List ℕ) (i : ℕ) (h : i < length P) where
   pub fits_more : all_fit f (take i P) ≡ true → fits f (get_or P i 0) ≡ true → all_fit f (take (i + 1) P) ≡ true
   unfolding all_fit
   fits_more all g =
       let e : take (i + 1) P ≡ take i P ++ (get_or P i 0 ∷ []) = rw (add-one i) (take-suc P i 0 (omega arith)) in
       rw e (fit_append f (take i P) (get_or P i 0 ∷ []) all (fit_cons f (get_or P i 0) [] (ltb-true _ _ g) refl))
 
-  pub fits_stop : fits f (get_or P i 0) ≡ false → all_fit f (take k P) ≡ true → ⊥
-  fits_stop g all =
-      let z : length (take k P) ≡ k = length-take-le k P l in
-      let t : get_or (take k P) i 0 ≡ get_or P i 0 = get_or-take k P i 0 h in
-      let s = fit_at f (take k P) i all (omega arith) in
-      true-false _ (lt-ltb (get_or P i 0) (256 ^ f) (omega arith)) g
+  pub fits_stop : fits f (get_or P i 0) ≡ false → all_fit f P ≡ true → ⊥
+  fits_stop g all = true-false _ (lt-ltb (get_or P i 0) (256 ^ f) (fit_at f P i all h)) g
 
 -- without curves there is nothing to hold
 pub holds_none : (form : Form) (n k : ℕ) (P W : List ℕ) → k ≡ 0 → true ≡ fewer k n && marks_fit form n k P W

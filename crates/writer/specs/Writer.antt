@@ -3,8 +3,6 @@ use Rattle.std.specs.Prelude.{ℕ, ◌*◌, ◌/◌, ◌%◌, Bool, ◌&&◌, Li
 use Rattle.float.specs.Answer.{Answer, ok, refused, unless}
 use Rattle.form.specs.declared.Form.{Form}
 use Rattle.form.specs.Form.{width, worsts_for}
-use Rattle.writer.specs.declared.Wrote.{Wrote}
-use Rattle.writer.specs.declared.Wrote.TheVariants as wrote
 use Rattle.limits.specs.Limits.{most_marks}
 use Rattle.house.specs.Limits.{too_many, odd_marks, no_room, badly_formed, field_for, mark_field, mark_numbers}
 use Rattle.house.specs.Bytes.{all_fit}
@@ -36,11 +34,6 @@ checked form t M k P W C Q o =
     (unless no_room (room form (length M / mark_numbers) k (length P) (length W) (length C) (length Q) && leb (length (bytes_of (file_for form t M k P W C Q))) o)
     (unless badly_formed (fewer k (length M / mark_numbers) && marks_fit form (length M / mark_numbers) k P W)
     (ok (file_for form t M k P W C Q)))))
-
--- the document's number and values for each case of the answer: `ok` is its number 0
-abbrev pub write_answer : Wrote → Answer ℕ
-write_answer (wrote.Bytes n) = ok n
-write_answer (wrote.Refused q) = refused q
 
 -- the answer, and the lent bytes as they are left
 pub record Writing : Type 0 where

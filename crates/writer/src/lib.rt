@@ -4,23 +4,17 @@
 mod records;
 
 ghost use Rattle.std.specs.Prelude.{◌≡◌};
-ghost use Rattle.writer.specs.Writer.{writing, write_answer, write_of};
+ghost use Rattle.float.specs.Refusal.{answer};
+ghost use Rattle.writer.specs.Writer.{writing, write_of};
 
-use float::refusal::{BADLY_FORMED, NO_ROOM, ODD, TOO_MANY};
+use float::refusal::Refusal;
 use form::Form;
 use house::sizes;
 use house::sizes::{has_room, size_for};
 use limits::MOST_MARKS;
 use records::{can_hold, put_file};
 
-// How many bytes were written; or why none were.
-#[derive(Clone, Copy)]
-pub enum Wrote {
-    Bytes(usize),
-    Refused(u32),
-}
-
-// Puts an outline with `count` curves, which are stored as the form says, together as a file, in the first bytes of `out`, which stays as it is where the outline is refused.
+// Puts an outline with `count` curves, which are stored as the form says, together as a file, in the first bytes of `out`, and tells how many they are; `out` stays as it is where the outline is refused.
 pub fn write_file(
     form: Form,
     tolerance: u64,
@@ -31,15 +25,15 @@ pub fn write_file(
     curves: &[u64],
     params: &[u64],
     out: &mut [u8],
-) -> Wrote
-    ensures { writing (write_answer result) out.new ≡ write_of form tolerance marks.now count firsts.now worsts.now curves.now params.now out.old }
+) -> Result<usize, Refusal>
+    ensures { writing (answer result) out.new ≡ write_of form tolerance marks.now count firsts.now worsts.now curves.now params.now out.old }
 {
     if marks.len() % sizes::MARK_NUMBERS != 0 {
-        return Wrote::Refused(ODD);
+        return Err(Refusal::Odd);
     }
     let n = marks.len() / sizes::MARK_NUMBERS;
     if n > MOST_MARKS {
-        return Wrote::Refused(TOO_MANY);
+        return Err(Refusal::TooMany);
     }
     if has_room(
         form,
@@ -52,15 +46,15 @@ pub fn write_file(
     ) {
         let size = size_for(form, n, count);
         if out.len() < size {
-            return Wrote::Refused(NO_ROOM);
+            return Err(Refusal::NoRoom);
         }
         if can_hold(form, n, count, firsts, worsts) {
             put_file(
                 form, tolerance, marks, count, firsts, worsts, curves, params, out,
             );
-            return Wrote::Bytes(size);
+            return Ok(size);
         }
-        return Wrote::Refused(BADLY_FORMED);
+        return Err(Refusal::BadlyFormed);
     }
-    Wrote::Refused(NO_ROOM)
+    Err(Refusal::NoRoom)
 }

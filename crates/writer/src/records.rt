@@ -19,13 +19,10 @@ fn marks_fit(field: Field, marks: &[u32], k: usize) -> bool
     requires { k ≤ length marks.now }
     ensures { result ≡ all_fit (mark_field field) (take k marks.now) }
 {
-    let mut i = 0;
-    while i < k {
-        if sizes::mark_fits(field, marks[i] as u64) {
-            i += 1;
-            continue;
+    for x in &marks[..k] {
+        if !sizes::mark_fits(field, *x as u64) {
+            return false;
         }
-        return false;
     }
     true
 }
@@ -120,10 +117,8 @@ fn put_curves(
     ensures { out.new ≡ sets out.old at (flat (curve_records form field (take k firsts.now) (take (worsts_for form k) worsts.now) (take (width form * k) curves.now))) }
 {
     let step = sizes::HEAD_BYTES + sizes::body_bytes(form, field);
-    let mut i = 0;
-    while i < k {
+    for i in 0..k {
         put_curve(out, at + step * i, form, field, firsts, worsts, curves, i);
-        i += 1;
     }
 }
 

@@ -8,7 +8,7 @@ use Rattle.blocks.proofs.Blocks.{block_lost, block_ran, block_ready, block_as-cl
 use Rattle.blocks.proofs.fit_block.Goals as goal
 
 pub returns-in_default : goal.returns-in_default
-returns-in_default c = let a = c.args in block_lost a.cutting (marks_of a.cutting a.marks.now) a.n a.tolerance a.from a.to c.ways_of.result c.ways_of.ensures c.in_default.is _ _ _ _ _ _ _
+returns-in_default c = let a = c.args in block_lost a.cutting (marks_of a.cutting a.marks.now) a.n a.tolerance a.from a.to c.in_default.ensures _ _ _ _ _ _ _
 
 pub fit_marks-requires : goal.fit_marks-requires
 fit_marks-requires c =
@@ -22,6 +22,6 @@ pub returns : goal.returns
 returns c =
     let a = c.args in
     let p = c.requires in
-    let w = c.in-At.ways in
-    block_ran a.cutting (marks_of a.cutting a.marks.now) a.n a.tolerance a.from a.to c.ways_of.result c.ways_of.ensures w c.in-At.is _ _ _ _ _ _ _ _
+    let w = c.in-Ok.ways in
+    block_ran a.cutting (marks_of a.cutting a.marks.now) a.n a.tolerance a.from a.to c.in-Ok.ensures _ _ _ _ _ _ _ _
     (same_marks _ _ a.from w.start w.end a.tolerance _ _ _ _ _ _ _ _ (block_as-closed a.cutting a.marks.now a.n a.from a.to p.marks_len.0 (omega (arith, p)) (omega (arith, p))) c.fit_marks.ensures)

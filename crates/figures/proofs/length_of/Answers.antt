@@ -6,6 +6,6 @@ use Rattle.figures.proofs.length_of.Goals as goal
 pub returns : goal.returns
 returns c =
     let e = length-text c.args.d in
-    let whole = c.decimal_length.ensures in
+    let whole = c.decimal_len.ensures in
     let sign = c.sign_length.ensures in
-    (omega (arith, c.places_length.ensures.0, whole.0, sign.0), omega (arith, c.places_length.ensures.1, whole.1, sign.1))
+    (omega (arith, c.places_length.ensures.0, whole.1, sign.0), omega (arith, c.places_length.ensures.1, whole.0, sign.1))

@@ -1,16 +1,20 @@
 -- `fit::gate_cubic`: each return is decided by the tests before it.
-use borrow.Author.Tests.{eq-eqb, ne_eqb}
+use mathlib.Core.Path.{◌∙◌}
+use borrow.Author.Tests.{ne_eqb}
+use Rattle.float.specs.Refusal.{number}
+use Rattle.float.proofs.Refusals.{test_handed_on}
+use Rattle.gate.proofs.Tests.{never_zero}
 use Rattle.fit.specs.Fit.{cubic_gate}
 use Rattle.fit.proofs.gate_cubic.Goals as goal
 
-pub returns-then-refusal-ne0 : goal.returns-then-refusal-ne0
+pub returns-in_err-gate : goal.returns-in_err-gate
 unfolding cubic_gate
-returns-then-refusal-ne0 c = rw (← c.gate-refusal.ensures, ne_eqb c.gate-refusal.result 0 c.if-refusal-ne0.true)
+returns-in_err-gate c = test_handed_on _ _ c.from_residual.ensures.1 ∙ rw (← c.in_err-gate.ensures, ne_eqb (number _) 0 (never_zero _))
 
 pub returns-then-not-are_tangents : goal.returns-then-not-are_tangents
 unfolding cubic_gate
-returns-then-not-are_tangents c = rw (← c.gate-refusal.ensures, eq-eqb c.gate-refusal.result 0 c.if-refusal-ne0.false, ← c.are_tangents.ensures, c.if-not-are_tangents.true)
+returns-then-not-are_tangents c = rw (← c.in_ok-gate.ensures, ← c.are_tangents.ensures, c.if-not-are_tangents.true)
 
 pub returns : goal.returns
 unfolding cubic_gate
-returns c = rw (← c.gate-refusal.ensures, eq-eqb c.gate-refusal.result 0 c.if-refusal-ne0.false, ← c.are_tangents.ensures, c.if-not-are_tangents.false)
+returns c = rw (← c.in_ok-gate.ensures, ← c.are_tangents.ensures, c.if-not-are_tangents.false)

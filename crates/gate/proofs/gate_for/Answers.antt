@@ -1,14 +1,10 @@
 -- `gate::gate_for`: each return is decided by the tests before it.
 use native.Mathlib.Omega.{arith}
-use Rattle.ring.proofs.Whole.{again-small}
 use Rattle.gate.proofs.Tests.{half-marks, too_few, too_many, no_room, no_params, not_near, not_usable, lets_pass}
 use Rattle.gate.proofs.gate_for.Goals as goal
 
 pub returns-then-len-ne0 : goal.returns-then-len-ne0
 returns-then-len-ne0 c = half-marks _ _ _ _ _ _ _ _ _ _ c.if-len-ne0.true
-
-pub overflow_add-more : goal.overflow_add-more
-overflow_add-more c = let s = again-small c.args.outline in omega (arith, c.again-more.ensures)
 
 pub returns-then-n-more : goal.returns-then-n-more
 returns-then-n-more c = too_few _ _ _ _ _ _ _ _ _ _ (omega arith) (omega (arith, c.again-more.ensures))

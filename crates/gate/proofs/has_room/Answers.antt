@@ -1,11 +1,7 @@
 -- `gate::has_room`: the room is divided.
-use native.Mathlib.Omega.{arith}
 use Rattle.gate.specs.Gate.{room_for}
-use Rattle.gate.proofs.Tests.{room_by, has_width}
+use Rattle.gate.proofs.Tests.{room_by}
 use Rattle.gate.proofs.has_room.Goals as goal
-
-pub nonzero_div-result : goal.nonzero_div-result
-nonzero_div-result c = let w = has_width c.args.form in omega (arith, c.width-width.ensures)
 
 pub returns : goal.returns
 unfolding room_for

@@ -1,46 +1,46 @@
 -- `reader::read_file` meets its contract.
 use mathlib.Core.Path.{◌≡◌, sym, ◌∙◌}
 use native.Mathlib.Omega.{arith}
-use Rattle.packed_heads.specs.declared.Held.TheVariants as held
+use Rattle.std.proofs.Common.{Some}
 use Rattle.packed_heads.specs.Layout.{held_layout_of}
-use Rattle.packed_heads.proofs.Told.{HeldTold, held_told}
+use Rattle.packed_heads.proofs.Told.{HeldTold, held_told, stored}
 use Rattle.reader.proofs.Ways.{held-room, read_broken, read_many, read-few, read_short, read-given}
 use Rattle.reader.proofs.read_file.Goals as goal
 
 pub returns-in_default : goal.returns-in_default
-returns-in_default c = read_broken _ (sym c.find_held-found.ensures ∙ c.in_default.is)
+returns-in_default c = read_broken _ (sym c.in_default.ensures)
 
 pub returns-then-n-gt-MOST_MARKS : goal.returns-then-n-gt-MOST_MARKS
 returns-then-n-gt-MOST_MARKS c =
-    let layout : held_layout_of c.args.file.now ≡ held.Counts c.in-Counts.joints c.in-Counts.form c.in-Counts.n c.in-Counts.k = sym c.find_held-found.ensures ∙ c.in-Counts.is in
-    let found : HeldTold c.args.file.now c.in-Counts.joints c.in-Counts.form c.in-Counts.n c.in-Counts.k = held_told _ _ _ _ _ layout in
+    let layout : held_layout_of c.args.file.now ≡ Some (stored c.in-Some.held.joints c.in-Some.held.layout.form c.in-Some.held.layout.marks c.in-Some.held.layout.curves) = sym c.in-Some.ensures in
+    let found : HeldTold c.args.file.now c.in-Some.held.joints c.in-Some.held.layout.form c.in-Some.held.layout.marks c.in-Some.held.layout.curves = held_told _ _ _ _ _ layout in
     read_many found (omega arith)
 
 pub returns-then-marks-n : goal.returns-then-marks-n
 returns-then-marks-n c =
-    let layout : held_layout_of c.args.file.now ≡ held.Counts c.in-Counts.joints c.in-Counts.form c.in-Counts.n c.in-Counts.k = sym c.find_held-found.ensures ∙ c.in-Counts.is in
-    let found : HeldTold c.args.file.now c.in-Counts.joints c.in-Counts.form c.in-Counts.n c.in-Counts.k = held_told _ _ _ _ _ layout in
+    let layout : held_layout_of c.args.file.now ≡ Some (stored c.in-Some.held.joints c.in-Some.held.layout.form c.in-Some.held.layout.marks c.in-Some.held.layout.curves) = sym c.in-Some.ensures in
+    let found : HeldTold c.args.file.now c.in-Some.held.joints c.in-Some.held.layout.form c.in-Some.held.layout.marks c.in-Some.held.layout.curves = held_told _ _ _ _ _ layout in
     read-few found (omega arith) (omega arith)
 
 pub copy_held-requires : goal.copy_held-requires
 copy_held-requires c =
-    let layout : held_layout_of c.args.file.now ≡ held.Counts c.in-Counts.joints c.in-Counts.form c.in-Counts.n c.in-Counts.k = sym c.find_held-found.ensures ∙ c.in-Counts.is in
+    let layout : held_layout_of c.args.file.now ≡ Some (stored c.in-Some.held.joints c.in-Some.held.layout.form c.in-Some.held.layout.marks c.in-Some.held.layout.curves) = sym c.in-Some.ensures in
     held-room _ _ _ _ c.args.marks.now c.args.firsts.now c.args.worsts.now c.args.curves.now c.args.params.now _ layout (omega arith) (sym c.has_room.ensures ∙ c.if-has_room.true)
 
 pub eight-requires : goal.eight-requires
 eight-requires c =
-    let layout : held_layout_of c.args.file.now ≡ held.Counts c.in-Counts.joints c.in-Counts.form c.in-Counts.n c.in-Counts.k = sym c.find_held-found.ensures ∙ c.in-Counts.is in
-    let found : HeldTold c.args.file.now c.in-Counts.joints c.in-Counts.form c.in-Counts.n c.in-Counts.k = held_told _ _ _ _ _ layout in
+    let layout : held_layout_of c.args.file.now ≡ Some (stored c.in-Some.held.joints c.in-Some.held.layout.form c.in-Some.held.layout.marks c.in-Some.held.layout.curves) = sym c.in-Some.ensures in
+    let found : HeldTold c.args.file.now c.in-Some.held.joints c.in-Some.held.layout.form c.in-Some.held.layout.marks c.in-Some.held.layout.curves = held_told _ _ _ _ _ layout in
     omega (arith, found.starts.long)
 
 pub returns-then-has_room : goal.returns-then-has_room
 returns-then-has_room c =
-    let layout : held_layout_of c.args.file.now ≡ held.Counts c.in-Counts.joints c.in-Counts.form c.in-Counts.n c.in-Counts.k = sym c.find_held-found.ensures ∙ c.in-Counts.is in
-    let found : HeldTold c.args.file.now c.in-Counts.joints c.in-Counts.form c.in-Counts.n c.in-Counts.k = held_told _ _ _ _ _ layout in
+    let layout : held_layout_of c.args.file.now ≡ Some (stored c.in-Some.held.joints c.in-Some.held.layout.form c.in-Some.held.layout.marks c.in-Some.held.layout.curves) = sym c.in-Some.ensures in
+    let found : HeldTold c.args.file.now c.in-Some.held.joints c.in-Some.held.layout.form c.in-Some.held.layout.marks c.in-Some.held.layout.curves = held_told _ _ _ _ _ layout in
     read-given found (omega arith) (omega arith) (sym c.has_room.ensures ∙ c.if-has_room.true) c.eight.ensures c.copy_held.ensures
 
 pub returns : goal.returns
 returns c =
-    let layout : held_layout_of c.args.file.now ≡ held.Counts c.in-Counts.joints c.in-Counts.form c.in-Counts.n c.in-Counts.k = sym c.find_held-found.ensures ∙ c.in-Counts.is in
-    let found : HeldTold c.args.file.now c.in-Counts.joints c.in-Counts.form c.in-Counts.n c.in-Counts.k = held_told _ _ _ _ _ layout in
+    let layout : held_layout_of c.args.file.now ≡ Some (stored c.in-Some.held.joints c.in-Some.held.layout.form c.in-Some.held.layout.marks c.in-Some.held.layout.curves) = sym c.in-Some.ensures in
+    let found : HeldTold c.args.file.now c.in-Some.held.joints c.in-Some.held.layout.form c.in-Some.held.layout.marks c.in-Some.held.layout.curves = held_told _ _ _ _ _ layout in
     read_short found (omega arith) (omega arith) (sym c.has_room.ensures ∙ c.if-has_room.false)

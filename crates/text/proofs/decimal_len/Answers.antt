@@ -5,14 +5,8 @@ use lib.ListN.{length}
 use Rattle.text.proofs.Digits.{decimal_one, length_more, decimal_u64}
 use Rattle.text.proofs.decimal_len.Goals as goal
 
-pub loop-rest-init : goal.loop-rest-init
-loop-rest-init c = (omega arith, omega arith)
-
 pub overflow_add-len : goal.overflow_add-len
 overflow_add-len c = let n = c.args.n in omega (arith, c.loop-rest.invariant.0, decimal_u64 n (omega arith))
-
-pub loop-rest-smaller : goal.loop-rest-smaller
-loop-rest-smaller c = omega arith
 
 pub loop-rest-preserved : goal.loop-rest-preserved
 loop-rest-preserved c = let l = c.loop-rest in (omega (arith, l.invariant.0, length_more l.rest (omega arith)), omega arith)

@@ -1,6 +1,6 @@
 -- `text::put_hex` meets its contract. Before the digit at i is put, those behind it are there.
-use mathlib.Core.Path.{◌≡◌, refl}
-use Prim.Native.Nat.{◌+◌, ◌<◌, ◌≤◌}
+use mathlib.Core.Path.{refl}
+use Prim.Native.Nat.{◌<◌, ◌≤◌}
 use native.Mathlib.Omega.{arith}
 use Rattle.text.specs.Text.{hex}
 use Rattle.text.proofs.Digits.{hex-turn, rest-turn}
@@ -19,11 +19,3 @@ loop-i-preserved c =
       rw l.invariant.0 (rest-turn a.x l.i h k),
       rw (c.digit.ensures, l.invariant.0, l.invariant.1) (hex-turn a.out.now a.at a.x l.i h k),
     )
-
-pub returns : goal.returns
-returns c =
-    let l = c.loop-i in
-    let a = c.args in
-    let e : l.i ≡ 0 = omega arith in
-    let z : a.at + 0 ≡ a.at = omega arith in
-    (refl, rw z at (rw e at l.invariant.1))

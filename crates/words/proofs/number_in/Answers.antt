@@ -15,25 +15,10 @@ returns-then-v-most c =
     let above = reading.above {base = c.args.base} {v = c.loop-b.v} {m = 18446744073709551615} positive (omega arith) in
     reading.passing_at c.args.base c.loop-b.v c.args.s.now c.loop-b.b-index c.digit-d.result (omega arith) c.digit-d.ensures (sym c.loop-b.invariant) (omega (arith, above))
 
-pub overflow_mul-w : goal.overflow_mul-w
-overflow_mul-w c =
-    let fits : c.loop-b.v * c.args.base ≤ 18446744073709551615 = reading.within {base = c.args.base} (omega arith) (omega arith) in
-    omega (arith, fits)
-
-pub overflow_sub-w : goal.overflow_sub-w
-overflow_sub-w c =
-    let fits : c.loop-b.v * c.args.base ≤ 18446744073709551615 = reading.within {base = c.args.base} (omega arith) (omega arith) in
-    omega (arith, fits)
-
 pub returns-then-d-w : goal.returns-then-d-w
 returns-then-d-w c =
     let fits : c.loop-b.v * c.args.base ≤ 18446744073709551615 = reading.within {base = c.args.base} (omega arith) (omega arith) in
     reading.passing_at c.args.base c.loop-b.v c.args.s.now c.loop-b.b-index c.digit-d.result (omega arith) c.digit-d.ensures (sym c.loop-b.invariant) (omega (arith, fits))
-
-pub overflow_add-v : goal.overflow_add-v
-overflow_add-v c =
-    let fits : c.loop-b.v * c.args.base ≤ 18446744073709551615 = reading.within {base = c.args.base} (omega arith) (omega arith) in
-    omega (arith, fits)
 
 pub loop-b-preserved : goal.loop-b-preserved
 loop-b-preserved c =

@@ -1,20 +1,19 @@
--- `roots::intercept::root_of` meets its contract.
-use mathlib.Core.Path.{sym, ap, ◌∙◌}
+-- `intercept::intercept::root_of` meets its contract.
+use mathlib.Core.Path.{sym, ◌∙◌}
+use Rattle.float.proofs.Refusals.{handed_on}
 use Rattle.plane.specs.Range.{point_finite}
-use Rattle.intercept.specs.Tests.{root_answer}
 use Rattle.intercept.proofs.Steps.{root_none, root_on, root_off}
 use Rattle.intercept.proofs.intercept.root_of.Goals as goal
 
-pub returns-in_default : goal.returns-in_default
-unfolding root_answer
-returns-in_default c = root_none _ _ (sym (ap root_answer c.in_default.is) ∙ c.find_x_intercept.ensures)
+pub returns-in_err-intercept : goal.returns-in_err-intercept
+returns-in_err-intercept c = handed_on _ _ c.from_residual.ensures.1 ∙ root_none _ _ c.in_err-intercept.ensures
 
-pub returns-then-two_finite : goal.returns-then-two_finite
-unfolding root_answer point_finite
-returns-then-two_finite c =
-    root_on _ _ (sym (ap root_answer c.in-At.is) ∙ c.find_x_intercept.ensures) _ c.de_casteljau6-p.ensures (sym c.two_finite.ensures ∙ c.if-two_finite.true)
+pub returns-then-not-two_finite : goal.returns-then-not-two_finite
+unfolding point_finite
+returns-then-not-two_finite c =
+    root_off _ _ c.in_ok-intercept.ensures _ c.de_casteljau6-p.ensures (sym c.two_finite.ensures ∙ c.if-not-two_finite.true)
 
 pub returns : goal.returns
-unfolding root_answer point_finite
+unfolding point_finite
 returns c =
-    root_off _ _ (sym (ap root_answer c.in-At.is) ∙ c.find_x_intercept.ensures) _ c.de_casteljau6-p.ensures (sym c.two_finite.ensures ∙ c.if-two_finite.false)
+    root_on _ _ c.in_ok-intercept.ensures _ c.de_casteljau6-p.ensures (sym c.two_finite.ensures ∙ c.if-not-two_finite.false)

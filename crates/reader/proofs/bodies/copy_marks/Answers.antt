@@ -14,7 +14,7 @@ use Rattle.reader.proofs.bodies.copy_marks.Goals as goal
 
 pub loop-i-init : goal.loop-i-init
 unfolding in_each
-loop-i-init c = (omega arith, record { whole = refl; same = refl })
+loop-i-init c = (record { whole = refl; same = refl })
 
 pub overflow_mul-step : goal.overflow_mul-step
 overflow_mul-step c =
@@ -36,14 +36,8 @@ mark_number-requires c =
     let inside : let a = c.args in a.step * c.loop-i.i + a.step ≤ a.step * a.k = let a = c.args in within a.step a.k c.loop-i.i (omega arith) in
     omega (arith, inside)
 
-pub offset_bounds-out-i : goal.offset_bounds-out-i
-offset_bounds-out-i c = omega arith
-
 pub bounds-out-i : goal.bounds-out-i
-bounds-out-i c = omega (arith, c.loop-i.invariant.1.same)
-
-pub loop-i-smaller : goal.loop-i-smaller
-loop-i-smaller c = omega arith
+bounds-out-i c = omega (arith, c.loop-i.invariant.same)
 
 pub loop-i-preserved : goal.loop-i-preserved
 loop-i-preserved c =
@@ -52,11 +46,8 @@ loop-i-preserved c =
     let d = drop a.at a.b.now in
     let f = mark_field a.field in
     let e : set l.out l.i c.mark_number.result ≡ in_each f 1 a.p a.step (l.i + 1) d ++ drop (l.i + 1) a.out.now =
-    rw (l.invariant.1.whole, c.mark_number.ensures.0) (marks-turn a.b.now a.at a.p a.step f a.out.now l.i (omega arith)) in
-    (omega arith, same_front (in_each f 1 a.p a.step (l.i + 1) d) a.out.now _ (l.i + 1) e (length-each f 1 a.p a.step (l.i + 1) d ∙ omega arith) (omega arith))
-
-pub shape_of-out : goal.shape_of-out
-shape_of-out c = c.loop-i.invariant.1.same
+    rw (l.invariant.whole, c.mark_number.ensures.0) (marks-turn a.b.now a.at a.p a.step f a.out.now l.i (omega arith)) in
+    (same_front (in_each f 1 a.p a.step (l.i + 1) d) a.out.now _ (l.i + 1) e (length-each f 1 a.p a.step (l.i + 1) d ∙ omega arith) (omega arith))
 
 pub returns : goal.returns
 returns c =
@@ -65,4 +56,4 @@ returns c =
     let e : l.i ≡ a.k = omega arith in
     let f = mark_field a.field in
     let z : length (in_each f 1 a.p a.step a.k (drop a.at a.b.now)) ≡ a.k = length-each f 1 a.p a.step a.k (drop a.at a.b.now) ∙ omega arith in
-    rw z (rw e at l.invariant.1.whole)
+    rw z (rw e at l.invariant.whole)

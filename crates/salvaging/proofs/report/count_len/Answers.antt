@@ -1,6 +1,6 @@
 -- `salvaging::report::count_len` meets its contract.
 use native.Mathlib.Omega.{arith}
-use Rattle.salvaging.proofs.Sizes.{count-length}
+use Rattle.salvaging.proofs.Lengths.{count-length}
 use Rattle.salvaging.proofs.report.count_len.Goals as goal
 
 pub returns : goal.returns

@@ -2,7 +2,7 @@
 use mathlib.Core.Path.{ap}
 use native.Mathlib.Omega.{arith}
 use lib.ListN.{length}
-use Rattle.salvaging.proofs.Sizes.{lines_kept, dropped_length}
+use Rattle.salvaging.proofs.Lengths.{lines_kept, dropped_length}
 use Rattle.salvaging.proofs.report.fate_len.Goals as goal
 
 pub returns-in-Kept : goal.returns-in-Kept

@@ -4,7 +4,7 @@ use Rattle.text.specs.Text.{decimal}
 use Rattle.text.proofs.Stores.{one, next}
 use Rattle.lines.specs.Lines.{blank, newline}
 use Rattle.salvaging.specs.Report.{drop_word, drop_line}
-use Rattle.salvaging.proofs.Sizes.{cause-length, drop-length}
+use Rattle.salvaging.proofs.Lengths.{cause-length, drop-length}
 use Rattle.salvaging.proofs.report.put_drop.Goals as goal
 
 pub put_bytes-number-requires : goal.put_bytes-number-requires

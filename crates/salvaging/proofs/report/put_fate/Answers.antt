@@ -3,7 +3,7 @@ use mathlib.Core.Path.{refl, sym, ap}
 use native.Mathlib.Nat.{add-zero}
 use native.Mathlib.Omega.{arith}
 use lib.ListN.{length}
-use Rattle.salvaging.proofs.Sizes.{lines_kept, lines_dropped}
+use Rattle.salvaging.proofs.Lengths.{lines_kept, lines_dropped}
 use Rattle.salvaging.proofs.report.put_fate.Goals as goal
 
 pub put_drop-requires : goal.put_drop-requires

@@ -1,12 +1,8 @@
--- What the loops of `salvaging::walks::put_part` keep.
-use Prim.Native.Nat.{◌-◌, ◌≤◌}
+-- What the loop of `salvaging::walks::put_part` keep.
 use Rattle.salvaging.specs.Layout.{part_of}
 use Rattle.salvaging.proofs.Goes.{Goes}
 use Rattle.salvaging.proofs.Walk.{left_of}
 use Rattle.salvaging.proofs.walks.put_part.Given as goal
 
 abbrev pub invariant-loop-i : goal.invariant-loop-i
-invariant-loop-i l = (l.i ≤ l.n) × Goes l.initial.out l.at (part_of l.part l.file l.n) l.out l.end (left_of l.part l.file l.n l.last l.i)
-
-abbrev pub decreases-loop-i : goal.decreases-loop-i
-decreases-loop-i l = l.n - l.i
+invariant-loop-i l = Goes l.initial.out l.at (part_of l.part l.file l.n) l.out l.end (left_of l.part l.file l.n l.last l.i)

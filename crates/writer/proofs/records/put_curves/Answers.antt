@@ -2,8 +2,7 @@
 use mathlib.Core.Path.{◌≡◌, refl, ap, ◌∙◌}
 use Prim.Native.Nat.{ℕ, ◌+◌, ◌*◌, ◌<◌, ◌≤◌}
 use native.Mathlib.Omega.{arith}
-use lib.ListN.{length, take}
-use lib.Seq.{sets, length-sets}
+use lib.ListN.{length}
 use Rattle.form.specs.Form.{width, worsts_for}
 use Rattle.house.specs.Limits.{curve_bytes}
 use Rattle.house.specs.File.{flat, curve_records}
@@ -16,7 +15,7 @@ overflow_add-step c = omega (arith, body-few c.args.form c.args.field, c.body_by
 
 pub loop-i-init : goal.loop-i-init
 unfolding flat curve_records
-loop-i-init c = (omega arith, (refl, refl))
+loop-i-init c = refl
 
 pub overflow_mul-step : goal.overflow_mul-step
 overflow_mul-step c =
@@ -32,7 +31,7 @@ pub put_curve-requires : goal.put_curve-requires
 put_curve-requires c =
     let inside : let a = c.args in let step = 6 + c.body_bytes-step.result in (step * c.loop-i.i + step ≤ step * a.k) × (step * a.k ≡ curve_bytes a.form a.field * a.k) = let a = c.args in (within (6 + c.body_bytes-step.result) a.k c.loop-i.i (omega arith), ap (λ (x : ℕ). (6 + x) * a.k) c.body_bytes-step.ensures) in
     let i = c.loop-i.i in (
-      omega (arith, inside, c.body_bytes-step.ensures, c.loop-i.invariant.1.1, c.requires.0),
+      omega (arith, inside, c.body_bytes-step.ensures, c.requires.0),
       (
         omega (arith, c.requires.1.0),
         (
@@ -42,27 +41,18 @@ put_curve-requires c =
       ),
     )
 
-pub loop-i-smaller : goal.loop-i-smaller
-loop-i-smaller c = omega arith
-
 pub loop-i-preserved : goal.loop-i-preserved
 loop-i-preserved c =
     let l = c.loop-i in
     let a = c.args in
-    let rs = flat (curve_records a.form a.field (take (l.i + 1) a.firsts.now) (take (worsts_for a.form (l.i + 1)) a.worsts.now) (take (width a.form * (l.i + 1)) a.curves.now)) in
     let h : l.i < length a.firsts.now = omega (arith, c.requires.1.0) in
     let w : worsts_for a.form (l.i + 1) ≤ length a.worsts.now = omega (arith, worsts_within a.form a.k l.i (omega arith), c.requires.1.1.0) in
     let n : width a.form * (l.i + 1) ≤ length a.curves.now = omega (arith, within (width a.form) a.k l.i (omega arith), c.requires.1.1.1) in
-    let e : c.put_curve.new.out ≡ sets a.out.now a.at rs =
-    c.put_curve.ensures ∙ rw (l.invariant.1.0, c.body_bytes-step.ensures) (curves-put a.form a.field a.out.now a.firsts.now a.worsts.now a.curves.now a.at l.i h w n) in
-    (omega arith, (e, ap length e ∙ length-sets a.out.now a.at rs))
-
-pub shape_of-out : goal.shape_of-out
-shape_of-out c = c.loop-i.invariant.1.1
+    c.put_curve.ensures ∙ rw (l.invariant, c.body_bytes-step.ensures) (curves-put a.form a.field a.out.now a.firsts.now a.worsts.now a.curves.now a.at l.i h w n)
 
 pub returns : goal.returns
 returns c =
     let l = c.loop-i in
     let a = c.args in
     let e : l.i ≡ a.k = omega arith in
-    rw e at l.invariant.1.0
+    rw e at l.invariant
