@@ -1,7 +1,7 @@
 -- A fit refuses by 1 to 6 and by no other number: the bounds that end the recursions of the definitions are out of reach. Assumes nothing.
 use Prim.Native.Nat.{ℕ, zero, suc, ◌+◌, ◌-◌, ◌*◌, ◌%◌, ◌≤◌, ◌<◌}
 use native.Mathlib.Omega.{arith}
-use mathlib.Core.Path.{◌≡◌, refl, ap, ◌∙◌}
+use mathlib.Core.Path.{◌≡◌, refl, sym, ap, ◌∙◌}
 use mathlib.Core.Logic.{◌⊎◌, inl, inr}
 use mathlib.Core.Bool.{Bool, true, false, not, cond}
 use mathlib.Core.List.{List}
@@ -29,7 +29,7 @@ use Rattle.gate.proofs.Tests.{passed, passed-even}
 use Rattle.tangents.specs.declared.Cutting.{Cutting}
 use Rattle.blocks.specs.Blocks.{block_at, block_of, last_of, blocks, blocks_from, blocks_of}
 use Rattle.tangents.specs.Ways.{over, outline_of, marks_of, ways_of}
-use Rattle.fit.specs.Fit.{Ending, fitted_answer, ending, ended, entered, fit_of, are_tangents, cubic_gate, cubic_of}
+use Rattle.fit.specs.Fit.{Ending, ending, ended, entered, fit_of, are_tangents, cubic_gate, cubic_of}
 use Rattle.blocks.proofs.Blocks.{usable_block}
 use Rattle.fit.proofs.Entries.{size_within, cubic_passed, passed-usable}
 use Rattle.accepted.specs.Refusals.{Before, Inside, FitRefuses, DirectRefuses}
@@ -131,7 +131,7 @@ module _ (q g : ℕ) (R : Run) (C C' : List Float) (F F' W W' : List ℕ) (P P' 
       go false e h = inl (before l (eqb-false g 0 e) h)
 
 pub fit_refuses : FitRefuses
-unfolding fitted_answer fit_of blocks_of
+unfolding fit_of blocks_of
 fit_refuses k ms tol q C C' F F' W W' P P' h =
     refuses q g (blocks_of k ws (block_size (count ws)) tol) C C' F F' W W' P P' (gate-most most_marks (outline_of k) Nine (again (outline_of k) + count ms - 1) ms tol (length C) (length F) (length W) (length P)) stops h
   where
@@ -149,9 +149,9 @@ fit_refuses k ms tol q C C' F F' W W' P P' h =
         blocks_stop k ws (count ws) (block_size (count ws)) tol even (passed-usable p) (size_within (count ws) (block_size (count ws)) refl).0 e.1
 
 pub direct_refuses : DirectRefuses
-unfolding fitted_answer cubic_of
+unfolding cubic_of
 direct_refuses ms s e tol q C C' F F' W W' P P' h =
-    refuses q g (run_of ms 0 s e tol) C C' F F' W W' P P' (cubic_most ms s e tol (length C) (length F) (length W) (length P)) (λ z. let p = cubic_passed ms s e tol (length C) (length F) (length W) (length P) g refl z in run_stops ms 0 s e tol (let two = p.two in omega arith) (passed-usable p)) h
+    refuses q g (run_of ms 0 s e tol) C C' F F' W W' P P' (cubic_most ms s e tol (length C) (length F) (length W) (length P)) (λ z. let p = cubic_passed ms s e tol (length C) (length F) (length W) (length P) (sym z) in run_stops ms 0 s e tol (let two = p.two in omega arith) (passed-usable p)) h
   where
     g : ℕ
     g = cubic_gate ms s e tol (length C) (length F) (length W) (length P)

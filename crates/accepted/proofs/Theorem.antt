@@ -1,5 +1,5 @@
 -- Demand 3: every list that the joined, the ring or the direct fit accepts is sound, with the same marks and tolerance. Assumes nothing.
-use mathlib.Core.Path.{◌≡◌, refl, ap, ◌∙◌}
+use mathlib.Core.Path.{◌≡◌, refl, sym, ap, ◌∙◌}
 use mathlib.Core.Bool.{Bool, true, false, cond}
 use mathlib.Core.List.{List, ◌++◌}
 use Prim.Native.Nat.{ℕ, ◌+◌, ◌-◌, ◌*◌, ◌≤◌, ◌<◌}
@@ -35,7 +35,7 @@ use Rattle.tangents.specs.declared.Cutting.{Cutting}
 use Rattle.tangents.specs.declared.Cutting.TheVariants.{Joined, Ring}
 use Rattle.blocks.specs.Blocks.{blocks_of}
 use Rattle.marks.specs.Block.{block_size}
-use Rattle.fit.specs.Fit.{Ending, fitted_answer, ending, ended, entered, fit_of, cubic_gate, cubic_of}
+use Rattle.fit.specs.Fit.{Ending, ending, ended, entered, fit_of, cubic_gate, cubic_of}
 use Rattle.fit.proofs.Entries.{size_within, cubic_passed, passed-usable}
 use Rattle.faults.specs.Tests.{first_at, curve_at, stop_at, curve_finite, square_at, unmeasured, farthest}
 use Rattle.faults.proofs.Farther.{farther_same}
@@ -256,7 +256,7 @@ module _ (ms : List Float) (tol : Float) (k : ℕ) (C C' : List Float) (F F' W W
   unfolding cubic_of
   direct_passing s e h =
       let d = accepted-done ms tol k C C' F F' W W' P P' (cubic_gate ms s e tol (length C) (length F) (length W) (length P)) (run_of ms 0 s e tol) h in
-      let g = cubic_passed ms s e tol (length C) (length F) (length W) (length P) (cubic_gate ms s e tol (length C) (length F) (length W) (length P)) refl d.let_pass in
+      let g = cubic_passed ms s e tol (length C) (length F) (length W) (length P) (sym d.let_pass) in
       let two = g.two in
       same_lists Open ms tol k _ C' _ F' _ W' _ P' d.curves d.firsts d.worsts d.params
       (laid_passing Open ms tol k 512 d.cs C d.bs F W d.ps P (omega arith) g d.many
@@ -270,7 +270,6 @@ module _ (o : Outline) (ms : List Float) (tol : Float) (k : ℕ) (C : List Float
   passing_passes h = same_checked answer checked.Passed (checks ∙ sound-passes o Nine ms tol k C F W P h.taken h.sound)
 
 blocks_pass : (cutting : Cutting) → over cutting ≡ 1 → BlocksPass cutting
-unfolding fitted_answer
 blocks_pass cutting meet ms tol k C C' F F' W W' P P' answer fits checks = passing_passes (outline_of cutting) ms tol k C' F' W' P' answer checks (blocks_passing ms tol k C C' F F' W W' P P' cutting meet fits)
 
 pub joined-passes : JoinedPasses
@@ -282,11 +281,10 @@ unfolding over
 ring_passes = blocks_pass Ring refl
 
 pub direct_passes : DirectPasses
-unfolding fitted_answer
 direct_passes ms s e tol k C C' F F' W W' P P' answer fits checks = passing_passes Open ms tol k C' F' W' P' answer checks (direct_passing ms tol k C C' F F' W W' P P' s e fits)
 
 pub fit_closes : FitCloses
-unfolding fitted_answer over
+unfolding over
 fit_closes ms tol k C C' F F' W W' P P' fits =
     let h = blocks_passing ms tol k C C' F F' W W' P P' Ring refl fits in
     let g = passed_for most_marks Closed Nine k ms tol (length C') (length F') (length W') (length P') h.taken in

@@ -1,10 +1,10 @@
 -- By which numbers a fit refuses, and what its slices hold then. Definitions only.
 use Rattle.std.specs.Prelude.{ℕ, ◌≤◌, ◌≡◌, ◌⊎◌, List, length, replicate, Float}
 use Rattle.float.specs.Number.{f0}
+use Rattle.float.specs.Answer.{refused}
 use Rattle.plane.specs.declared.Point.{Point}
-use Rattle.cut.specs.declared.Fitted.TheVariants.{Refused}
 use Rattle.tangents.specs.declared.Cutting.{Cutting}
-use Rattle.fit.specs.Fit.{fitted_answer, ending, fit_of, cubic_of}
+use Rattle.fit.specs.Fit.{ending, fit_of, cubic_of}
 
 -- 1 to 5, before the run: the slices are as they were. A slice is C before the call and C' after it
 pub record Before (q : ℕ) (C C' : List Float) (F F' W W' : List ℕ) (P P' : List Float) : Type 0 where
@@ -27,12 +27,12 @@ pub record Inside (q : ℕ) (C C' : List Float) (F F' W W' : List ℕ) (P P' : L
 abbrev pub FitRefuses : Type 0
 FitRefuses =
     (k : Cutting) (ms : List Float) (tol : Float) (q : ℕ) (C C' : List Float) (F F' W W' : List ℕ) (P P' : List Float)
-    → ending (fitted_answer (Refused q)) C' F' W' P' ≡ fit_of k ms tol C F W P
+    → ending (refused q) C' F' W' P' ≡ fit_of k ms tol C F W P
     → Before q C C' F F' W W' P P' ⊎ Inside q C C' F F' W W' P P'
 
 -- and so does the direct fit
 abbrev pub DirectRefuses : Type 0
 DirectRefuses =
     (ms : List Float) (s e : Point) (tol : Float) (q : ℕ) (C C' : List Float) (F F' W W' : List ℕ) (P P' : List Float)
-    → ending (fitted_answer (Refused q)) C' F' W' P' ≡ cubic_of ms s e tol C F W P
+    → ending (refused q) C' F' W' P' ≡ cubic_of ms s e tol C F W P
     → Before q C C' F F' W W' P P' ⊎ Inside q C C' F F' W W' P P'

@@ -94,13 +94,12 @@ shares_pop d n l h = subst (λ (k : ℕ). shares d k l ≡ of d (get_or l (n - 1
     back n h = omega arith
 
 -- ---- the loop
-pub record Counting (p : Six) (most : ℕ) (counts : List ℕ) (waiting : List Waiting) (n left : ℕ) : Type 0 where
+pub record Counting (p : Six) (most : ℕ) (counts : List ℕ) (waiting : List Waiting) (n taken : ℕ) : Type 0 where
   pub high : n ≤ 65
-  pub spare : left ≤ 2048
   pub rows : length counts ≡ 64
   pub places : length waiting ≡ 65
   pub under : (d : ℕ) → get_or counts d 0 ≤ most
-  pub few : (d : ℕ) → get_or counts d 0 + left ≤ 2048
+  pub few : (d : ℕ) → get_or counts d 0 ≤ taken
   pub all : (d : ℕ) → d ≤ 63 → live_at binary64 d p ≤ get_or counts d 0 + shares d n waiting
 
 abbrev pub nothing : List ℕ → Bool
@@ -122,15 +121,14 @@ none_at (x ∷ xs) h (suc d) = none_at xs (rest (eqb x 0) (nothing xs) h) d
     rest false false h = h
 
 pub start : (most : ℕ) (counts : List ℕ) (waiting : List Waiting) → length counts ≡ 64 → length waiting ≡ 65 → nothing counts ≡ true → (get_or waiting 0 blank).depth ≡ 0
-    → Counting (get_or waiting 0 blank).p most counts waiting 1 2048
+    → Counting (get_or waiting 0 blank).p most counts waiting 1 0
 unfolding shares share
 start most counts waiting rows places zero-all top = record {
   high = omega arith;
-  spare = omega arith;
   rows = rows;
   places = places;
   under = λ d. le_trans (le_of_eq (none_at counts zero-all d)) zero-le;
-  few = λ d. omega (arith, none_at counts zero-all d);
+  few = λ d. le_of_eq (none_at counts zero-all d);
   all = λ d h. whole d;
 }
   where
@@ -143,7 +141,7 @@ start most counts waiting rows places zero-all top = record {
     whole : (d : ℕ) → live_at binary64 d (get_or waiting 0 blank).p ≤ get_or counts d 0 + shares d 1 waiting
     whole d = more _ _ (get_or counts d 0) (rw (top, le-leb 0 d zero-le, itself d))
 
-module _ (p : Six) (most : ℕ) (counts : List ℕ) (waiting : List Waiting) (n left : ℕ) (g : Counting p most counts waiting n left) where
+module _ (p : Six) (most : ℕ) (counts : List ℕ) (waiting : List Waiting) (n taken : ℕ) (g : Counting p most counts waiting n taken) where
   pub done : n ≤ 0 → (d : ℕ) → d ≤ 63 → live_at binary64 d p ≤ most
   unfolding shares
   done h d k = le_trans (g.all d k) (le_trans (le_of_eq (ap (λ (n : ℕ). get_or counts d 0 + shares d n waiting) (none n h))) (last (get_or counts d 0) most (g.under d)))
@@ -154,31 +152,30 @@ module _ (p : Six) (most : ℕ) (counts : List ℕ) (waiting : List Waiting) (n 
       last : (a b : ℕ) → a ≤ b → a + 0 ≤ b
       last a b h = omega arith
 
-  module _ (more : 0 < n) (some : left ≡ 0 → ⊥) where
+  module _ (more : 0 < n) where
     abbrev top : Waiting
     top = get_or waiting (n - 1) blank
 
-    less : (x l : ℕ) → (l ≡ 0 → ⊥) → x + l ≤ 2048 → x + (l - 1) ≤ 2048
-    less x l h k = omega arith
+    less : (x n : ℕ) → x ≤ n → x ≤ n + 1
+    less x n h = omega arith
 
-    passes : ((d : ℕ) → d ≤ 63 → of d top ≡ 0) → Counting p most counts waiting (n - 1) (left - 1)
+    passes : ((d : ℕ) → d ≤ 63 → of d top ≡ 0) → Counting p most counts waiting (n - 1) (taken + 1)
     passes e = record {
       high = omega (arith, g.high);
-      spare = omega (arith, g.spare);
       rows = g.rows;
       places = g.places;
       under = g.under;
-      few = λ d. less (get_or counts d 0) left some (g.few d);
+      few = λ d. less _ _ (g.few d);
       all = λ d h. drop _ _ _ (shares d (n - 1) waiting) _ (g.all d h) (shares_pop d n waiting more) (e d h);
     }
       where
         drop : (a b x y z : ℕ) → a ≤ b + z → z ≡ x + y → x ≡ 0 → a ≤ b + y
         drop a b x y z h k l = omega arith
 
-    pub too_deep : 64 ≤ top.depth → Counting p most counts waiting (n - 1) (left - 1)
+    pub too_deep : 64 ≤ top.depth → Counting p most counts waiting (n - 1) (taken + 1)
     too_deep h = passes (λ d k. share_above d top.p top.depth (omega arith))
 
-    pub dead : live top.p ≡ false → Counting p most counts waiting (n - 1) (left - 1)
+    pub dead : live top.p ≡ false → Counting p most counts waiting (n - 1) (taken + 1)
     dead e = passes (λ d k. share_dead d top.p top.depth e)
 
     -- a live section is counted, and its halves wait in its place
@@ -214,15 +211,14 @@ module _ (p : Six) (most : ℕ) (counts : List ℕ) (waiting : List Waiting) (n 
         | inr ne ↦ le_trans (le_of_eq (elsewhere d ne)) (g.under d)
       ]
 
-      spared : (d : ℕ) → get_or counts' d 0 + (left - 1) ≤ 2048
+      spared : (d : ℕ) → get_or counts' d 0 ≤ taken + 1
       spared d = elim (which d) [
-        | inl e ↦ subst (λ (x : ℕ). get_or counts' x 0 + (left - 1) ≤ 2048) (sym e) (one _ _ left some here (g.few k))
-        | inr ne ↦ le_trans (le_of_eq (ap (λ (x : ℕ). x + (left - 1)) (elsewhere d ne))) (less (get_or counts d 0) left some (g.few d))
+        | inl e ↦ subst (λ (x : ℕ). get_or counts' x 0 ≤ taken + 1) (sym e) (one _ _ taken here (g.few k))
+        | inr ne ↦ le_trans (le_of_eq (elsewhere d ne)) (less _ _ (g.few d))
       ]
         where
-          one : (x y l : ℕ) → (l ≡ 0 → ⊥) → y ≡ x + 1 → x + l ≤ 2048 → y + (l - 1) ≤ 2048
-          one x y zero h e f = absurd (h refl)
-          one x y (suc l) h e f = omega arith
+          one : (x y l : ℕ) → y ≡ x + 1 → x ≤ l → y ≤ l + 1
+          one x y l e f = omega arith
 
       -- what was below the section is counted, or below its halves
       shared : (d : ℕ) → get_or counts d 0 + of d top ≤ get_or counts' d 0 + (of d L + of d R)
@@ -240,10 +236,9 @@ module _ (p : Six) (most : ℕ) (counts : List ℕ) (waiting : List Waiting) (n 
       inside : n - 1 + 1 < length waiting
       inside = subst (λ (m : ℕ). n - 1 + 1 < m) (sym g.places) (omega arith)
 
-      pub splits : Counting p most counts' (set (set waiting (n - 1) R) (n - 1 + 1) L) (n - 1 + 2) (left - 1)
+      pub splits : Counting p most counts' (set (set waiting (n - 1) R) (n - 1 + 1) L) (n - 1 + 2) (taken + 1)
       splits = record {
         high = omega arith;
-        spare = omega (arith, g.spare);
         rows = length-set counts k (get_or counts k 0 + 1) ∙ g.rows;
         places = length-set (set waiting (n - 1) R) (n - 1 + 1) L ∙ length-set waiting (n - 1) R ∙ g.places;
         under = below;
@@ -253,3 +248,7 @@ module _ (p : Six) (most : ℕ) (counts : List ℕ) (waiting : List Waiting) (n 
         where
           moved : (a c c' s w z l r : ℕ) → (z' : ℕ) → a ≤ c + z → z ≡ s + w → z' ≡ l + (r + w) → c + s ≤ c' + (l + r) → a ≤ c' + z'
           moved a c c' s w z l r z' h e f k = omega arith
+
+pub alike : {p : Six} {most taken : ℕ} (counts counts' : List ℕ) (waiting waiting' : List Waiting) (n n' : ℕ)
+    → Counting p most counts waiting n taken → counts' ≡ counts → waiting' ≡ waiting → n' ≡ n → Counting p most counts' waiting' n' taken
+alike counts counts' waiting waiting' n n' g c w e = rw (c, w, e) g

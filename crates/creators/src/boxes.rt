@@ -102,10 +102,8 @@ fn extend(diagonals: [f64; 36], x: f64, k: usize) -> [f64; 36]
 {
     let mut next = diagonals;
     next[6 * k] = x;
-    let mut j = 0;
-    while j < k {
+    for j in 0..k {
         next[6 * k + j + 1] = middle(next[6 * k + j], next[6 * (k - 1) + j]);
-        j += 1;
     }
     next
 }
@@ -140,9 +138,7 @@ pub fn all() -> Tally {
     let mut p = [0.0; 6];
     let mut diagonals = [0.0; 36];
     let mut k: usize = 0;
-    let mut left = MOST_STEPS;
-    while left > 0 {
-        left -= 1;
+    for _ in 0..MOST_STEPS {
         let i = numbers[k];
         if i >= 2 * (bound(k) + MARGIN + 1) {
             if k == 0 {

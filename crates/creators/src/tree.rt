@@ -155,12 +155,10 @@ pub fn within(p: Six, most: u64) -> bool
     let mut counts = [0u64; 64];
     let mut waiting = [Waiting { p, depth: 0 }; 65];
     let mut n: usize = 1;
-    let mut left = MOST_LOOKS;
-    while n > 0 {
-        if left == 0 {
-            return false;
+    for _ in 0..MOST_LOOKS {
+        if n == 0 {
+            break;
         }
-        left -= 1;
         n -= 1;
         let w = waiting[n];
         let depth = w.depth;
@@ -189,5 +187,5 @@ pub fn within(p: Six, most: u64) -> bool
             }
         }
     }
-    true
+    n == 0
 }

@@ -11,20 +11,19 @@ use lib.Ieee.{Float}
 use borrow.Author.Tests.{le-ltb, eqb-true, eqb-false}
 use Rattle.float.specs.Answer.{ok}
 use Rattle.float.specs.Answer.{refused as no}
+use Rattle.float.specs.Refusal.{answer}
 use Rattle.limits.specs.Limits.{most_marks}
 use Rattle.marks.specs.Marks.{count}
 use Rattle.marks.specs.Block.{block_size}
 use Rattle.form.specs.declared.Form.TheVariants.{Nine}
 use Rattle.ring.specs.Ring.{again}
 use Rattle.cut.specs.Run.{Run}
-use Rattle.cut.specs.declared.Fitted.TheVariants.{Curves, Refused}
 use Rattle.tangents.specs.Ways.{outline_of}
 use Rattle.parts.specs.declared.Heading.{Heading}
 use Rattle.parts.specs.declared.Heading.TheVariants.{Given, By}
 use Rattle.parts.specs.Headings.{marks_in}
 use Rattle.waiting.specs.Waiting.{run_in}
-use Rattle.fit.specs.Fit.{Ending, fitted_answer, ending, ended, entered, fit_of, cubic_of}
-use Rattle.fit.proofs.Agree.{same_fitted}
+use Rattle.fit.specs.Fit.{Ending, ending, ended, entered, fit_of, cubic_of}
 use Rattle.flat_fit.specs.Flat.{FlatEnding, flat_ending, gate_in, open_gate, none_open, flat_of}
 use Rattle.flat_fit.proofs.Flat.{opened, none_open_is}
 use Rattle.accepted.proofs.Theorem.{joined-passes, ring_passes, direct_passes}
@@ -49,8 +48,8 @@ had_room g o n R k C C' F F' W W' P P' e = go (eqb (open_gate g o n) 0) refl e
     go false t e = let a = ap (λ (x : Ending). x.answer) e in let z : ◌≡◌ {A = ℕ} 0 1 = cc in absurd (omega arith)
 
 accepted : (h : Heading) (ms : List Float) (tol : Float) (k : ℕ) (C C' : List Float) (F F' W W' : List ℕ) (P P' : List Float) (O O' : List ℕ)
-    → flat_ending (fitted_answer (Curves k)) C' F' W' P' O' ≡ flat_of h ms tol C F W P O → ending (fitted_answer (Curves k)) C' F' W' P' ≡ first_of h ms tol C F W P
-unfolding fitted_answer flat_of
+    → flat_ending (ok k) C' F' W' P' O' ≡ flat_of h ms tol C F W P O → ending (ok k) C' F' W' P' ≡ first_of h ms tol C F W P
+unfolding flat_of
 accepted h ms tol k C C' F F' W W' P P' O O' e =
     let f = ap (λ (x : FlatEnding). x.fit) e in
     f ∙ engines_agree h ms tol C F W P O (had_room (gate_in h ms tol (length C) (length F) (length W) (length P)) (length O) (count ms) (run_in h (marks_in h ms) (block_size (count (marks_in h ms))) tol) k C C' F F' W W' P P' f)
@@ -78,7 +77,7 @@ open-most g o n h = go (ltb o (2 * n) && (eqb g 0 || eqb g 5))
     go false = h
 
 pub flat_leaves : Leaves
-unfolding flat_of fitted_answer
+unfolding flat_of
 flat_leaves h ms tol r C C' F F' W W' P P' O O' e =
     go (eqb g 0) refl (ap (λ (x : FlatEnding). x.fit) e) (ap (λ (x : FlatEnding). x.parts) e)
   where
@@ -88,12 +87,12 @@ flat_leaves h ms tol r C C' F F' W W' P P' O O' e =
     most : g ≤ 5
     most = open-most (gate_in h ms tol (length C) (length F) (length W) (length P)) (length O) (count ms) (in_most h ms tol (length C) (length F) (length W) (length P))
 
-    go : (b : Bool) → eqb g 0 ≡ b → ending (fitted_answer r) C' F' W' P' ≡ cond b (ended (run_in h (marks_in h ms) (block_size (count (marks_in h ms))) tol) C F W P) (ending (no g) C F W P) → O' ≡ cond b (none_open (run_in h (marks_in h ms) (block_size (count (marks_in h ms))) tol) O) O
+    go : (b : Bool) → eqb g 0 ≡ b → ending (answer r) C' F' W' P' ≡ cond b (ended (run_in h (marks_in h ms) (block_size (count (marks_in h ms))) tol) C F W P) (ending (no g) C F W P) → O' ≡ cond b (none_open (run_in h (marks_in h ms) (block_size (count (marks_in h ms))) tol) O) O
         → Untouched r C C' F F' W W' P P' O O' ⊎ (O' ≡ replicate (length O) 0)
     go true t x y = inr (y ∙ sym (none_open_is (run_in h (marks_in h ms) (block_size (count (marks_in h ms))) tol) O))
     go false t x y = inl (record {
       number = g;
-      is = same_fitted r (Refused g) (ap (λ (x : Ending). x.answer) x);
+      is = ap (λ (x : Ending). x.answer) x;
       least = let z : (g ≡ 0 → ⊥) = eqb-false g 0 t in omega (arith, z);
       most = most;
       curves = ap (λ (x : Ending). x.curves) x;

@@ -1,15 +1,16 @@
 -- The second engine beside the first. Definitions only.
-use Rattle.std.specs.Prelude.{ℕ, ◌*◌, ◌≤◌, ◌≡◌, ◌⊎◌, List, length, replicate, Float}
+use Rattle.std.specs.Prelude.{ℕ, Result, ◌*◌, ◌≤◌, ◌≡◌, ◌⊎◌, List, length, replicate, Float}
+use Rattle.float.specs.Answer.{ok, refused}
+use Rattle.float.specs.Refusal.{answer}
+use Rattle.float.specs.declared.refusal.Refusal.{Refusal}
 use Rattle.marks.specs.Marks.{count}
 use Rattle.form.specs.declared.Form.TheVariants.{Nine}
-use Rattle.cut.specs.declared.Fitted.{Fitted}
-use Rattle.cut.specs.declared.Fitted.TheVariants.{Curves, Refused}
 use Rattle.tangents.specs.declared.Cutting.TheVariants.{Joined, Ring}
 use Rattle.tangents.specs.declared.Ways.{Ways}
 use Rattle.parts.specs.declared.Heading.{Heading}
 use Rattle.parts.specs.declared.Heading.TheVariants.{Given, By}
 use Rattle.parts.specs.Headings.{outline_in}
-use Rattle.fit.specs.Fit.{Ending, fitted_answer, fit_of, cubic_of}
+use Rattle.fit.specs.Fit.{Ending, fit_of, cubic_of}
 use Rattle.checker.specs.Check.{check_of, checked_answer}
 use Rattle.checker.specs.declared.Checked.{Checked}
 use Rattle.checker.specs.declared.Checked.TheVariants.{Passed}
@@ -31,7 +32,7 @@ Agree =
 abbrev pub FlatPasses : Heading → Type 0
 FlatPasses h =
     (ms : List Float) (tol : Float) (k : ℕ) (C C' : List Float) (F F' W W' : List ℕ) (P P' : List Float) (O O' : List ℕ) (answer : Checked)
-    → flat_ending (fitted_answer (Curves k)) C' F' W' P' O' ≡ flat_of h ms tol C F W P O
+    → flat_ending (ok k) C' F' W' P' O' ≡ flat_of h ms tol C F W P O
     → checked_answer answer ≡ check_of (outline_in h) Nine ms tol k C' F' W' P'
     → answer ≡ Passed
 
@@ -45,9 +46,9 @@ abbrev pub DirectFlatPasses : Type 0
 DirectFlatPasses = (w : Ways) → FlatPasses (Given w)
 
 -- a call that was refused before its run: by 1 to 5, and all five slices are as they were
-pub record Untouched (r : Fitted) (C C' : List Float) (F F' W W' : List ℕ) (P P' : List Float) (O O' : List ℕ) : Type 0 where
+pub record Untouched (r : Result ℕ Refusal) (C C' : List Float) (F F' W W' : List ℕ) (P P' : List Float) (O O' : List ℕ) : Type 0 where
   pub number : ℕ
-  pub is : r ≡ Refused number
+  pub is : answer r ≡ refused number
   pub least : 1 ≤ number
   pub most : number ≤ 5
   pub curves : C' ≡ C
@@ -59,6 +60,6 @@ pub record Untouched (r : Fitted) (C C' : List Float) (F F' W W' : List ℕ) (P 
 -- of every other call, accepted or refused by 6, no number of the slice of open parts is left
 abbrev pub Leaves : Type 0
 Leaves =
-    (h : Heading) (ms : List Float) (tol : Float) (r : Fitted) (C C' : List Float) (F F' W W' : List ℕ) (P P' : List Float) (O O' : List ℕ)
-    → flat_ending (fitted_answer r) C' F' W' P' O' ≡ flat_of h ms tol C F W P O
+    (h : Heading) (ms : List Float) (tol : Float) (r : Result ℕ Refusal) (C C' : List Float) (F F' W W' : List ℕ) (P P' : List Float) (O O' : List ℕ)
+    → flat_ending (answer r) C' F' W' P' O' ≡ flat_of h ms tol C F W P O
     → Untouched r C C' F F' W W' P P' O O' ⊎ (O' ≡ replicate (length O) 0)

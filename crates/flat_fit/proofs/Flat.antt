@@ -1,5 +1,5 @@
 -- The ends of a fit of the second engine, by the laws of the first's. Assumes nothing.
-use Prim.Native.Nat.{ℕ, ◌-◌, ◌*◌, ◌≤◌, ◌<◌}
+use Prim.Native.Nat.{ℕ, ◌+◌, ◌-◌, ◌*◌, ◌≤◌, ◌<◌}
 use native.Mathlib.Omega.{arith}
 use mathlib.Core.Path.{◌≡◌, refl, sym, ap, ◌∙◌, subst}
 use mathlib.Core.Bool.{Bool, true, false, ◌&&◌, ◌||◌, cond}
@@ -8,23 +8,30 @@ use lib.ListN.{length, replicate}
 use lib.Dec.{eqb, ltb}
 use lib.Ieee.{Float}
 use borrow.Author.Tests.{eq-eqb, ne_eqb, ltb-true, ltb-false}
+use Rattle.std.specs.Prelude.{Result}
+use Rattle.float.specs.Refusal.{number}
+use Rattle.float.specs.declared.refusal.Refusal.{Refusal}
+use Rattle.float.specs.declared.refusal.Refusal.TheVariants.{OutOfRange}
+use Rattle.float.proofs.Refusals.{numbers_differ}
 use Rattle.limits.specs.Limits.{most_marks, most_numbered}
 use Rattle.marks.specs.Marks.{count}
 use Rattle.marks.specs.Block.{block_size}
+use Rattle.ring.specs.Ring.{again}
+use Rattle.ring.specs.declared.Outline.{Outline}
 use Rattle.ring.specs.declared.Outline.TheVariants.{Closed}
+use Rattle.ring.proofs.Whole.{whole-count}
 use Rattle.gate.specs.Gate.{gate_of}
-use Rattle.gate.proofs.Tests.{Passed, passed}
+use Rattle.gate.proofs.Tests.{never_zero, Passed, passed, passed-even}
 use Rattle.cut.specs.Run.{Run, refused, done}
 use Rattle.cut.specs.Lent.{Left}
-use Rattle.cut.specs.declared.Fitted.{Fitted}
 use Rattle.tangents.specs.declared.Ways.{Ways}
 use Rattle.tangents.specs.declared.Cutting.{Cutting}
 use Rattle.tangents.specs.Ways.{outline_of}
 use Rattle.fit.specs.Fit.{Ending, entered, cubic_gate}
-use Rattle.fit.proofs.Entries.{cubic_passed, size_within}
+use Rattle.fit.proofs.Entries.{cubic_passed, size_within, Fit}
 use Rattle.parts.specs.declared.Heading.{Heading}
 use Rattle.parts.specs.declared.Heading.TheVariants.{Given, By}
-use Rattle.parts.specs.Headings.{outline_in}
+use Rattle.parts.specs.Headings.{outline_in, marks_in}
 use Rattle.waiting.specs.Waiting.{run_in}
 use Rattle.waiting.specs.Lent.{Joins, Meeting}
 use Rattle.flat_fit.specs.Flat.{gate_in, open_gate, none_open, flat_entered}
@@ -41,14 +48,23 @@ module _ (g o n : ℕ) where
       go true e = let l = ltb-true o (2 * n) e in absurd (omega arith)
       go false e = refl
 
-  module _ (short : o < 2 * n) where
-    -- without it they are where they refuse by another number than 5
-    pub shorter : (b : Bool) → (eqb g 0 || eqb g 5) ≡ b → cond b 4 g ≡ open_gate g o n
-    shorter b e = go (ltb o (2 * n)) refl
-      where
-        go : (a : Bool) → ltb o (2 * n) ≡ a → cond b 4 g ≡ cond (a && (eqb g 0 || eqb g 5)) 4 g
-        go true x = rw e
-        go false x = let l = ltb-false o (2 * n) x in absurd (omega arith)
+  -- without it they are where they refuse by another number than 5
+  shorter : o < 2 * n → (b : Bool) → (eqb g 0 || eqb g 5) ≡ b → cond b 4 g ≡ open_gate g o n
+  shorter short b e = go (ltb o (2 * n)) refl
+    where
+      go : (a : Bool) → ltb o (2 * n) ≡ a → cond b 4 g ≡ cond (a && (eqb g 0 || eqb g 5)) 4 g
+      go true x = rw e
+      go false x = let l = ltb-false o (2 * n) x in absurd (omega arith)
+
+module _ (o n : ℕ) (short : o < 2 * n) where
+  pub no_room : 4 ≡ open_gate 0 o n
+  no_room = shorter 0 o n short true refl
+
+  pub no_room_first : 4 ≡ open_gate 5 o n
+  no_room_first = shorter 5 o n short true refl
+
+  pub other_first : (q : Refusal) → (q ≡ OutOfRange → ⊥) → number q ≡ open_gate (number q) o n
+  other_first q h = shorter (number q) o n short false (rw (ne_eqb (number q) 0 (never_zero q), ne_eqb (number q) 5 (λ e. h (numbers_differ q OutOfRange e))))
 
 -- an open gate: the first engine's is open, and there is room
 pub opened : (g o n : ℕ) → open_gate g o n ≡ 0 → (g ≡ 0) × (2 * n ≤ o)
@@ -72,7 +88,7 @@ top_small (Given w) = omega arith
 top_small (By k) = omega arith
 
 pub passed_in : (h : Heading) (ms : List Float) (tol : Float) (c f w p : ℕ) → gate_in h ms tol c f w p ≡ 0 → Passed (top_in h) (outline_in h) ms tol c f w p
-passed_in (Given v) ms tol c f w p e = cubic_passed ms v.start v.end tol c f w p _ refl e
+passed_in (Given v) ms tol c f w p e = cubic_passed ms v.start v.end tol c f w p (sym e)
 passed_in (By k) ms tol c f w p e = passed most_marks (outline_of k) ms tol c f w p e
 
 -- ---- the size of a block
@@ -90,7 +106,7 @@ size-meets (Given w) n m s j e i = e ∙ sym i
 size-meets (By k) n m s j e i = j
 
 -- a run by blocks of that size is the run that is asked for
-pub sized : (h : Heading) (ms : List Float) (tol : Float) (n s : ℕ) (r : Fitted) (C C₁ : List Float) (F F₁ W W₁ : List ℕ) (p : List Float) → SizeIn h n s → n ≡ count ms
+pub sized : (h : Heading) (ms : List Float) (tol : Float) (n s : ℕ) (r : Result ℕ Refusal) (C C₁ : List Float) (F F₁ W W₁ : List ℕ) (p : List Float) → SizeIn h n s → n ≡ count ms
     → Left (run_in h ms s tol) r C C₁ F F₁ W W₁ p → Left (run_in h ms (block_size (count ms)) tol) r C C₁ F F₁ W W₁ p
 sized (Given w) ms tol n s r C C₁ F F₁ W W₁ p e i left = left
 sized (By k) ms tol n s r C C₁ F F₁ W W₁ p e i left = subst (λ (j : ℕ). Left (run_in (By k) ms j tol) r C C₁ F F₁ W W₁ p) (e ∙ ap block_size i) left
@@ -102,12 +118,38 @@ none_open_is (refused q) O = refl
 none_open_is (done cs bs ps) O = refl
 
 -- what it leaves, and the slice of open parts: as it was where the gate refused, and else zeros
-module _ {X : Ending} (g q : ℕ) (R : Run) (C : List Float) (F W : List ℕ) (P : List Float) (O : List ℕ) (tested : q ≡ g) (e : X ≡ entered g R C F W P) where
-  pub shut : (q ≡ 0 → ⊥) → record { fit = X; parts = O } ≡ flat_entered g R C F W P O
-  shut h = let o : O ≡ cond (eqb g 0) (none_open R O) O = rw (← tested, ne_eqb q 0 h) in λ i. record { fit = e i; parts = o i }
+module _ {X : Ending} (g : ℕ) (R : Run) (C : List Float) (F W : List ℕ) (P : List Float) (O : List ℕ) (e : X ≡ entered g R C F W P) where
+  pub shut : (q : Refusal) → number q ≡ g → record { fit = X; parts = O } ≡ flat_entered g R C F W P O
+  shut q t = let o : O ≡ cond (eqb g 0) (none_open R O) O = rw (← t, ne_eqb (number q) 0 (never_zero q)) in λ i. record { fit = e i; parts = o i }
 
-  pub through : q ≡ 0 → (O₁ O₂ : List ℕ) → O₂ ≡ replicate (length O₁) 0 → length O₁ ≡ length O → record { fit = X; parts = O₂ } ≡ flat_entered g R C F W P O
-  through h O₁ O₂ z l = let o : O₂ ≡ cond (eqb g 0) (none_open R O) O = rw (← tested, eq-eqb q 0 h, z, l) (none_open_is R O) in λ i. record { fit = e i; parts = o i }
+  pub through : g ≡ 0 → (O₁ O₂ : List ℕ) → O₂ ≡ replicate (length O₁) 0 → length O₁ ≡ length O → record { fit = X; parts = O₂ } ≡ flat_entered g R C F W P O
+  through h O₁ O₂ z l = let o : O₂ ≡ cond (eqb g 0) (none_open R O) O = rw (eq-eqb g 0 h, z, l) (none_open_is R O) in λ i. record { fit = e i; parts = o i }
+
+-- a fit of the second engine, as one of the first; n is how many marks are cut
+abbrev pub flat : Heading → List Float → Float → List Float → List ℕ → List ℕ → List Float → List ℕ → ℕ → Fit
+flat h ms tol C F W P O n =
+    record { n = n; R = run_in h (marks_in h ms) (block_size (count (marks_in h ms))) tol; C = C; F = F; W = W; P = P; g = open_gate (gate_in h ms tol (length C) (length F) (length W) (length P)) (length O) (count ms) }
+
+-- what is known behind its tests
+pub record Within (h : Heading) (ms : List Float) (tol : Float) (C : List Float) (F W : List ℕ) (P : List Float) (O : List ℕ) (n : ℕ) : Type 0 where
+  pub gate : open_gate (gate_in h ms tol (length C) (length F) (length W) (length P)) (length O) (count ms) ≡ 0
+  pub passed : Passed (top_in h) (outline_in h) ms tol (length C) (length F) (length W) (length P)
+  pub space : 2 * count ms ≤ length O
+  pub many : n ≡ again (outline_in h) + count ms
+  pub two : 2 ≤ n
+  pub room : n ≤ length P
+  pub all : n ≡ count (marks_in h ms)
+
+pub within : (h : Heading) (ms : List Float) (tol : Float) (C : List Float) (F W : List ℕ) (P : List Float) (O : List ℕ) {g m : ℕ} {o : Outline}
+    → 0 ≡ open_gate g (length O) (count ms) → g ≡ gate_in h ms tol (length C) (length F) (length W) (length P) → o ≡ outline_in h → m ≡ again o → Within h ms tol C F W P O (m + count ms)
+within h ms tol C F W P O {g} {m} {o} z is e i =
+    let gate : open_gate (gate_in h ms tol (length C) (length F) (length W) (length P)) (length O) (count ms) ≡ 0 = sym (z ∙ ap (λ (g : ℕ). open_gate g (length O) (count ms)) is) in
+    let first = opened (gate_in h ms tol (length C) (length F) (length W) (length P)) (length O) (count ms) gate in
+    let p = passed_in h ms tol (length C) (length F) (length W) (length P) first.0 in
+    let t = p.two in
+    let r = p.params in
+    let more : m ≡ again (outline_in h) = i ∙ ap again e in
+    record { gate = gate; passed = p; space = first.1; many = omega arith; two = omega arith; room = omega arith; all = rw more (sym (whole-count (outline_in h) ms (passed-even p))) }
 
 -- ---- by cases of the heading
 

@@ -4,15 +4,14 @@
 
 ghost use Rattle.std.specs.Prelude.{◌≡◌, ◌≤◌};
 ghost use Rattle.marks.specs.Marks.{count};
-ghost use Rattle.fit.specs.Fit.{fitted_answer};
+ghost use Rattle.float.specs.Refusal.{answer, refusal};
 ghost use Rattle.tangents.specs.declared.Cutting.TheVariants as variants;
 ghost use Rattle.parts.specs.declared.Heading.TheVariants as heading;
 ghost use Rattle.flat_fit.specs.Flat.{flat_ending, flat_of, gate_in, open_gate};
 ghost use Rattle.waiting.specs.Lent.{Joins};
 ghost use Rattle.flat_fit.specs.Sizes.{SizeIn};
 
-use cut::Fitted;
-use float::refusal::{NO_ROOM, OUT_OF_RANGE};
+use float::refusal::Refusal;
 use limits::MOST_MARKS;
 use parts::Heading;
 use plane::Point;
@@ -27,8 +26,8 @@ fn gate_in(
     firsts: usize,
     worsts: usize,
     params: usize,
-) -> u32
-    ensures { result ≡ gate_in heading marks.now tolerance «curves» «firsts» «worsts» «params» }
+) -> Result<(), Refusal>
+    ensures { refusal result ≡ gate_in heading marks.now tolerance «curves» «firsts» «worsts» «params» }
 {
     match heading {
         Heading::Given(ways) => {
@@ -50,17 +49,20 @@ fn gate_in(
 }
 
 // The same with room for open parts: a slice that is too short is refused before a number out of range, and after all else.
-fn open_gate(refusal: u32, marks: &[f64], room: usize) -> u32
-    ensures { result ≡ open_gate refusal «room» (count marks.now) }
+fn open_gate(passes: Result<(), Refusal>, marks: &[f64], room: usize) -> Result<(), Refusal>
+    ensures { refusal result ≡ open_gate (refusal passes) «room» (count marks.now) }
 {
     let wanted = 2 * (marks.len() / 2);
     if wanted <= room {
-        return refusal;
+        return passes;
     }
-    if (refusal == 0) | (refusal == OUT_OF_RANGE) {
-        return NO_ROOM;
+    let Err(q) = passes else {
+        return Err(Refusal::NoRoom);
+    };
+    match q {
+        Refusal::OutOfRange => Err(Refusal::NoRoom),
+        _ => Err(q),
     }
-    refusal
 }
 
 // How many marks a block has, of n: with given tangents all are one.
@@ -84,9 +86,9 @@ fn fit_flat(
     worsts: &mut [u32],
     params: &mut [f64],
     open: &mut [u32],
-) -> Fitted
+) -> Result<usize, Refusal>
     requires { Joins heading }
-    ensures { flat_ending (fitted_answer result) curves.new firsts.new worsts.new params.new «open».new ≡ flat_of heading marks.now tolerance curves.old firsts.old worsts.old params.old «open».old }
+    ensures { flat_ending (answer result) curves.new firsts.new worsts.new params.new «open».new ≡ flat_of heading marks.now tolerance curves.old firsts.old worsts.old params.old «open».old }
 {
     let first = gate_in(
         heading,
@@ -97,10 +99,7 @@ fn fit_flat(
         worsts.len(),
         params.len(),
     );
-    let refusal = open_gate(first, marks, open.len());
-    if refusal != 0 {
-        return Fitted::Refused(refusal);
-    }
+    open_gate(first, marks, open.len())?;
     let n = ring::again(parts::outline_in(heading)) + marks.len() / 2;
     let size = size_in(heading, n);
     let out = waiting::fit_waiting(
@@ -115,11 +114,11 @@ fn fit_flat(
         open,
     );
     gate::zero_numbers(open);
-    let Fitted::Curves(total) = out else {
+    let Ok(total) = out else {
         fit::zero_all(curves, firsts, worsts, params);
         return out;
     };
-    Fitted::Curves(total)
+    Ok(total)
 }
 
 // The direct fit of the second engine: what `fit::fit_curve_cubic` gives. `open` wants 2n numbers for n marks, and is left zero.
@@ -133,8 +132,8 @@ pub fn fit_curve_cubic_flat(
     worsts: &mut [u32],
     params: &mut [f64],
     open: &mut [u32],
-) -> Fitted
-    ensures { flat_ending (fitted_answer result) curves.new firsts.new worsts.new params.new «open».new ≡ flat_of (heading.Given (record { end = end; start = start })) marks.now tolerance curves.old firsts.old worsts.old params.old «open».old }
+) -> Result<usize, Refusal>
+    ensures { flat_ending (answer result) curves.new firsts.new worsts.new params.new «open».new ≡ flat_of (heading.Given (record { end = end; start = start })) marks.now tolerance curves.old firsts.old worsts.old params.old «open».old }
 {
     fit_flat(
         Heading::Given(Ways { end, start }),
@@ -157,8 +156,8 @@ pub fn fit_joined_flat(
     worsts: &mut [u32],
     params: &mut [f64],
     open: &mut [u32],
-) -> Fitted
-    ensures { flat_ending (fitted_answer result) curves.new firsts.new worsts.new params.new «open».new ≡ flat_of (heading.By variants.Joined) marks.now tolerance curves.old firsts.old worsts.old params.old «open».old }
+) -> Result<usize, Refusal>
+    ensures { flat_ending (answer result) curves.new firsts.new worsts.new params.new «open».new ≡ flat_of (heading.By variants.Joined) marks.now tolerance curves.old firsts.old worsts.old params.old «open».old }
 {
     fit_flat(
         Heading::By(Cutting::Joined),
@@ -181,8 +180,8 @@ pub fn fit_ring_flat(
     worsts: &mut [u32],
     params: &mut [f64],
     open: &mut [u32],
-) -> Fitted
-    ensures { flat_ending (fitted_answer result) curves.new firsts.new worsts.new params.new «open».new ≡ flat_of (heading.By variants.Ring) marks.now tolerance curves.old firsts.old worsts.old params.old «open».old }
+) -> Result<usize, Refusal>
+    ensures { flat_ending (answer result) curves.new firsts.new worsts.new params.new «open».new ≡ flat_of (heading.By variants.Ring) marks.now tolerance curves.old firsts.old worsts.old params.old «open».old }
 {
     fit_flat(
         Heading::By(Cutting::Ring),

@@ -1,15 +1,11 @@
 // The cases: of each a curve, a point and the Rust's parameter.
 ghost use Rattle.std.specs.Prelude.{◌+◌, ◌≤◌};
 
-use crate::compare::{Agreement, Tally, compared, count_near, count_other, count_same};
-use crate::words::{bits, number, word};
+use crate::compare::{Agreement, Tally, compared};
+use crate::words::{bits, number};
+use cases::{STDIN, STDOUT, word};
 use nearest::NearestPoint;
 use plane::{Curve, Point};
-
-// The descriptors of standard input and output.
-const STDIN: i32 = 0;
-
-const STDOUT: i32 = 1;
 
 // No more cases than this are read.
 const MOST_CASES: u64 = 100000;
@@ -40,47 +36,43 @@ fn list(line: u64, rust: u64) {
     }
 }
 
-// Counts an answer with the parameter t, and lists it where it is neither the same as the Rust's nor near.
-fn count(line: u64, t: f64, rust: u64, tally: Tally) -> Tally {
-    if rust == ENDLESS {
+// Counts an answer, and lists it where it is neither the same as the Rust's nor near.
+fn count(line: u64, agreement: Agreement, rust: u64, tally: &mut Tally) {
+    if let Agreement::Other = agreement {
         list(line, rust);
-        return count_other(tally);
     }
-    match compared(t, number(rust)) {
-        Agreement::Same => count_same(tally),
-        Agreement::Near => count_near(tally),
-        Agreement::Other => {
-            list(line, rust);
-            count_other(tally)
-        }
-    }
+    tally.count(agreement);
 }
 
 // Writes the port's answer to a case, and counts it.
-fn report(line: u64, record: [u8; 88], tally: Tally) -> Tally {
+fn report(line: u64, record: &[u8; 88], tally: &mut Tally) {
     let curve = Curve {
-        start: point(&record, 0),
-        cp1: point(&record, 16),
-        cp2: point(&record, 32),
-        end: point(&record, 48),
+        start: point(record, 0),
+        cp1: point(record, 16),
+        cp2: point(record, 32),
+        end: point(record, 48),
     };
-    let rust = word(&record, 80);
-    match nearest::nearest_point_on_curve(curve, point(&record, 64)) {
+    let rust = word(record, 80);
+    let agreement = match nearest::nearest_point_on_curve(curve, point(record, 64)) {
         NearestPoint::Found(t, distance_sq) => {
             io::write_all(STDOUT, b"0 ");
             io::print_hex(STDOUT, bits(t), 16);
             io::write_all(STDOUT, b" ");
             io::print_hex(STDOUT, bits(distance_sq), 16);
             io::write_all(STDOUT, b"\n");
-            count(line, t, rust, tally)
+            if rust == ENDLESS {
+                Agreement::Other
+            } else {
+                compared(t, number(rust))
+            }
         }
-        NearestPoint::Refused(n) => {
-            io::print_decimal(STDOUT, n as u64);
+        NearestPoint::Refused(q) => {
+            io::print_decimal(STDOUT, q.number() as u64);
             io::write_all(STDOUT, b"\n");
-            list(line, rust);
-            count_other(tally)
+            Agreement::Other
         }
-    }
+    };
+    count(line, agreement, rust, tally);
 }
 
 // Reports every case of the input.
@@ -90,14 +82,12 @@ pub fn report_all() -> Tally {
         near: 0,
         other: 0,
     };
-    let mut line: u64 = 0;
-    while line < MOST_CASES {
-        line += 1;
+    for line in 1..=MOST_CASES {
         let mut record = [0u8; 88];
         if io::read_full(STDIN, &mut record) < 88 {
             return tally;
         }
-        tally = report(line, record, tally);
+        report(line, &record, &mut tally);
     }
     tally
 }

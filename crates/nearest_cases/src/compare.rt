@@ -8,6 +8,18 @@ pub struct Tally {
     pub other: u64,
 }
 
+impl Tally {
+    // Counts one more of a kind.
+    pub fn count(&mut self, agreement: Agreement) {
+        let kind = match agreement {
+            Agreement::Same => &mut self.same,
+            Agreement::Near => &mut self.near,
+            Agreement::Other => &mut self.other,
+        };
+        *kind = kind.wrapping_add(1);
+    }
+}
+
 // Whether two parameters are the same, near, or neither. Zeros of either sign are the same.
 #[derive(Clone, Copy)]
 pub enum Agreement {
@@ -25,31 +37,4 @@ pub fn compared(t: f64, rust: f64) -> Agreement {
         return Agreement::Near;
     }
     Agreement::Other
-}
-
-// One more of the same.
-pub fn count_same(t: Tally) -> Tally {
-    Tally {
-        same: std::num::wrapping_add_u64(t.same, 1),
-        near: t.near,
-        other: t.other,
-    }
-}
-
-// One more that is near.
-pub fn count_near(t: Tally) -> Tally {
-    Tally {
-        same: t.same,
-        near: std::num::wrapping_add_u64(t.near, 1),
-        other: t.other,
-    }
-}
-
-// One more that is neither.
-pub fn count_other(t: Tally) -> Tally {
-    Tally {
-        same: t.same,
-        near: t.near,
-        other: std::num::wrapping_add_u64(t.other, 1),
-    }
 }

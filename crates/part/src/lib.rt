@@ -33,72 +33,74 @@ pub enum Tried {
     Cut(usize),
 }
 
-// One round: a Newton step for every mark, least squares, the worst distance.
-fn attempt(
-    marks: &[f64],
-    c: Curve,
-    st: Point,
-    et: Point,
-    params: &mut [f64],
-) -> Result<Solved, Refusal>
-    requires { (0 < length params.old) × (length marks.now ≡ 2 * length params.old) }
-    ensures { Solves (attempt_of marks.now st et c params.old) result params.new }
-{
-    if !stages::reparameterize(marks, c, params) {
-        return Err(Refusal::NotFinite);
-    }
-    let curve = squares::generate_bezier(marks, params, st, et)?;
-    let far = stages::max_error_for_curve(marks, curve, params)?;
-    Ok(Solved { curve, far })
+// What every round of a part goes by: its marks, the tangents at its ends, and how far off a mark may be.
+#[derive(Clone, Copy)]
+struct Piece<'a> {
+    marks: &'a [f64],
+    start_tangent: Point,
+    end_tangent: Point,
+    tolerance: f64,
 }
 
-// More rounds, while they improve the solution and it is over the tolerance. The last round counts, be it worse.
-fn improve(
-    marks: &[f64],
-    st: Point,
-    et: Point,
-    tolerance: f64,
-    first: Solved,
-    params: &mut [f64],
-) -> Result<Solved, Refusal>
-    requires { (0 < length params.old) × (length marks.now ≡ 2 * length params.old) }
-    ensures { Solves (improve_of 7 marks.now st et tolerance (trial_of first params.old)) result params.new }
-{
-    let mut s = first;
-    for _ in 0..MORE_ROUNDS {
-        let next = attempt(marks, s.curve, st, et, params)?;
-        let ratio = next.far.err / s.far.err;
-        if !float::finite(ratio) {
+impl Piece<'_> {
+    // One round: a Newton step for every mark, least squares, the worst distance.
+    fn attempt(&self, c: Curve, params: &mut [f64]) -> Result<Solved, Refusal>
+        requires { (0 < length params.old) × (length self.now.marks.now ≡ 2 * length params.old) }
+        ensures { Solves (attempt_of self.now.marks.now self.now.start_tangent self.now.end_tangent c params.old) result params.new }
+    {
+        if !stages::reparameterize(self.marks, c, params) {
             return Err(Refusal::NotFinite);
         }
-        if (ratio > IMPROVEMENT) | (next.far.err <= tolerance) {
-            return Ok(next);
-        }
-        s = next;
+        let curve = squares::generate_bezier(
+            self.marks,
+            params,
+            self.start_tangent,
+            self.end_tangent,
+        )?;
+        let far = stages::max_error_for_curve(self.marks, curve, params)?;
+        Ok(Solved { curve, far })
     }
-    Ok(s)
-}
 
-// Chord-length parameters and the rounds of a part of three marks or more.
-fn solve(
-    marks: &[f64],
-    st: Point,
-    et: Point,
-    tolerance: f64,
-    params: &mut [f64],
-) -> Result<Solved, Refusal>
-    requires { (0 < length params.old) × (length marks.now ≡ 2 * length params.old) }
-    ensures { Solves (tried_of (length params.old) marks.now st et tolerance) result params.new }
-{
-    if !stages::chords_for_points(marks, params) {
-        return Err(Refusal::NotFinite);
+    // More rounds, while they improve the solution and it is over the tolerance. The last round counts, be it worse.
+    fn improve(&self, first: Solved, params: &mut [f64]) -> Result<Solved, Refusal>
+        requires { (0 < length params.old) × (length self.now.marks.now ≡ 2 * length params.old) }
+        ensures { Solves (improve_of 7 self.now.marks.now self.now.start_tangent self.now.end_tangent self.now.tolerance (trial_of first params.old)) result params.new }
+    {
+        let mut s = first;
+        for _ in 0..MORE_ROUNDS {
+            let next = self.attempt(s.curve, params)?;
+            let ratio = next.far.err / s.far.err;
+            if !float::finite(ratio) {
+                return Err(Refusal::NotFinite);
+            }
+            if (ratio > IMPROVEMENT) | (next.far.err <= self.tolerance) {
+                return Ok(next);
+            }
+            s = next;
+        }
+        Ok(s)
     }
-    let curve = squares::generate_bezier(marks, params, st, et)?;
-    let s = attempt(marks, curve, st, et, params)?;
-    if s.far.err > tolerance {
-        return improve(marks, st, et, tolerance, s, params);
+
+    // Chord-length parameters and the rounds of a part of three marks or more.
+    fn solve(&self, params: &mut [f64]) -> Result<Solved, Refusal>
+        requires { (0 < length params.old) × (length self.now.marks.now ≡ 2 * length params.old) }
+        ensures { Solves (tried_of (length params.old) self.now.marks.now self.now.start_tangent self.now.end_tangent self.now.tolerance) result params.new }
+    {
+        if !stages::chords_for_points(self.marks, params) {
+            return Err(Refusal::NotFinite);
+        }
+        let curve = squares::generate_bezier(
+            self.marks,
+            params,
+            self.start_tangent,
+            self.end_tangent,
+        )?;
+        let s = self.attempt(curve, params)?;
+        if s.far.err > self.tolerance {
+            return self.improve(s, params);
+        }
+        Ok(s)
     }
-    Ok(s)
 }
 
 // Within the tolerance a solution is the part's curve; else the part is cut at its worst mark.
@@ -138,6 +140,12 @@ pub fn try_part(
     if n <= 2 {
         return try_line(marks, params);
     }
-    let s = solve(marks, st, et, tolerance, params)?;
+    let piece = Piece {
+        marks,
+        start_tangent: st,
+        end_tangent: et,
+        tolerance,
+    };
+    let s = piece.solve(params)?;
     Ok(judge(s, tolerance))
 }

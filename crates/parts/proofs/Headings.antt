@@ -1,4 +1,4 @@
--- The tangents at a mark by what the code asks: whose they are, and whether a block ends there. Assumes nothing.
+-- The tangents at a mark by what the code asks: whether a block ends there. Assumes nothing.
 use Prim.Native.Nat.{ℕ, zero, suc, ◌+◌, ◌*◌, ◌%◌, ◌<◌}
 use native.Mathlib.Omega.{arith}
 use native.Mathlib.Nat.{mod-eq_of_lt}
@@ -16,30 +16,10 @@ use Rattle.ring.specs.declared.Outline.TheVariants.{Closed}
 use Rattle.ring.proofs.Whole.{again-small, halves}
 use Rattle.joints.specs.Joints.{Inner}
 use Rattle.tangents.specs.declared.Ways.{Ways}
-use Rattle.tangents.specs.declared.Cutting.{Cutting}
-use Rattle.tangents.specs.Ways.{ways_at, marks_of, start_of, end_of}
+use Rattle.tangents.specs.Ways.{ways_at}
 use Rattle.tangents.proofs.Blocks.{ways_as-closed}
 use Rattle.parts.specs.declared.Heading.{Heading}
-use Rattle.parts.specs.declared.Heading.TheVariants.{Given, By}
-use Rattle.parts.specs.Headings.{outline_in, marks_in, outer, own_start, own_end, one, tangent_in}
-
--- ---- whose tangents
-
-module _ (h : Heading) (ms : List Float) (n : ℕ) where
-  pub by_length : (k : Cutting) → h ≡ By k → length (marks_in h ms) ≡ 2 * n → length (marks_of k ms) ≡ 2 * n
-  by_length k e l = rw e at l
-
-  pub given_start : (w : Ways) (j : ℕ) → h ≡ Given w → ok w.start ≡ own_start h (marks_in h ms) n j
-  given_start w j e = rw e refl
-
-  pub given_end : (w : Ways) (j : ℕ) → h ≡ Given w → ok w.end ≡ own_end h (marks_in h ms) n j
-  given_end w j e = rw e refl
-
-  pub by_start : (k : Cutting) (j : ℕ) (r : Answer Point) → h ≡ By k → r ≡ outcome (start_of k (marks_of k ms) n j) → r ≡ own_start h (marks_in h ms) n j
-  by_start k j r e q = rw e q
-
-  pub by_end : (k : Cutting) (j : ℕ) (r : Answer Point) → h ≡ By k → r ≡ outcome (end_of k (marks_of k ms) n (j + 1)) → r ≡ own_end h (marks_in h ms) n j
-  by_end k j r e q = rw e q
+use Rattle.parts.specs.Headings.{outline_in, marks_in, outer, one, tangent_in}
 
 -- ---- a block's end, or a cut
 
@@ -72,7 +52,11 @@ module _ (side : Ways → Point) (own : Answer Point) (ms : List Float) (n size 
 
 -- ---- the tangents at a cut
 
-module _ (h : Heading) (ms : List Float) (n size j : ℕ) (z : 0 < size) (l : length (marks_in h ms) ≡ 2 * n) (b : j < n) (o : outer n size j ≡ false) where
+-- by a test that says that no block ends there
+module _ (h : Heading) (ms : List Float) (n size j : ℕ) (z : 0 < size) (l : length (marks_in h ms) ≡ 2 * n) (b : j < n) (t : Bool) (is : t ≡ outer n size j) (f : t ≡ false) where
+  o : outer n size j ≡ false
+  o = sym is ∙ f
+
   pub cut_inner : Inner (outline_in h) ms j
   cut_inner = let i = inside n size j o z b in let m = halves (outline_in h) ms n l (omega (arith, i)) in (m.0, (i.0, omega (arith, i, m.1)))
 

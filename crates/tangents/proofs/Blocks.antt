@@ -75,6 +75,14 @@ open-marks k ms h = rw h refl
 pub open-length : (k : Cutting) (ms : List Float) (n : ℕ) → length (marks_of k ms) ≡ 2 * n → outline_of k ≡ Open → length ms ≡ 2 * n
 open-length k ms n l h = sym (ap length (open-marks k ms h)) ∙ l
 
+-- of an open outline the two marks that a block's tangent is taken from lie in the slice
+module _ (k : Cutting) (ms : List Float) (n : ℕ) (l : length (marks_of k ms) ≡ 2 * n) (o : outline_of k ≡ Open) where
+  pub head_within : (from a : ℕ) → from + 2 ≤ n → a ≡ start_at k n from → 2 * a + 4 ≤ length ms
+  head_within from a h e = omega (arith, start_within k n from a h e, open-length k ms n l o)
+
+  pub tail_within : (to b : ℕ) → 2 ≤ to → to ≤ n → b ≡ end_at k n to → (4 ≤ 2 * b) × (2 * b ≤ length ms)
+  tail_within to b h m e = let w = end_within k n to b h m e in let s = open-length k ms n l o in (omega arith, omega arith)
+
 -- the mark where a block meets another has one before it and one after it
 module _ (k : Cutting) (ms : List Float) (n : ℕ) (l : length (marks_of k ms) ≡ 2 * n) where
   pub joint_inner : (j : ℕ) → 0 < j → j + 1 < n → Inner (outline_of k) ms j

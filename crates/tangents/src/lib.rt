@@ -58,6 +58,7 @@ pub enum Cutting {
 }
 
 // How many marks of the next block a block takes in.
+#[tactic(auto, unfolding(crate::specs::Ways::over))]
 pub fn shared(cutting: Cutting) -> usize
     ensures { result ≡ over cutting }
 {
@@ -82,6 +83,7 @@ pub fn outline_of(cutting: Cutting) -> Outline
 }
 
 // The first of the two marks that the start tangent of a block from mark `from` is taken from, where it meets none before it.
+#[tactic(auto, unfolding(crate::specs::Ways::start_at))]
 fn start_at(cutting: Cutting, n: usize, from: usize) -> usize
     requires { 2 ≤ n }
     ensures { result ≡ start_at cutting n from }
@@ -100,6 +102,7 @@ fn start_at(cutting: Cutting, n: usize, from: usize) -> usize
 }
 
 // One past the second of the two marks that the end tangent of a block up to mark `to`, which is not in it, is taken from, where it meets none after it.
+#[tactic(auto, unfolding(crate::specs::Ways::end_at))]
 fn end_at(cutting: Cutting, n: usize, to: usize) -> usize
     requires to_le_n { to ≤ n }
     requires n_le_most_numbered { n ≤ most_numbered }
@@ -125,6 +128,7 @@ fn end_at(cutting: Cutting, n: usize, to: usize) -> usize
 }
 
 // Whether a block meets another: the one before it, if mark 0 lies before its first; the one after it, if its marks end before those of the outline.
+#[tactic(auto, unfolding(crate::specs::Ways::meets))]
 fn meets(cutting: Cutting, a: usize, b: usize) -> bool
     ensures { result ≡ meets cutting a b }
 {

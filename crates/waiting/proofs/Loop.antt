@@ -7,7 +7,10 @@ use mathlib.Core.List.{List, [], ◌∷◌, ◌++◌, map, append-nil, append_as
 use lib.ListN.{length, take, drop, set, get_or, length-append, length-take, length-drop, length-set, length-map, drop_of_length-le}
 use lib.Seq.{take_at, drop_at, drop-drop, set_split}
 use lib.Ieee.{Float}
+use Rattle.std.specs.Prelude.{Result, Ok, Err}
 use Rattle.float.specs.Answer.{Answer}
+use Rattle.float.specs.Refusal.{number}
+use Rattle.float.specs.declared.refusal.Refusal.{Refusal}
 use Rattle.float.specs.Slices.{written}
 use Rattle.float.proofs.Slices.{inner_length}
 use Rattle.plane.specs.declared.Point.{Point}
@@ -18,10 +21,8 @@ use Rattle.part.specs.Answers.{Did}
 use Rattle.part.specs.declared.Solved.{Solved}
 use Rattle.part.specs.declared.Tried.{Tried}
 use Rattle.part.specs.declared.Tried.TheVariants.{Good, Cut}
-use Rattle.part.specs.declared.Tried.TheVariants.{Refused as TRefused}
 use Rattle.cut.specs.Run.{Run, done, Beside, beside, flat, firsts_of, worsts_of}
 use Rattle.cut.specs.Lent.{Left}
-use Rattle.cut.specs.declared.Fitted.TheVariants.{Curves, Refused}
 use Rattle.cut.proofs.Cut.{from_good, from_cut, from_refused}
 use Rattle.blocks.proofs.Blocks.{prepend, join_prepend, prepend_twice, prepend_none}
 use Rattle.blocks.proofs.Sofar.{part_len, take_behind}
@@ -71,6 +72,10 @@ call h ms round tail size tol C F W P O = record { h = h; ms = ms; round = round
 pub record Asked (K : Call) : Type 0 where
   pub outlined : Outlined K.h K.ms K.round K.tail (length K.P) K.size K.tol
   pub room : Room (length K.P) (length K.C) (length K.F) (length K.W) (length K.O)
+
+pub asked : {h : Heading} {ms round : List Float} {tail size : ℕ} {tol : Float} {C : List Float} {F W : List ℕ} {P : List Float} {O : List ℕ} (O₀ : List ℕ) → Outlined h ms round tail (length P) size tol → Room (length P) (length C) (length F) (length W) (length O₀) → length O ≡ length O₀
+    → Asked (call h ms round tail size tol C F W P O)
+asked O₀ outlined r l = record { outlined = outlined; room = (r.0, (r.1.0, (r.1.1.0, omega (arith, r, l)))) }
 
 -- the marks, and the tangents by the mark
 abbrev pub marks : Call → List Float
@@ -155,6 +160,12 @@ pub record Head : Type 0 where
   pub O₁ : List ℕ
   pub so : Sofar K from to depth made C₁ F₁ W₁ P₁ O₁
 
+-- the same by what a call asks and what the loop keeps; the ends of the blocks were laid into O
+abbrev pub head : {h : Heading} {ms round : List Float} {tail size : ℕ} {tol : Float} {C : List Float} {F W : List ℕ} {P : List Float} {O : List ℕ} (O₀ : List ℕ) → Outlined h ms round tail (length P) size tol → Room (length P) (length C) (length F) (length W) (length O₀) → length O ≡ length O₀
+    → {from to depth made : ℕ} {C₁ : List Float} {F₁ W₁ : List ℕ} {P₁ : List Float} {O₁ : List ℕ} → Sofar (call h ms round tail size tol C F W P O) from to depth made C₁ F₁ W₁ P₁ O₁ → Head
+head {h} {ms} {round} {tail} {size} {tol} {C} {F} {W} {P} {O} O₀ outlined room l {from} {to} {depth} {made} {C₁} {F₁} {W₁} {P₁} {O₁} so =
+    record { K = call h ms round tail size tol C F W P O; A = asked O₀ outlined room l; from = from; to = to; depth = depth; made = made; C₁ = C₁; F₁ = F₁; W₁ = W₁; P₁ = P₁; O₁ = O₁; so = so }
+
 -- the numbers that the needs are worked out from
 pub record Numbers (H : Head) : Type 0 where
   pub two : 2 ≤ length H.K.P
@@ -205,10 +216,14 @@ module _ (H : Head) where
 
   -- what it came to, and its parameters
   pub record Ran : Type 0 where
-    pub r : Tried
+    pub r : Result Tried Refusal
     pub p : List Float
     pub did : Did (part K from to) r p
     pub lp : length p ≡ length (take (to + 1 - from) (drop from H.P₁))
+
+  -- the same by its contract
+  abbrev pub ran : (r : Result Tried Refusal) (p : List Float) → Did (part K from to) r p → length p ≡ length (take (to + 1 - from) (drop from H.P₁)) → Ran
+  ran r p did lp = record { r = r; p = p; did = did; lp = lp }
 
   module _ (R : Ran) where
     abbrev P₂ : List Float
@@ -221,13 +236,13 @@ module _ (H : Head) where
     long_front = let z = numbers in simp length-take (omega (arith, z))
 
     -- ---- refused
-    pub so_refused : (q : ℕ) → R.r ≡ TRefused q → (C₂ : List Float) (F₂ W₂ : List ℕ) (P₃ : List Float) → Left (whole K) (Refused q) K.C C₂ K.F F₂ K.W W₂ P₃
+    pub so_refused : (q : Refusal) → R.r ≡ Err q → (C₂ : List Float) (F₂ W₂ : List ℕ) (P₃ : List Float) → Left (whole K) (Err q) K.C C₂ K.F F₂ K.W W₂ P₃
     so_refused q e C₂ F₂ W₂ P₃ =
         let z = numbers in
-        rw (so.whole, open-fails (starts K) (ends K) (marks K) K.tol (length K.P) o.even o.usable from to q (waits H.depth H.O₁) z.some bounded (from_refused (part K from to) R.r R.p q R.did e)) refl
+        rw (so.whole, open-fails (starts K) (ends K) (marks K) K.tol (length K.P) o.even o.usable from to (number q) (waits H.depth H.O₁) z.some bounded (from_refused (part K from to) R.r R.p q R.did e)) refl
 
     -- ---- cut
-    module _ (k : ℕ) (e : R.r ≡ Cut k) where
+    module _ (k : ℕ) (e : R.r ≡ Ok (Cut k)) where
       is_cut : part K from to ≡ cuts k
       is_cut = from_cut (part K from to) R.r R.p k R.did e
 
@@ -261,7 +276,7 @@ module _ (H : Head) where
           }
 
     -- ---- a curve
-    module _ (s : Solved) (e : R.r ≡ Good s) where
+    module _ (s : Solved) (e : R.r ≡ Ok (Good s)) where
       is_good : part K from to ≡ fits s.curve s.far R.p
       is_good = from_good (part K from to) R.r R.p s R.did e
 
@@ -283,7 +298,7 @@ module _ (H : Head) where
         worsts_now = let z = numbers in put.1.1 ∙ beside_one (λ b. b.worst) so.bs b K.W H.W₁ H.made (from + s.far.at) so.worsts so.long (omega (arith, z)) refl
 
         -- the last part
-        pub so_done : H.depth ≡ 0 → Left (whole K) (Curves (H.made + 1)) K.C C₂ K.F F₂ K.W W₂ P₂
+        pub so_done : H.depth ≡ 0 → Left (whole K) (Ok (H.made + 1)) K.C C₂ K.F F₂ K.W W₂ P₂
         unfolding waits
         so_done d =
             let z = numbers in
@@ -295,7 +310,7 @@ module _ (H : Head) where
             = so.whole ∙ ap (prepend so.cs so.bs so.ps) (ap (rest K from to) none ∙ open_last (starts K) (ends K) (marks K) K.tol (length K.P) o.even o.usable from to z.some bounded s.curve s.far R.p is_good) in
             let many : H.made + 1 ≡ length (so.bs ++ (b ∷ [])) = let l = so.long in simp length-append (omega arith) in
             let params : P₂ ≡ so.ps ++ R.p = rw (over, append-nil, so.front) in
-            rw is (ap Curves many, curves_now, firsts_now, worsts_now, params)
+            rw is (ap Ok many, curves_now, firsts_now, worsts_now, params)
 
         -- one that others wait behind
         pub so_next : (d : ℕ) → H.depth ≡ d + 1 → (lc : length C₂ ≡ length H.C₁) (lf : length F₂ ≡ length H.F₁) (lw : length W₂ ≡ length H.W₁)

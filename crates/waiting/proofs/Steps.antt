@@ -9,12 +9,13 @@ use lib.ListN.{length, take, drop, set, length-drop, length-set, drop_of_length-
 use lib.Seq.{take_all, drop-drop, get_or-set_same, get_or-set_other}
 use lib.Ieee.{Float}
 use Rattle.float.specs.Slices.{written}
-use Rattle.float.specs.Answer.{Answer}
+use Rattle.std.specs.Prelude.{Result}
+use Rattle.float.specs.Answer.{Answer, ok}
+use Rattle.float.specs.Answer.{refused as no}
+use Rattle.float.specs.Refusal.{answer}
+use Rattle.float.specs.declared.refusal.Refusal.{Refusal}
 use Rattle.plane.specs.declared.Point.{Point}
 use Rattle.marks.specs.Marks.{count}
-use Rattle.marks.specs.Answers.{way_answer}
-use Rattle.marks.specs.declared.tangent.Way.{Way}
-use Rattle.marks.specs.declared.tangent.Way.TheVariants as way
 use Rattle.ring.specs.Ring.{again, whole, Even}
 use Rattle.ring.specs.declared.Outline.{Outline}
 use Rattle.ring.specs.declared.Outline.TheVariants.{Open, Closed}
@@ -22,7 +23,6 @@ use Rattle.ring.proofs.Whole.{again-small, whole_length, halves, part_given, par
 use Rattle.part.specs.Part.{Part, fails, part_of}
 use Rattle.part.specs.Answers.{Did}
 use Rattle.part.specs.declared.Tried.{Tried}
-use Rattle.part.specs.declared.Tried.TheVariants.{Refused}
 use Rattle.cut.specs.Lent.{Ready}
 use Rattle.blocks.proofs.Blocks.{laid-front}
 use Rattle.parts.specs.declared.Heading.{Heading}
@@ -41,7 +41,7 @@ laid-behind ys C D a b e d =
 
 -- ---- try_marks
 
-pub same_part : (ms ws : List Float) (s e : Point) (tol : Float) (r : Tried) (p : List Float) → ms ≡ ws → Did (part_of ms s e tol) r p → Did (part_of ws s e tol) r p
+pub same_part : (ms ws : List Float) (s e : Point) (tol : Float) (r : Result Tried Refusal) (p : List Float) → ms ≡ ws → Did (part_of ms s e tol) r p → Did (part_of ws s e tol) r p
 same_part ms ws s e tol r p h d = subst (λ (l : List Float). Did (part_of l s e tol) r p) h d
 
 module _ (ms : List Float) (a b : ℕ) (some : a < b) where
@@ -83,19 +83,16 @@ module _ (h : Heading) (ms round : List Float) (tail n size : ℕ) (tol : Float)
     part_read = let l = O.even in part_as-closed (outline_in h) ms (2 * a) (2 * (b + 1)) (omega (arith, W)) (omega (arith, W))
 
 -- tangents that are answered one after the other
-module _ (S E : Answer Point) (f : Point → Point → Part) (r : Way) (q : way_answer r ≡ S) (P : List Float) where
-  pub no_start : r ≡ way.Lost → Did (headed fails S E f) (Refused 6) P
-  unfolding way_answer
-  no_start e = rw (sym q ∙ ap way_answer e) refl
+module _ (S E : Answer Point) (f : Point → Point → Part) (r : Result Tried Refusal) (P : List Float) where
+  pub no_start : {q : ℕ} → no q ≡ S → answer r ≡ no q → Did (headed fails S E f) r P
+  no_start e h = rw (← e) h
 
-  module _ (s : Point) (e : r ≡ way.Toward s) (x : Way) (y : way_answer x ≡ E) where
-    pub no_end : x ≡ way.Lost → Did (headed fails S E f) (Refused 6) P
-    unfolding way_answer
-    no_end i = rw (sym q ∙ ap way_answer e, sym y ∙ ap way_answer i) refl
+  module _ {s : Point} (e : ok s ≡ S) where
+    pub no_end : {q : ℕ} → no q ≡ E → answer r ≡ no q → Did (headed fails S E f) r P
+    no_end i h = rw (← e, ← i) h
 
-    pub both_ways : (t : Point) → x ≡ way.Toward t → (z : Tried) → Did (f s t) z P → Did (headed fails S E f) z P
-    unfolding way_answer
-    both_ways t i z d = rw (sym q ∙ ap way_answer e, sym y ∙ ap way_answer i) d
+    pub both_ways : {t : Point} → ok t ≡ E → Did (f s t) r P → Did (headed fails S E f) r P
+    both_ways i d = rw (← e, ← i) d
 
 -- ---- ends that wait
 

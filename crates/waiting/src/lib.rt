@@ -17,10 +17,8 @@ ghost use Rattle.parts.specs.Headings.{outline_in, marks_in, start_in, end_in};
 ghost use Rattle.waiting.specs.Waiting.{part_at, part_in, waits, run_in};
 ghost use Rattle.waiting.specs.Lent.{Meeting, Outlined, Within, Room, Blocks};
 
-use cut::Fitted;
-use float::refusal::NOT_FINITE;
+use float::refusal::Refusal;
 use form::RECORD_NUMBERS;
-use marks::Way;
 use part::{Solved, Tried};
 use parts::Heading;
 use plane::Point;
@@ -37,7 +35,7 @@ fn try_marks(
     end: Point,
     tolerance: f64,
     params: &mut [f64],
-) -> Tried
+) -> Result<Tried, Refusal>
     requires even { Even marks.now × ((from < to) × (to ≤ count marks.now)) }
     requires to_value { to + 1 ≡ from + length params.old }
     requires tail_le_from { to ≡ count marks.now → (tail ≤ from) × (round.now ≡ drop (2 * tail) (whole outline.Closed marks.now)) }
@@ -64,17 +62,13 @@ fn try_between(
     to: usize,
     tolerance: f64,
     params: &mut [f64],
-) -> Tried
+) -> Result<Tried, Refusal>
     requires outlined { Outlined heading marks.now round.now tail n size tolerance }
     requires within { Within n size from to (length params.old) }
     ensures { Did (part_in (start_in heading (marks_in heading marks.now) n size) (end_in heading (marks_in heading marks.now) n size) (marks_in heading marks.now) tolerance from to) result params.new }
 {
-    let Way::Toward(start) = parts::start_in(heading, marks, n, size, from) else {
-        return Tried::Refused(NOT_FINITE);
-    };
-    let Way::Toward(end) = parts::end_in(heading, marks, n, size, to) else {
-        return Tried::Refused(NOT_FINITE);
-    };
+    let start = parts::start_in(heading, marks, n, size, from)?;
+    let end = parts::end_in(heading, marks, n, size, to)?;
     try_marks(marks, round, tail, from, to, start, end, tolerance, params)
 }
 
@@ -113,6 +107,7 @@ fn wait_blocks(last: usize, size: usize, open: &mut [u32]) -> Waiting
     let mut stop = last;
     let mut depth = 0;
     let mut from = (last - 1) / size * size;
+    // A while: it falls by a block at a time.
     while 0 < from {
         open[depth] = stop as u32;
         depth += 1;
@@ -135,7 +130,7 @@ fn work_off(
     worsts: &mut [u32],
     params: &mut [f64],
     open: &mut [u32],
-) -> Fitted
+) -> Result<usize, Refusal>
     requires outlined { Outlined heading marks.now round.now tail (length params.old) size tolerance }
     requires room { Room (length params.old) (length curves.old) (length firsts.old) (length worsts.old) (length «open».old) }
     ensures { Left (run_in heading (marks_in heading marks.now) size tolerance) result curves.old curves.new firsts.old firsts.new worsts.old worsts.new params.new }
@@ -146,9 +141,10 @@ fn work_off(
     let mut to = first.to;
     let mut depth = first.depth;
     let mut made = 0;
+    // A loop: a part that is cut stays open.
     loop {
         let past = to + 1;
-        let tried = try_between(
+        match try_between(
             heading,
             marks,
             round,
@@ -159,38 +155,26 @@ fn work_off(
             to,
             tolerance,
             &mut params[from..past],
-        );
-        match tried {
-            Tried::Good(s) => {
+        ) {
+            Ok(Tried::Good(s)) => {
                 put_curve(curves, firsts, worsts, made, from, s);
                 made += 1;
                 if depth == 0 {
-                    return Fitted::Curves(made);
+                    return Ok(made);
                 }
                 depth -= 1;
                 from = to;
                 to = open[depth] as usize;
             }
-            Tried::Cut(at) => {
+            Ok(Tried::Cut(at)) => {
                 let cut = from + at;
                 open[depth] = to as u32;
                 depth += 1;
                 to = cut;
             }
-            Tried::Refused(q) => return Fitted::Refused(q),
+            Err(q) => return Err(q),
         }
     }
-}
-
-// How many of n marks lie before the last block, if that is as long as a block can be.
-fn tail_of(n: usize, size: usize) -> usize
-    requires { size ≤ 200 }
-    ensures { result ≡ n - (size + 1) }
-{
-    if n <= size {
-        return 0;
-    }
-    n - (size + 1)
 }
 
 // The curves of a closed outline. Its last marks, with mark 0 behind them, stand nowhere together, so they are laid out in an array of their own.
@@ -204,13 +188,13 @@ fn fit_round(
     worsts: &mut [u32],
     params: &mut [f64],
     open: &mut [u32],
-) -> Fitted
+) -> Result<usize, Refusal>
     requires heading_value { (outline_in heading ≡ outline.Closed) × ((0 < size) × ((size ≤ 200) × Meeting heading (length params.old) size)) }
     requires ready { Ready (marks_in heading marks.now) 0 tolerance curves.old firsts.old worsts.old params.old × (length params.old ≤ length «open».old) }
     ensures { Left (run_in heading (marks_in heading marks.now) size tolerance) result curves.old curves.new firsts.old firsts.new worsts.old worsts.new params.new }
 {
     let n = params.len();
-    let tail = tail_of(n, size);
+    let tail = n.saturating_sub(size + 1);
     let mut round = blocks::block_room();
     ring::lay_round(marks, tail, &mut round);
     let many = 2 * (n - tail);
@@ -240,7 +224,7 @@ pub fn fit_waiting(
     worsts: &mut [u32],
     params: &mut [f64],
     open: &mut [u32],
-) -> Fitted
+) -> Result<usize, Refusal>
     requires size_nonzero { (0 < size) × (Meeting heading (length params.old) size × (outline_in heading ≡ outline.Closed → size ≤ 200)) }
     requires ready { Ready (marks_in heading marks.now) 0 tolerance curves.old firsts.old worsts.old params.old × (length params.old ≤ length «open».old) }
     ensures { Left (run_in heading (marks_in heading marks.now) size tolerance) result curves.old curves.new firsts.old firsts.new worsts.old worsts.new params.new }

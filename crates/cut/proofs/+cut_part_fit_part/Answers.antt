@@ -18,12 +18,6 @@ cut_part-fit_part-left-requires t c =
     let K = laws.call c.args.at c.args.start c.args.end c.requires.ready c.requires.at_nonzero in
     (omega (arith, laws.less_left K, c.decreases), laws.ready_left K)
 
-pub cut_part-returns-in_default-left : goal.cut_part-returns-in_default-left
-cut_part-returns-in_default-left t c =
-    let K = laws.call c.args.at c.args.start c.args.end c.requires.ready c.requires.at_nonzero in
-    let l = c.fit_part-left in
-    laws.cut_stops_left K c.in-Ok.ways l.result c.in_default-left.field-0 l.new.curves _ l.new.firsts _ l.new.worsts _ l.new.params _ (sym c.in-Ok.ensures) l.ensures c.in_default-left.is
-
 pub cut_part-overflow_mul-behind : goal.cut_part-overflow_mul-behind
 cut_part-overflow_mul-behind t c =
     let K = laws.call c.args.at c.args.start c.args.end c.requires.ready c.requires.at_nonzero in

@@ -5,9 +5,6 @@ use lib.Ieee.{binary64, fits}
 use Rattle.float.proofs.Bits.{number, no_number, abs-bits, abs_no_nan, abs-nan}
 use Rattle.float.proofs.abs.Goals as goal
 
-pub float_to_bits-result : goal.float_to_bits-result
-float_to_bits-result c = number c.args.x c.if-x.true
-
 pub float_from_bits-result : goal.float_from_bits-result
 float_from_bits-result c =
     let held : T (fits binary64 c.args.x) = subst T (sym c.well_formed.0.1) tt in

@@ -6,9 +6,6 @@ use Rattle.float.proofs.Bits.{number, no_number}
 use Rattle.float.proofs.Unit.{under-unit, over-unit, in_unit, nan_stays}
 use Rattle.float.proofs.clamp.Goals as goal
 
-pub float_to_bits-b : goal.float_to_bits-b
-float_to_bits-b c = number c.args.x c.if-x.true
-
 pub returns-then-b-gt9223372036854775808 : goal.returns-then-b-gt9223372036854775808
 returns-then-b-gt9223372036854775808 c =
     let held : T (fits binary64 c.args.x) = subst T (sym c.well_formed.0.1) tt in

@@ -9,9 +9,6 @@ use lib.Ieee.Bits.{is_true, is_false}
 use Rattle.float.proofs.Bits.{number, no_number, signum-bits, signum-nan}
 use Rattle.float.proofs.signum.Goals as goal
 
-pub float_to_bits-x : goal.float_to_bits-x
-float_to_bits-x c = number c.args.x c.if-x.true
-
 pub returns-then-x-lt9223372036854775808 : goal.returns-then-x-lt9223372036854775808
 returns-then-x-lt9223372036854775808 c =
     let held : T (fits binary64 c.args.x) = subst T (sym c.well_formed.0.1) tt in

@@ -1,14 +1,14 @@
 -- `tangents::end_of` meets its contract.
 use native.Mathlib.Omega.{arith}
 use mathlib.Core.Path.{◌≡◌, sym, ap, ◌∙◌}
-use Prim.Native.Nat.{◌-◌, ◌*◌}
-use lib.ListN.{length, length-take}
+use Prim.Native.Nat.{◌-◌}
+use lib.ListN.{length-take}
 use Rattle.float.specs.Answer.{outcome}
 use Rattle.ring.specs.declared.Outline.TheVariants.{Open}
 use Rattle.joints.specs.declared.Joint.{Joint}
 use Rattle.joints.specs.Joints.{left_end}
 use Rattle.tangents.specs.Ways.{outline_of, marks_of}
-use Rattle.tangents.proofs.Blocks.{end_within, met, marks_of_is, open-marks, open-length, joint_inner, joint_closed, joint_as-closed, end_met, end_alone, end_seam, seam_of_is}
+use Rattle.tangents.proofs.Blocks.{tail_within, met, open-marks, joint_inner, joint_closed, joint_as-closed, end_met, end_alone, end_seam, seam_of_is}
 use Rattle.tangents.proofs.end_of.Goals as goal
 
 pub joint_at-requires : goal.joint_at-requires
@@ -28,29 +28,23 @@ returns-then-meets c =
     ∙ ap (λ (j : Joint). outcome (left_end j)) (c.joint_at.ensures ∙ joint_as-closed (outline_of a.cutting) a.marks.now (a.to - 1) (joint_inner a.cutting a.marks.now a.n p.marks_len (a.to - 1) (omega (arith, p)) (omega (arith, p, m))))
     ∙ ap outcome (sym (end_met a.cutting (marks_of a.cutting a.marks.now) a.n a.to t))
 
-pub seam_of-requires : goal.seam_of-requires
-seam_of-requires c =
-    let a = c.args in
-    let p = c.requires in
-    (marks_of_is a.cutting a.marks.now a.n p.marks_len (omega (arith, p))).0
-
 pub overflow_mul-tail : goal.overflow_mul-tail
 overflow_mul-tail c =
-    let alone : length c.args.marks.now ≡ 2 * c.args.n = let s = c in
-    open-length s.args.cutting s.args.marks.now s.args.n s.requires.marks_len (sym c.outline_of.ensures ∙ c.in-Open.is) in
-    let p = c.requires in omega (arith, end_within _ _ _ _ p.le_to.0 p.le_to.1 c.end_at-tail.ensures, p, alone)
+    let a = c.args in
+    let p = c.requires in
+    omega (arith, tail_within a.cutting a.marks.now a.n p.marks_len (sym c.outline_of.ensures ∙ c.in-Open.is) _ _ p.le_to.0 p.le_to.1 c.end_at-tail.ensures, p)
 
 pub slice_bounds-end_tangent-end : goal.slice_bounds-end_tangent-end
 slice_bounds-end_tangent-end c =
-    let alone : length c.args.marks.now ≡ 2 * c.args.n = let s = c in
-    open-length s.args.cutting s.args.marks.now s.args.n s.requires.marks_len (sym c.outline_of.ensures ∙ c.in-Open.is) in
-    let p = c.requires in simp length-take (omega (arith, end_within _ _ _ _ p.le_to.0 p.le_to.1 c.end_at-tail.ensures, p, alone))
+    let a = c.args in
+    let p = c.requires in
+    simp length-take (omega (arith, tail_within a.cutting a.marks.now a.n p.marks_len (sym c.outline_of.ensures ∙ c.in-Open.is) _ _ p.le_to.0 p.le_to.1 c.end_at-tail.ensures, p))
 
 pub end_tangent-requires : goal.end_tangent-requires
 end_tangent-requires c =
-    let alone : length c.args.marks.now ≡ 2 * c.args.n = let s = c in
-    open-length s.args.cutting s.args.marks.now s.args.n s.requires.marks_len (sym c.outline_of.ensures ∙ c.in-Open.is) in
-    let p = c.requires in simp length-take (omega (arith, end_within _ _ _ _ p.le_to.0 p.le_to.1 c.end_at-tail.ensures, p, alone))
+    let a = c.args in
+    let p = c.requires in
+    simp length-take (omega (arith, tail_within a.cutting a.marks.now a.n p.marks_len (sym c.outline_of.ensures ∙ c.in-Open.is) _ _ p.le_to.0 p.le_to.1 c.end_at-tail.ensures, p))
 
 pub returns-in-Closed : goal.returns-in-Closed
 returns-in-Closed c =

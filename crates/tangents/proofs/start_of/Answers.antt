@@ -9,7 +9,7 @@ use Rattle.ring.specs.declared.Outline.TheVariants.{Open}
 use Rattle.joints.specs.declared.Joint.{Joint}
 use Rattle.joints.specs.Joints.{right_start}
 use Rattle.tangents.specs.Ways.{outline_of, marks_of}
-use Rattle.tangents.proofs.Blocks.{start_within, met, marks_of_is, open-marks, open-length, joint_inner, joint_closed, joint_as-closed, start_met, start_alone, start_seam, seam_of_is}
+use Rattle.tangents.proofs.Blocks.{head_within, met, open-marks, joint_inner, joint_closed, joint_as-closed, start_met, start_alone, start_seam, seam_of_is}
 use Rattle.tangents.proofs.start_of.Goals as goal
 
 pub joint_at-requires : goal.joint_at-requires
@@ -27,41 +27,35 @@ returns-then-meets c =
     ∙ ap (λ (j : Joint). outcome (right_start j)) (c.joint_at.ensures ∙ joint_as-closed (outline_of a.cutting) a.marks.now a.from (joint_inner a.cutting a.marks.now a.n p.marks_len a.from (met _ _ _ t) (omega (arith, p))))
     ∙ ap outcome (sym (start_met a.cutting (marks_of a.cutting a.marks.now) a.n a.from t))
 
-pub seam_of-requires : goal.seam_of-requires
-seam_of-requires c =
-    let a = c.args in
-    let p = c.requires in
-    (marks_of_is a.cutting a.marks.now a.n p.marks_len (omega (arith, p))).0
-
 pub overflow_mul-head : goal.overflow_mul-head
 overflow_mul-head c =
-    let alone : length c.args.marks.now ≡ 2 * c.args.n = let s = c in
-    open-length s.args.cutting s.args.marks.now s.args.n s.requires.marks_len (sym c.outline_of.ensures ∙ c.in-Open.is) in
-    let p = c.requires in omega (arith, start_within _ _ _ _ p.from_bound.0 c.start_at-head.ensures, p, alone)
+    let a = c.args in
+    let p = c.requires in
+    omega (arith, head_within a.cutting a.marks.now a.n p.marks_len (sym c.outline_of.ensures ∙ c.in-Open.is) _ _ p.from_bound.0 c.start_at-head.ensures, p)
 
 pub offset_bounds-marks-head : goal.offset_bounds-marks-head
 offset_bounds-marks-head c =
-    let alone : length c.args.marks.now ≡ 2 * c.args.n = let s = c in
-    open-length s.args.cutting s.args.marks.now s.args.n s.requires.marks_len (sym c.outline_of.ensures ∙ c.in-Open.is) in
-    let p = c.requires in omega (arith, start_within _ _ _ _ p.from_bound.0 c.start_at-head.ensures, p, alone)
+    let a = c.args in
+    let p = c.requires in
+    omega (arith, head_within a.cutting a.marks.now a.n p.marks_len (sym c.outline_of.ensures ∙ c.in-Open.is) _ _ p.from_bound.0 c.start_at-head.ensures, p)
 
 pub slice_bounds-start_tangent-count : goal.slice_bounds-start_tangent-count
 slice_bounds-start_tangent-count c =
-    let alone : length c.args.marks.now ≡ 2 * c.args.n = let s = c in
-    open-length s.args.cutting s.args.marks.now s.args.n s.requires.marks_len (sym c.outline_of.ensures ∙ c.in-Open.is) in
-    let p = c.requires in omega (arith, start_within _ _ _ _ p.from_bound.0 c.start_at-head.ensures, p, alone)
+    let a = c.args in
+    let p = c.requires in
+    omega (arith, head_within a.cutting a.marks.now a.n p.marks_len (sym c.outline_of.ensures ∙ c.in-Open.is) _ _ p.from_bound.0 c.start_at-head.ensures, p)
 
 pub slice_bounds-start_tangent-start : goal.slice_bounds-start_tangent-start
 slice_bounds-start_tangent-start c =
-    let alone : length c.args.marks.now ≡ 2 * c.args.n = let s = c in
-    open-length s.args.cutting s.args.marks.now s.args.n s.requires.marks_len (sym c.outline_of.ensures ∙ c.in-Open.is) in
-    let p = c.requires in omega (arith, start_within _ _ _ _ p.from_bound.0 c.start_at-head.ensures, p, alone)
+    let a = c.args in
+    let p = c.requires in
+    omega (arith, head_within a.cutting a.marks.now a.n p.marks_len (sym c.outline_of.ensures ∙ c.in-Open.is) _ _ p.from_bound.0 c.start_at-head.ensures, p)
 
 pub start_tangent-requires : goal.start_tangent-requires
 start_tangent-requires c =
-    let alone : length c.args.marks.now ≡ 2 * c.args.n = let s = c in
-    open-length s.args.cutting s.args.marks.now s.args.n s.requires.marks_len (sym c.outline_of.ensures ∙ c.in-Open.is) in
-    let p = c.requires in simp (length-take, length-drop) (omega (arith, start_within _ _ _ _ p.from_bound.0 c.start_at-head.ensures, p, alone))
+    let a = c.args in
+    let p = c.requires in
+    simp (length-take, length-drop) (omega (arith, head_within a.cutting a.marks.now a.n p.marks_len (sym c.outline_of.ensures ∙ c.in-Open.is) _ _ p.from_bound.0 c.start_at-head.ensures, p))
 
 pub returns-in-Closed : goal.returns-in-Closed
 returns-in-Closed c =

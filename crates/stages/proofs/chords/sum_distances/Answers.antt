@@ -11,28 +11,8 @@ use Rattle.stages.proofs.chords.sum_distances.Goals as goal
 pub loop-k-init : goal.loop-k-init
 loop-k-init c = first _ c.args.params.now c.requires.0
 
-pub square_at-requires : goal.square_at-requires
-square_at-requires c =
-    let sizes : length (set c.args.params.now 0 f0) ≡ length c.args.params.now = simp length-set in
-    (c.loop-k.invariant.some, omega (arith, sizes, count _ _ _ _ _ c.loop-k.invariant))
-
-pub offset_bounds-params-k : goal.offset_bounds-params-k
-offset_bounds-params-k c =
-    let sizes : length (set c.args.params.now 0 f0) ≡ length c.args.params.now = simp length-set in
-    omega (arith, sizes, count _ _ _ _ _ c.loop-k.invariant)
-
-pub offset_bounds-params-k-in-loop-k : goal.offset_bounds-params-k-in-loop-k
-offset_bounds-params-k-in-loop-k c =
-    let sizes : length (set c.args.params.now 0 f0) ≡ length c.args.params.now = simp length-set in
-    omega (arith, sizes, count _ _ _ _ _ c.loop-k.invariant)
-
 pub loop-k-preserved : goal.loop-k-preserved
 loop-k-preserved c = next _ _ _ _ _ c.loop-k.invariant (omega (arith, count _ _ _ _ _ c.loop-k.invariant)) _ _ c.square_at.ensures c.root_by-total.ensures
-
-pub shape_of-params : goal.shape_of-params
-shape_of-params c =
-    let sizes : length (set c.args.params.now 0 f0) ≡ length c.args.params.now = simp length-set in
-    count _ _ _ _ _ c.loop-k.invariant ∙ sizes
 
 pub returns : goal.returns
 returns c =

@@ -61,20 +61,11 @@ pub loop-i-init : goal.loop-i-init
 unfolding upto finite of_bits
 loop-i-init c = (zero-le, refl, refl, refl)
 
-pub error_at-e-requires : goal.error_at-e-requires
-error_at-e-requires c = omega arith
-
-pub loop-i-smaller-then-e-w : goal.loop-i-smaller-then-e-w
-loop-i-smaller-then-e-w c = omega arith
-
 pub loop-i-preserved-then-e-w : goal.loop-i-preserved-then-e-w
 loop-i-preserved-then-e-w c = skip _ _ _ _ _ c.loop-i.invariant c.loop-i-test.true _ c.error_at-e.ensures c.if-e-w.true
 
 pub returns-then-not-finite : goal.returns-then-not-finite
 returns-then-not-finite c = halt _ _ _ _ _ c.loop-i.invariant c.loop-i-test.true _ c.error_at-e.ensures (sym c.finite.ensures ∙ c.if-not-finite.true)
-
-pub loop-i-smaller : goal.loop-i-smaller
-loop-i-smaller c = omega arith
 
 pub loop-i-preserved : goal.loop-i-preserved
 loop-i-preserved c = more _ _ _ _ _ c.loop-i.invariant c.loop-i-test.true _ c.error_at-e.ensures (sym c.finite.ensures ∙ c.if-not-finite.false) _ c.larger-w.ensures

@@ -1,8 +1,8 @@
--- `part::attempt` meets its contract.
+-- `part::Piece::attempt` meets its contract.
 use mathlib.Core.Path.{refl}
 use Rattle.float.proofs.Refusals.{handed_on}
 use Rattle.part.proofs.Trials.{solves_no, solves_ok, attempt_off, attempt_unmade, attempt-unmeasured, attempt-done}
-use Rattle.part.proofs.attempt.Goals as goal
+use Rattle.part.proofs.Piece.attempt.Goals as goal
 
 pub returns-then-not-reparameterize : goal.returns-then-not-reparameterize
 returns-then-not-reparameterize c = solves_no _ _ _ 6 (attempt_off _ _ _ _ _ _ _ c.reparameterize.ensures.0 c.reparameterize.ensures.1 c.if-not-reparameterize.true) refl
