@@ -8,6 +8,7 @@ ghost use Rattle.intercept.specs.Intercept.{heights_of, guess_of, newton_by, new
 
 use flat::line::coefficients;
 use float::refusal::Refusal;
+use newton::Ratio;
 use quintic::numbers::{Five, Six};
 use quintic::points::Section;
 
@@ -38,26 +39,21 @@ fn five_finite(h: Five) -> bool
     float::three_finite(h.y1, h.y2, h.y3) & float::two_finite(h.y4, h.y5)
 }
 
-// One round of Newton's method for a root of the heights h with the derivative d, at the estimate t: the next estimate, or none where the search ends.
+// One round of Newton's method for a root of the heights h with the derivative d, at the estimate t.
 fn newton_round(h: Six, d: Five, t: f64) -> Result<Option<f64>, Refusal>
     ensures { (n : ℕ) → outcome (newton_by h d (suc n) t) ≡ onward (newton_by h d) n t result }
 {
     let numerator = quintic::numbers::de_casteljau6(t, h);
     let denominator = quintic::numbers::de_casteljau5(t, d);
-    if !float::two_finite(numerator, denominator) {
-        return Err(Refusal::NotFinite);
-    }
-    if float::abs(numerator) <= EPSILON {
-        return Ok(None);
-    }
-    if denominator == 0.0 {
-        return Ok(None);
-    }
-    let u = t - numerator / denominator;
-    if !float::finite(u) {
-        return Err(Refusal::NotFinite);
-    }
-    Ok(Some(u))
+    let near = float::abs(numerator) <= EPSILON;
+    newton::round_by(
+        t,
+        Ratio {
+            numerator,
+            denominator,
+        },
+        near,
+    )
 }
 
 // find_roots.rs's Newton's method for a root of six heights.

@@ -7,7 +7,7 @@ ghost use Rattle.float.specs.Calc.{Calc};
 ghost use Rattle.float.specs.Answer.{outcome};
 ghost use Rattle.float.specs.Refusal.{answer};
 ghost use Rattle.newton.specs.Newton.{vertices_of, ratio_of, newton_by, refine_by, refine as refine_of};
-ghost use Rattle.newton.specs.Tests.{vertices_finite, as_step, onward, SearchBy};
+ghost use Rattle.newton.specs.Tests.{vertices_finite, as_step, onward, FractionBy, SearchBy};
 
 use cubic::eval::{de_casteljau2, de_casteljau3, de_casteljau4, point_at_pos};
 use float::refusal::Refusal;
@@ -101,18 +101,15 @@ pub fn newton_raphson_root_find(c: Curve, q: Vertices, p: Point, t: f64) -> Step
     }
 }
 
-// One round of refinement, at the estimate t: the next estimate, or none where the search ends.
-fn round_at(c: Curve, q: Vertices, p: Point, t: f64) -> Result<Option<f64>, Refusal>
-    ensures { (n : ℕ) → outcome (refine_by c q p (suc n) t) ≡ onward (refine_by c q p) n t result }
+// One round of a search at the estimate t, by the sides of its fraction and by whether the numerator is near enough to 0: the next estimate,
+// or none where the search ends.
+pub fn round_by(t: f64, r: Ratio, near: bool) -> Result<Option<f64>, Refusal>
+    ensures { (s : ℕ → Float → Calc Float) → FractionBy s t r near → (n : ℕ) → outcome (s (suc n) t) ≡ onward s n t result }
 {
-    let r = ratio_at(de_casteljau4(t, c.start, c.cp1, c.cp2, c.end), q, p, t);
     if !float::two_finite(r.numerator, r.denominator) {
         return Err(Refusal::NotFinite);
     }
-    if float::abs(r.numerator) < EPSILON {
-        return Ok(None);
-    }
-    if r.denominator == 0.0 {
+    if near | (r.denominator == 0.0) {
         return Ok(None);
     }
     let u = t - r.numerator / r.denominator;
@@ -139,6 +136,14 @@ pub fn search<R: Fn(f64) -> Result<Option<f64>, Refusal>>(
         u = v;
     }
     Ok(u)
+}
+
+// One round of refinement, at the estimate t.
+fn round_at(c: Curve, q: Vertices, p: Point, t: f64) -> Result<Option<f64>, Refusal>
+    ensures { (n : ℕ) → outcome (refine_by c q p (suc n) t) ≡ onward (refine_by c q p) n t result }
+{
+    let r = ratio_at(de_casteljau4(t, c.start, c.cp1, c.cp2, c.end), q, p, t);
+    round_by(t, r, float::abs(r.numerator) < EPSILON)
 }
 
 // nearest_point.rs's refinement of an estimate, for arguments in range.
