@@ -29,6 +29,16 @@ const FIRSTS: usize = 4096;
 
 const PARAMS: usize = 4097;
 
+// What a call is lent.
+#[derive(Drop)]
+struct Room<'a> {
+    curves: &'a mut [f64],
+    firsts: &'a mut [u32],
+    worsts: &'a mut [u32],
+    params: &'a mut [f64],
+    open: &'a mut [u32],
+}
+
 fn print_state(before: u64, zeros: u64, digest: u64) {
     cases::print_next_count(before);
     cases::print_next_count(zeros);
@@ -107,43 +117,92 @@ fn fit_direct(
     flat: bool,
     head: &[u8; 104],
     marks: &[f64],
-    curves: &mut [f64],
-    firsts: &mut [u32],
-    worsts: &mut [u32],
-    params: &mut [f64],
-    open: &mut [u32],
+    room: &mut Room,
 ) -> Result<usize, Refusal> {
     let start = point_at(head, 72);
     let end = point_at(head, 88);
     let tolerance = cases::number(head, 64);
     if flat {
         return flat_fit::fit_curve_cubic_flat(
-            marks, start, end, tolerance, curves, firsts, worsts, params, open,
+            marks,
+            start,
+            end,
+            tolerance,
+            room.curves,
+            room.firsts,
+            room.worsts,
+            room.params,
+            room.open,
         );
     }
-    fit::fit_curve_cubic(marks, start, end, tolerance, curves, firsts, worsts, params)
+    fit::fit_curve_cubic(
+        marks,
+        start,
+        end,
+        tolerance,
+        room.curves,
+        room.firsts,
+        room.worsts,
+        room.params,
+    )
 }
 
 // The fits by their numbers: 0 as the source cuts, 1 the same of a loop, 2 direct, 3 joined, 4 of a ring; by the second engine 5 direct, 6 joined, 7 of a ring.
-fn fit_by_kind(
-    head: &[u8; 104],
-    marks: &[f64],
-    curves: &mut [f64],
-    firsts: &mut [u32],
-    worsts: &mut [u32],
-    params: &mut [f64],
-    open: &mut [u32],
-) -> Result<usize, Refusal> {
+fn fit_by_kind(head: &[u8; 104], marks: &[f64], room: &mut Room) -> Result<usize, Refusal> {
     let tolerance = cases::number(head, 64);
     match cases::word(head, 0) {
-        0 => fit::fit_curve(marks, tolerance, curves, firsts, worsts, params),
-        1 => fit::fit_curve_loop(marks, tolerance, curves, firsts, worsts, params),
-        2 => fit_direct(false, head, marks, curves, firsts, worsts, params, open),
-        3 => fit::fit_joined(marks, tolerance, curves, firsts, worsts, params),
-        4 => fit::fit_ring(marks, tolerance, curves, firsts, worsts, params),
-        5 => fit_direct(true, head, marks, curves, firsts, worsts, params, open),
-        6 => flat_fit::fit_joined_flat(marks, tolerance, curves, firsts, worsts, params, open),
-        _ => flat_fit::fit_ring_flat(marks, tolerance, curves, firsts, worsts, params, open),
+        0 => fit::fit_curve(
+            marks,
+            tolerance,
+            room.curves,
+            room.firsts,
+            room.worsts,
+            room.params,
+        ),
+        1 => fit::fit_curve_loop(
+            marks,
+            tolerance,
+            room.curves,
+            room.firsts,
+            room.worsts,
+            room.params,
+        ),
+        2 => fit_direct(false, head, marks, room),
+        3 => fit::fit_joined(
+            marks,
+            tolerance,
+            room.curves,
+            room.firsts,
+            room.worsts,
+            room.params,
+        ),
+        4 => fit::fit_ring(
+            marks,
+            tolerance,
+            room.curves,
+            room.firsts,
+            room.worsts,
+            room.params,
+        ),
+        5 => fit_direct(true, head, marks, room),
+        6 => flat_fit::fit_joined_flat(
+            marks,
+            tolerance,
+            room.curves,
+            room.firsts,
+            room.worsts,
+            room.params,
+            room.open,
+        ),
+        _ => flat_fit::fit_ring_flat(
+            marks,
+            tolerance,
+            room.curves,
+            room.firsts,
+            room.worsts,
+            room.params,
+            room.open,
+        ),
     }
 }
 
@@ -166,72 +225,39 @@ fn print_fitted(fitted: Result<usize, Refusal>) {
 }
 
 // The lines of an answer whose slices are as the call left them.
-fn print_answer(
-    lists: u64,
-    fitted: Result<usize, Refusal>,
-    times: usize,
-    curves: &[f64],
-    firsts: &[u32],
-    worsts: &[u32],
-    params: &[f64],
-    open: &[u32],
-) {
+fn print_answer(lists: u64, fitted: Result<usize, Refusal>, times: usize, room: &Room) {
     print_fitted(fitted);
-    print_left(curves, firsts, worsts, params, open);
+    print_left(room);
     if lists != 1 {
         return;
     }
     let Ok(n) = fitted else {
         return;
     };
-    print_lists(n, curves, firsts, worsts, params, times);
+    print_lists(n, times, room);
 }
 
 // The lines of one answer.
-fn answer(
-    head: &[u8; 104],
-    marks: &[f64],
-    curves: &mut [f64],
-    firsts: &mut [u32],
-    worsts: &mut [u32],
-    params: &mut [f64],
-    open: &mut [u32],
-) {
-    let fitted = fit_by_kind(head, marks, curves, firsts, worsts, params, open);
-    print_answer(
-        cases::word(head, 56),
-        fitted,
-        params_of(head, marks),
-        curves,
-        firsts,
-        worsts,
-        params,
-        open,
-    );
+fn answer(head: &[u8; 104], marks: &[f64], room: &mut Room) {
+    let fitted = fit_by_kind(head, marks, room);
+    print_answer(cases::word(head, 56), fitted, params_of(head, marks), room);
 }
 
-fn print_left(curves: &[f64], firsts: &[u32], worsts: &[u32], params: &[f64], open: &[u32]) {
-    print_floats_left(curves);
-    print_marks_left(firsts);
-    print_marks_left(worsts);
-    print_floats_left(params);
-    print_marks_left(open);
+fn print_left(room: &Room) {
+    print_floats_left(room.curves);
+    print_marks_left(room.firsts);
+    print_marks_left(room.worsts);
+    print_floats_left(room.params);
+    print_marks_left(room.open);
     cases::end_line();
 }
 
-fn print_lists(
-    n: usize,
-    curves: &[f64],
-    firsts: &[u32],
-    worsts: &[u32],
-    params: &[f64],
-    times: usize,
-) {
-    print_curves(n, curves, firsts, worsts);
-    if times > params.len() {
+fn print_lists(n: usize, times: usize, room: &Room) {
+    print_curves(n, room.curves, room.firsts, room.worsts);
+    if times > room.params.len() {
         return;
     }
-    print_floats(&params[..times]);
+    print_floats(front(room.params, times));
     cases::end_line();
 }
 
@@ -260,11 +286,13 @@ fn record(head: &[u8; 104], marks: &[f64]) {
     answer(
         head,
         marks,
-        lent(&mut curves, length_at(head, 16)),
-        lent(&mut firsts, length_at(head, 24)),
-        lent(&mut worsts, length_at(head, 32)),
-        lent(&mut params, length_at(head, 40)),
-        lent(&mut open, length_at(head, 48)),
+        &mut Room {
+            curves: lent(&mut curves, length_at(head, 16)),
+            firsts: lent(&mut firsts, length_at(head, 24)),
+            worsts: lent(&mut worsts, length_at(head, 32)),
+            params: lent(&mut params, length_at(head, 40)),
+            open: lent(&mut open, length_at(head, 48)),
+        },
     );
 }
 

@@ -52,6 +52,45 @@ struct Runs {
     length: usize,
 }
 
+// What a call is lent.
+#[derive(Drop)]
+struct Room<'a> {
+    marks: &'a mut [u64],
+    firsts: &'a mut [u32],
+    worsts: &'a mut [u32],
+    curves: &'a mut [u64],
+    params: &'a mut [u64],
+}
+
+impl Room<'_> {
+    fn read(&mut self, file: &[u8]) -> Result<Found, Refusal> {
+        reader::read_file(
+            file,
+            self.marks,
+            self.firsts,
+            self.worsts,
+            self.curves,
+            self.params,
+        )
+    }
+
+    // Writes what was read.
+    fn write(&self, found: Found, out: &mut [u8]) -> Result<usize, Refusal> {
+        let m = found.marks.wrapping_add(found.marks);
+        writer::write_file(
+            found.form,
+            found.tolerance,
+            front(self.marks, m),
+            found.curves,
+            self.firsts,
+            self.worsts,
+            self.curves,
+            self.params,
+            out,
+        )
+    }
+}
+
 // How often each answer was given.
 #[derive(Clone, Copy, Default)]
 struct Tally {
@@ -92,41 +131,18 @@ fn number_of<T: Copy>(answer: Result<T, Refusal>) -> u32 {
 }
 
 // The number of the answer of the one or the other.
-fn answer_of(
-    what: u64,
-    file: &[u8],
-    marks: &mut [u64],
-    firsts: &mut [u32],
-    worsts: &mut [u32],
-    curves: &mut [u64],
-    params: &mut [u64],
-    out: &mut [u8],
-) -> u32 {
+fn answer_of(what: u64, file: &[u8], room: &mut Room, out: &mut [u8]) -> u32 {
     if what < UNPACK_PREFIXES {
-        return number_of(reader::read_file(
-            file, marks, firsts, worsts, curves, params,
-        ));
+        return number_of(room.read(file));
     }
     number_of(unpack_file(file, out))
 }
 
 // Every prefix, the file itself not among them.
-fn prefixes(
-    what: u64,
-    file: &[u8],
-    marks: &mut [u64],
-    firsts: &mut [u32],
-    worsts: &mut [u32],
-    curves: &mut [u64],
-    params: &mut [u64],
-    out: &mut [u8],
-) -> Tally {
+fn prefixes(what: u64, file: &[u8], room: &mut Room, out: &mut [u8]) -> Tally {
     let mut t = Tally::default();
     for i in 0..file.len() {
-        t = count(
-            t,
-            answer_of(what, &file[..i], marks, firsts, worsts, curves, params, out),
-        );
+        t = count(t, answer_of(what, &file[..i], room, out));
     }
     t
 }
@@ -155,11 +171,7 @@ fn change_at(
     at: usize,
     values: u64,
     start: Tally,
-    marks: &mut [u64],
-    firsts: &mut [u32],
-    worsts: &mut [u32],
-    curves: &mut [u64],
-    params: &mut [u64],
+    room: &mut Room,
     out: &mut [u8],
 ) -> Tally
     requires { at < length file.old }
@@ -168,33 +180,18 @@ fn change_at(
     let mut t = start;
     for d in 1..values {
         file[at] = turned(was, d);
-        t = count(
-            t,
-            answer_of(what, file, marks, firsts, worsts, curves, params, out),
-        );
+        t = count(t, answer_of(what, file, room, out));
     }
     file[at] = was;
     t
 }
 
 // Every change of one byte that is given.
-fn changes(
-    what: u64,
-    runs: Runs,
-    file: &mut [u8],
-    marks: &mut [u64],
-    firsts: &mut [u32],
-    worsts: &mut [u32],
-    curves: &mut [u64],
-    params: &mut [u64],
-    out: &mut [u8],
-) -> Tally {
+fn changes(what: u64, runs: Runs, file: &mut [u8], room: &mut Room, out: &mut [u8]) -> Tally {
     let mut t = Tally::default();
     for i in 0..file.len() {
         let values = values_at(runs, i);
-        t = change_at(
-            what, file, i, values, t, marks, firsts, worsts, curves, params, out,
-        );
+        t = change_at(what, file, i, values, t, room, out);
     }
     t
 }
@@ -234,66 +231,21 @@ fn beyond(too_far: bool, beside: &mut [u32]) {
     }
 }
 
-// What the reader found, written again.
-fn write_again(
-    what: u64,
-    found: Found,
-    file: &[u8],
-    marks: &[u64],
-    firsts: &mut [u32],
-    worsts: &mut [u32],
-    curves: &[u64],
-    params: &[u64],
-    out: &mut [u8],
-) {
-    beyond(what == 5, firsts);
-    beyond(what == 4, worsts);
-    let wrote = writer::write_file(
-        found.form,
-        found.tolerance,
-        marks,
-        found.curves,
-        firsts,
-        worsts,
-        curves,
-        params,
-        out,
-    );
-    print_written(wrote, file, out);
-}
-
 fn print_counts(marks: usize, curves: usize) {
     cases::print_count(0);
     cases::print_next_count(marks as u64);
     cases::print_next_count(curves as u64);
 }
 
-// The file read, and written again.
-fn read_and_write(
-    what: u64,
-    file: &[u8],
-    marks: &mut [u64],
-    firsts: &mut [u32],
-    worsts: &mut [u32],
-    curves: &mut [u64],
-    params: &mut [u64],
-    out: &mut [u8],
-) {
-    match reader::read_file(file, marks, firsts, worsts, curves, params) {
+// The file read, and what the reader found written again.
+fn read_and_write(what: u64, file: &[u8], room: &mut Room, out: &mut [u8]) {
+    match room.read(file) {
         Ok(found) => {
             print_counts(found.marks, found.curves);
-            let m = found.marks.wrapping_add(found.marks);
-            write_again(
-                what,
-                found,
-                file,
-                front(marks, m),
-                firsts,
-                worsts,
-                curves,
-                params,
-                out,
-            );
+            beyond(what == 5, room.firsts);
+            beyond(what == 4, room.worsts);
+            let wrote = room.write(found, out);
+            print_written(wrote, file, out);
         }
         Err(q) => print_refusal(q),
     }
@@ -424,62 +376,43 @@ fn clean_record(head: &[u8; 104], file: &[u8]) {
     );
 }
 
-fn write_record(what: u64, head: &[u8; 104], file: &[u8]) {
+// Lends zeros, as many as a head asks for.
+fn in_zeros<F: FnOnce(&mut Room, &mut [u8])>(head: &[u8; 104], act: F)
+    requires { F.IsAlwaysCallable act }
+{
     let mut marks = [0u64; NUMBERS];
     let mut firsts = [0u32; FIRSTS];
     let mut worsts = [0u32; FIRSTS];
     let mut curves = [0u64; NUMBERS];
     let mut params = [0u64; PARAMS];
     let mut out = [0u8; WRITTEN];
-    read_and_write(
-        what,
-        file,
-        lent(&mut marks, length_at(head, 56)),
-        lent(&mut firsts, length_at(head, 64)),
-        lent(&mut worsts, length_at(head, 72)),
-        lent(&mut curves, length_at(head, 80)),
-        lent(&mut params, length_at(head, 88)),
-        lent(&mut out, length_at(head, 96)),
-    );
+    let room = &mut Room {
+        marks: lent(&mut marks, length_at(head, 56)),
+        firsts: lent(&mut firsts, length_at(head, 64)),
+        worsts: lent(&mut worsts, length_at(head, 72)),
+        curves: lent(&mut curves, length_at(head, 80)),
+        params: lent(&mut params, length_at(head, 88)),
+    };
+    act(room, lent(&mut out, length_at(head, 96)));
+}
+
+fn write_record(what: u64, head: &[u8; 104], file: &[u8]) {
+    in_zeros(head, |room, out| read_and_write(what, file, room, out));
 }
 
 // Prefixes or changes.
-fn tallied(
-    what: u64,
-    runs: Runs,
-    file: &mut [u8],
-    marks: &mut [u64],
-    firsts: &mut [u32],
-    worsts: &mut [u32],
-    curves: &mut [u64],
-    params: &mut [u64],
-    out: &mut [u8],
-) -> Tally {
+fn tallied(what: u64, runs: Runs, file: &mut [u8], room: &mut Room, out: &mut [u8]) -> Tally {
     if (what == PREFIXES) | (what == UNPACK_PREFIXES) {
-        return prefixes(what, file, marks, firsts, worsts, curves, params, out);
+        return prefixes(what, file, room, out);
     }
-    changes(what, runs, file, marks, firsts, worsts, curves, params, out)
+    changes(what, runs, file, room, out)
 }
 
 fn tally_record(what: u64, head: &[u8; 104], file: &mut [u8]) {
-    let mut marks = [0u64; NUMBERS];
-    let mut firsts = [0u32; FIRSTS];
-    let mut worsts = [0u32; FIRSTS];
-    let mut curves = [0u64; NUMBERS];
-    let mut params = [0u64; PARAMS];
-    let mut out = [0u8; WRITTEN];
-    let t = tallied(
-        what,
-        runs_of(head),
-        file,
-        lent(&mut marks, length_at(head, 56)),
-        lent(&mut firsts, length_at(head, 64)),
-        lent(&mut worsts, length_at(head, 72)),
-        lent(&mut curves, length_at(head, 80)),
-        lent(&mut params, length_at(head, 88)),
-        lent(&mut out, length_at(head, 96)),
+    in_zeros(
+        head,
+        |room, out| print_tally(tallied(what, runs_of(head), file, room, out)),
     );
-    print_tally(t);
 }
 
 // What a record asks for.
