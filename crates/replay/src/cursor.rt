@@ -91,7 +91,7 @@ impl<'a> Cursor<'a> {
     // How many floats the rest of the line has room for.
     pub fn floats_left(&self) -> usize {
         match self.rest {
-            Some(rest) => (rest.len() + 1) / FLOAT,
+            Some(rest) => rest.len().saturating_add(1) / FLOAT,
             None => 0,
         }
     }

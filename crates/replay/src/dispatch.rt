@@ -25,9 +25,7 @@ fn single_case(single: Single, words: Cursor) -> Option<()> {
 // One with room for curves; `export` writes over its line. One room serves all these kinds: rooms of their own might lie on the stack together, where the compiler makes one function of several.
 fn case_in(large: Large, line: &mut [u8], end: usize, curves: &mut [f64]) -> Option<()> {
     match large {
-        Large::Direct(engine) => {
-            outline::direct_case(engine, Cursor::behind(line, end), curves)
-        }
+        Large::Direct(engine) => { outline::direct_case(engine, Cursor::behind(line, end), curves) }
         Large::Fit(blocks) => outline::blocks_case(blocks, Cursor::behind(line, end), curves),
         Large::Check(outline, form) => {
             listing::check_case(outline, form, Cursor::behind(line, end), curves)

@@ -1,5 +1,5 @@
 // Cases of house files: packed, unpacked, and cleaned. A file's bytes go where its digits stood, for they are half as many.
-ghost use Rattle.std.specs.Prelude.{◌<◌, ◌≤◌, length};
+ghost use Rattle.std.specs.Prelude.{◌<◌, ◌≤◌, length, IfSome};
 
 use crate::kind::Work;
 use crate::print::{print_accepted, print_bytes, print_refused};
@@ -12,7 +12,9 @@ use salvaging::salvage;
 use unpacker::unpack_file;
 
 // The value of a lower-case digit.
-fn digit(b: u8) -> Option<u8> {
+fn digit(b: u8) -> Option<u8>
+    ensures { IfSome result (λ d. d < 16) }
+{
     match b {
         b'0'..=b'9' => Some(b - b'0'),
         b'a'..=b'f' => Some(b - b'a' + 10),
@@ -20,24 +22,25 @@ fn digit(b: u8) -> Option<u8> {
     }
 }
 
-// Puts the byte whose digits stand at `at` into place n.
-fn put_byte(line: &mut [u8], at: usize, n: usize) -> Option<()>
-    requires { (n ≤ at) × (at < length line.old) }
-{
-    let high = digit(line[at])?;
-    let low = digit(*line.get(at + 1)?)?;
-    line[n] = 16 * high + low;
-    Some(())
+// The byte that two digits stand for.
+fn byte_of(high: u8, low: u8) -> Option<u8> {
+    let high = digit(high)?;
+    let low = digit(low)?;
+    Some(16 * high + low)
 }
 
 // Puts the bytes whose digits stand from `from` on into the first places of the line; how many there are.
-fn decode(line: &mut [u8], from: usize) -> Option<usize> {
-    let mut n: usize = 0;
-    for at in (from..line.len()).step_by(2) {
-        put_byte(line, at, n)?;
-        n += 1;
+fn decode(line: &mut [u8], from: usize) -> Option<usize>
+    requires { from ≤ length line.old }
+{
+    let digits = line.len() - from;
+    if digits % 2 != 0 {
+        return None;
     }
-    Some(n)
+    for n in 0..digits / 2 {
+        line[n] = byte_of(line[from + 2 * n], line[from + 2 * n + 1])?;
+    }
+    Some(digits / 2)
 }
 
 // The other file.

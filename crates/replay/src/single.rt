@@ -1,7 +1,7 @@
 // Cases of one number or one curve. Each takes its words, and prints its answer; it is none where they are not what it asks for or the line goes
 // on behind them.
 use crate::cursor::{Cursor, MOST};
-use crate::print::{print_accepted, print_refused, say, say_accepted, Words};
+use crate::print::{Words, print_accepted, print_refused, say, say_accepted};
 use nearest::NearestPoint;
 
 // sqrt X
