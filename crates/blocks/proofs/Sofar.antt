@@ -351,13 +351,6 @@ module _ (H : Head) where
         pub last_stops : (q : Refusal) → R.r ≡ Err q → (C₂ : List Float) (F₂ W₂ : List ℕ) (P₂ : List Float) → Left (blocks_of K.k K.ms K.size K.tol) R.r K.C C₂ K.F F₂ K.W W₂ P₂
         last_stops q e C₂ F₂ W₂ P₂ = rw (whole_last, is_refused (block K from n) R.r q CC R.D₁ FF R.E₁ WW R.V₁ R.p R.left e) (ap answer e)
 
-        pub last_few : (j : ℕ) → R.r ≡ Ok j → j + from < n
-        last_few j e =
-            let D = ended j e in
-            let m = numbers in
-            let z = block_sized K.k K.ms n K.size K.tol from n D.cs D.bs R.p (omega (arith, m)) A.ready.usable (omega (arith, m)) (omega arith) D.is in
-            omega (arith, z.1, D.long)
-
         pub last_done : (j : ℕ) → R.r ≡ Ok j → Left (blocks_of K.k K.ms K.size K.tol) (Ok (made + j)) K.C (C₂ R) K.F (F₂ R) K.W (W₂ R) (P₂ R)
         last_done j e =
             let D = ended j e in

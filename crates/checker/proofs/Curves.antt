@@ -12,7 +12,6 @@ use Rattle.plane.specs.declared.Point.{Point}
 use Rattle.plane.specs.declared.Curve.{Curve}
 use Rattle.marks.specs.Marks.{count, mark_at}
 use Rattle.marks.proofs.Parts.{mark-drop}
-use Rattle.form.specs.Form.{width, worsts_for}
 use Rattle.form.specs.declared.Form.{Form}
 use Rattle.ring.specs.Ring.{again, whole, Even}
 use Rattle.ring.specs.declared.Outline.{Outline}
@@ -20,7 +19,6 @@ use Rattle.ring.specs.declared.Outline.TheVariants.{Closed}
 use Rattle.ring.proofs.Whole.{again-small, whole-count, halves, given, as-closed}
 use Rattle.stages.specs.declared.worst.Worst.{Worst}
 use Rattle.faults.specs.Tests.{first_at, curve_at, last_at, stop_at, runs, unmeasured, square_at, farthest, kept}
-use Rattle.faults.proofs.Forms.{curve_within_is, worst_within}
 use Rattle.faults.proofs.Farther.{farther_same}
 use Rattle.faults.proofs.Firsts.{span}
 use Rattle.checker.specs.declared.Fault.{Fault}
@@ -43,30 +41,21 @@ pub record Places (o : Outline) (ms : List Float) (n k : ℕ) (fs : List ℕ) (p
   pub round : n ≤ count ms + 1
   pub params : n ≤ length ps
 
+pub places : (o : Outline) (ms : List Float) {form : Form} {k : ℕ} {cs : List Float} {fs ws : List ℕ} {ps : List Float} {j m : ℕ} → m ≡ again o → (j < k) × Listed form (whole o ms) k cs fs ws ps → Places o ms (m + count ms) k fs ps j
+places o ms {k = k} {fs = fs} {j = j} {m = m} e (l, h) =
+    let r = risen (count (whole o ms)) k fs h.rising in
+    let few = r.few in
+    let some = r.some in
+    let two : 2 ≤ count (whole o ms) = omega arith in
+    let even = (halves o ms (count (whole o ms)) (let e = h.even in omega arith) two).0 in
+    let all : m + count ms ≡ count (whole o ms) = ap (λ (i : ℕ). i + count ms) e ∙ sym (whole-count o ms even) in
+    let small = again-small o in
+    let p = h.params in
+    let b = r.below j l in
+    let s = span (m + count ms) k fs j (rw all r) l in
+    record { even = even; all = all; two = omega arith; first = omega arith; last = s.last; order = s.starts; stop = s.stops; round = omega arith; params = omega arith }
+
 module _ (o : Outline) (form : Form) (ms : List Float) (tol : Float) (k : ℕ) (cs : List Float) (fs ws : List ℕ) (ps : List Float) where
-  -- curve j's own numbers, and its worst mark
-  pub own : (j : ℕ) → (j < k) × Listed form (whole o ms) k cs fs ws ps → (width form * j + width form ≤ length cs) × (worsts_for form (j + 1) ≤ length ws)
-  own j (l, h) =
-      let c = curve_within_is form j k l in
-      let w = worst_within form j k l in
-      let x = h.curves in
-      let y = h.worsts in
-      (omega arith, omega arith)
-
-  pub places : (n j : ℕ) → n ≡ again o + count ms → (j < k) × Listed form (whole o ms) k cs fs ws ps → Places o ms n k fs ps j
-  places n j is (l, h) =
-      let r = risen (count (whole o ms)) k fs h.rising in
-      let few = r.few in
-      let some = r.some in
-      let two : 2 ≤ count (whole o ms) = omega arith in
-      let even = (halves o ms (count (whole o ms)) (let e = h.even in omega arith) two).0 in
-      let all : n ≡ count (whole o ms) = is ∙ sym (whole-count o ms even) in
-      let small = again-small o in
-      let p = h.params in
-      let b = r.below j l in
-      let s = span n k fs j (rw all r) l in
-      record { even = even; all = all; two = omega arith; first = omega arith; last = s.last; order = s.starts; stop = s.stops; round = omega arith; params = omega arith }
-
   module _ (n j : ℕ) (b : Places o ms n k fs ps j) (c : Curve) (first : ℕ) (is_c : c ≡ curve_at form cs j) (is_first : first ≡ first_at fs j) where
     abbrev test : Bool
     test = runs (curve_at form cs j) (mark_at (whole o ms) (first_at fs j)) (mark_at (whole o ms) (last_at (count (whole o ms)) k fs j))

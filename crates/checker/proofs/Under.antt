@@ -7,7 +7,7 @@ use mathlib.Core.Bool.{Bool, true, false}
 use mathlib.Core.List.{List}
 use lib.ListN.{length, get_or}
 use lib.Ieee.{Float, nan, binary64}
-use Rattle.std.specs.Prelude.{Result, Ok, Err}
+use Rattle.std.specs.Prelude.{Result, Err}
 use Rattle.root.specs.Root.{sqrt}
 use Rattle.plane.specs.declared.Curve.{Curve}
 use Rattle.marks.specs.Marks.{mark_at}
@@ -53,8 +53,3 @@ module _ (tol : Float) (n j first from : ℕ) (c : Curve) (us ts : List Float) (
       faultless g next e =
           let v : in_turn (i + 1) steps ≡ passed = turn_next steps i inv.1 (rw (← time, t, ← near_is, g)) in
           (omega arith, v, e ∙ rw (add-one, ← inv.2, ← is))
-
-  pub faultless_end : (far : Worst) (i : ℕ) → Faultless far i → length ts ≤ i → Ok far ≡ whole
-  faultless_end far i inv h =
-      let e : i ≡ length ts = let l = inv.0 in omega arith in
-      rw (← e, inv.1) (ap Ok inv.2)

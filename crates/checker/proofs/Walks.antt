@@ -26,14 +26,6 @@ use Rattle.checker.proofs.Turns.{turn_last, turn_halted, turn_one, turn_same}
 pub part_length : {A : Type 0} (a e : ℕ) (l : List A) → e ≤ length l → {t : List A} → t ≡ take (e - a) (drop a l) → length t ≡ e - a
 part_length a e l h i = ap length i ∙ simp (length-take, length-drop) (omega arith)
 
--- what a walk asks of its part of the marks, a up to e, and of its parameters
-pub walk_asks : (n from stop a e : ℕ) (ms ps us ts : List Float) → us ≡ take (2 * e - 2 * a) (drop (2 * a) ms) → ts ≡ take (stop - from) (drop from ps) → e - a ≡ stop - from → from ≤ stop
-    → stop ≤ n → 2 * e ≤ length ms → stop ≤ length ps → (length us ≡ 2 * length ts) × (from + length ts ≤ n)
-walk_asks n from stop a e ms ps us ts is_us is-ts s o l m p =
-    let u = part_length (2 * a) (2 * e) ms m is_us in
-    let t = part_length from stop ps p is-ts in
-    (omega arith, omega arith)
-
 -- ---- what a walk gave, by its cases
 
 pub far_is : (v : Verdict) (w : Worst) {x : Worst} → walked_by v w ≡ Ok x → (v ≡ passed) × (w ≡ x)

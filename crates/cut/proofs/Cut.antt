@@ -12,7 +12,7 @@ use Rattle.float.specs.Answer.{refused as no}
 use Rattle.float.specs.Refusal.{answer, number}
 use Rattle.float.specs.declared.refusal.Refusal.{Refusal}
 use Rattle.float.specs.Slices.{written}
-use Rattle.float.proofs.Slices.{written_behind, params-join, part_length, front_length}
+use Rattle.float.proofs.Slices.{written_behind, params-join, front_length}
 use Rattle.plane.specs.declared.Point.{Point}
 use Rattle.marks.specs.Marks.{count}
 use Rattle.form.specs.Form.{record_numbers}
@@ -29,7 +29,7 @@ use Rattle.cut.specs.Run.{Run, refused, done, Beside, firsts_of, worsts_of, flat
 use Rattle.tangents.specs.Ways.{ways_at}
 use Rattle.cut.specs.Lent.{Left, Ready}
 use Rattle.tangents.specs.declared.Ways.{Ways}
-use Rattle.cut.proofs.Run.{run_sized, Sized, run_fits, run-fails, run-cuts, left_count, right_count, usable_left, usable_right}
+use Rattle.cut.proofs.Run.{run_sized, Sized, run_fits, run-fails, run-cuts, left_count, usable_left, usable_right}
 
 -- ---- an answer of the code, where a definition refuses
 
@@ -186,12 +186,6 @@ right_run K T = run_of (right_of K.at K.ms) (K.first + K.at) T.start K.e K.tol
 pub cut_is : (K : Call) (T : Ways) → outcome (ways_at K.ms K.at) ≡ ok T → cut_of K.ms K.at K.first K.s K.e K.tol ≡ join K.at (left_run K T) (right_run K T)
 cut_is K T e = rw e
 
-pub cut_stops_left : (K : Call) (T : Ways) (r : Result ℕ Refusal) (q : Refusal) (C₁ C₂ : List Float) (F₁ F₂ W₁ W₂ : List ℕ) (p p₂ : List Float)
-    → outcome (ways_at K.ms K.at) ≡ ok T → Left (left_run K T) r K.C C₁ K.F F₁ K.W W₁ p → r ≡ Err q
-    → Left (cut_of K.ms K.at K.first K.s K.e K.tol) r K.C C₂ K.F F₂ K.W W₂ p₂
-cut_stops_left K T r q C₁ C₂ F₁ F₂ W₁ W₂ p p₂ e h n =
-    rw (cut_is K T e, is_refused (left_run K T) r q K.C C₁ K.F F₁ K.W W₁ p h n) (ap answer n)
-
 -- what is known once the left side has given j curves
 pub record Half (K : Call) : Type 0 where
   pub T : Ways
@@ -277,15 +271,10 @@ module _ (K : Call) (H : Half K) where
     pub V₁ : List ℕ
     pub p' : List Float
     pub left : Left (run_of (take (length K.ms - 2 * K.at) (drop (2 * K.at) K.ms)) (K.first + K.at) H.T.start K.e K.tol) r (take (length H.C₁ - record_numbers * H.j) (drop (record_numbers * H.j) H.C₁)) D₁ (take (length H.F₁ - H.j) (drop H.j H.F₁)) E₁ (take (length H.W₁ - H.j) (drop H.j H.W₁)) V₁ p'
-    pub ld : length D₁ ≡ length (take (length H.C₁ - record_numbers * H.j) (drop (record_numbers * H.j) H.C₁))
-    pub le : length E₁ ≡ length (take (length H.F₁ - H.j) (drop H.j H.F₁))
-    pub lv : length V₁ ≡ length (take (length H.W₁ - H.j) (drop H.j H.W₁))
-    pub lp : length p' ≡ length (take (length P₁ - K.at) (drop K.at P₁))
 
   -- the same by its contract
-  abbrev pub right : (r : Result ℕ Refusal) (D₁ : List Float) (E₁ V₁ : List ℕ) (p' : List Float) → Left (run_of (take (length K.ms - 2 * K.at) (drop (2 * K.at) K.ms)) (K.first + K.at) H.T.start K.e K.tol) r (take (length H.C₁ - record_numbers * H.j) (drop (record_numbers * H.j) H.C₁)) D₁ (take (length H.F₁ - H.j) (drop H.j H.F₁)) E₁ (take (length H.W₁ - H.j) (drop H.j H.W₁)) V₁ p'
-      → length D₁ ≡ length (take (length H.C₁ - record_numbers * H.j) (drop (record_numbers * H.j) H.C₁)) → length E₁ ≡ length (take (length H.F₁ - H.j) (drop H.j H.F₁)) → length V₁ ≡ length (take (length H.W₁ - H.j) (drop H.j H.W₁)) → length p' ≡ length (take (length P₁ - K.at) (drop K.at P₁)) → Right
-  right r D₁ E₁ V₁ p' left ld le lv lp = record { r = r; D₁ = D₁; E₁ = E₁; V₁ = V₁; p' = p'; left = left; ld = ld; le = le; lv = lv; lp = lp }
+  abbrev pub right : (r : Result ℕ Refusal) (D₁ : List Float) (E₁ V₁ : List ℕ) (p' : List Float) → Left (run_of (take (length K.ms - 2 * K.at) (drop (2 * K.at) K.ms)) (K.first + K.at) H.T.start K.e K.tol) r (take (length H.C₁ - record_numbers * H.j) (drop (record_numbers * H.j) H.C₁)) D₁ (take (length H.F₁ - H.j) (drop H.j H.F₁)) E₁ (take (length H.W₁ - H.j) (drop H.j H.W₁)) V₁ p' → Right
+  right r D₁ E₁ V₁ p' left = record { r = r; D₁ = D₁; E₁ = E₁; V₁ = V₁; p' = p'; left = left }
 
   module _ (R : Right) where
     -- the four lent slices when their parts are back
@@ -300,18 +289,6 @@ module _ (K : Call) (H : Half K) where
 
     abbrev pub P₂ : List Float
     P₂ = take K.at P₁ ++ (R.p' ++ drop (length P₁ - K.at) (drop K.at P₁))
-
-    pub as_long_curves : length C₂ ≡ length K.C
-    as_long_curves = let n = numbers in part_length (record_numbers * H.j) (length H.C₁ - record_numbers * H.j) H.C₁ R.D₁ (omega (arith, n)) refl R.ld ∙ H.lc
-
-    pub as_long_firsts : length F₂ ≡ length K.F
-    as_long_firsts = let n = numbers in part_length H.j (length H.F₁ - H.j) H.F₁ R.E₁ (omega (arith, n)) refl R.le ∙ H.lf
-
-    pub as_long_worsts : length W₂ ≡ length K.W
-    as_long_worsts = let n = numbers in part_length H.j (length H.W₁ - H.j) H.W₁ R.V₁ (omega (arith, n)) refl R.lv ∙ H.lw
-
-    pub as_long_params : length P₂ ≡ length K.P
-    as_long_params = let n = numbers in part_length K.at (length P₁ - K.at) P₁ R.p' (omega (arith, n)) refl R.lp ∙ n.lp
 
     -- the right side's run, of the marks as the definition has them
     ran : Left (right_run K H.T) R.r (take (length H.C₁ - record_numbers * H.j) (drop (record_numbers * H.j) H.C₁)) R.D₁ (take (length H.F₁ - H.j) (drop H.j H.F₁)) R.E₁ (take (length H.W₁ - H.j) (drop H.j H.W₁)) R.V₁ R.p'
@@ -334,11 +311,3 @@ module _ (K : Call) (H : Half K) where
         (beside-behind (λ b. b.first) H.side.bs right.bs K.F H.F₁ R.E₁ H.j (length H.F₁ - H.j) H.side.firsts H.side.long refl right.firsts)
         (beside-behind (λ b. b.worst) H.side.bs right.bs K.W H.W₁ R.V₁ H.j (length H.W₁ - H.j) H.side.worsts H.side.long refl right.worsts)
         (params-join K.at (length P₁ - K.at) H.p R.p' K.P P₁ refl (omega (arith, n)) refl))
-
-    pub right_few : (k : ℕ) → R.r ≡ Ok k → k + K.at < length K.P
-    right_few k q =
-        let right = did k q in
-        let n = numbers in
-        let m : count (right_of K.at K.ms) ≡ count K.ms - K.at = right_count K.at K.ms (omega (arith, n)) in
-        let z = sizes (right_of K.at K.ms) (K.first + K.at) H.T.start K.e K.tol right.cs right.bs R.p' (omega (arith, n)) (usable_right K.at K.ready.usable) right.is in
-        omega (arith, n, z.1, right.long)

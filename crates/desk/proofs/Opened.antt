@@ -1,13 +1,11 @@
 -- What a file that was opened tells, and one that was refused. Assumes nothing.
 use mathlib.Core.Path.{◌≡◌, refl, sym, ap, ◌∙◌}
 use mathlib.Core.Bool.{Bool, true, false, cond}
-use mathlib.Core.List.{List, ◌∷◌, []}
+use mathlib.Core.List.{List}
 use Prim.Native.Nat.{ℕ, ◌*◌, ◌<◌, ◌≤◌}
 use native.Mathlib.Omega.{arith}
 use borrow.Author.Tests.{leb-true, leb-false, le-leb, lt-leb}
 use lib.Dec.{leb}
-use types.Run.{OneOf}
-use denote.Enum.Declared.{tag_of}
 use lib.ListN.{length, take, length-take}
 use Rattle.float.specs.Answer.{Answer, ok, refused, unless, ◌>>=◌}
 use Rattle.float.specs.Slices.{written}
@@ -18,16 +16,19 @@ use Rattle.limits.specs.Limits.{most_marks}
 use Rattle.house.specs.File.{File, marks_in, curves_in, params_for}
 use Rattle.house.specs.Held.{candidate, is_file}
 use Rattle.packed.specs.Unpacked.{packed_candidate, is_packed, packed_of, held_of}
-use Rattle.reader.specs.declared.Read.{Read}
-use Rattle.reader.specs.declared.Read.TheVariants as read
-use Rattle.reader.specs.contracts.Read.{the_type}
-use Rattle.reader.specs.Reader.{Found, found_in, Outcome, outcome, read_answer, within, judged, settled, read_of}
+use Rattle.std.proofs.Common.{Result, Ok, Err}
+use Rattle.std.specs.Result.{MatchResult, IsErrAnd}
+use Rattle.std.proofs.lemmas.Result.{err_from_is_err_and}
+use Rattle.float.specs.Refusal.{answer, number}
+use Rattle.float.specs.declared.refusal.Refusal.{Refusal}
+use Rattle.reader.specs.declared.Found.{Found}
+use Rattle.reader.specs.Reader.{found_in, Outcome, outcome, within, judged, settled, read_of}
 use Rattle.float.proofs.Answers.{not_refused, unless_ok}
 use Rattle.grammar.proofs.Formed.{Turn, plain, full, Sized, Formed, formed, params_some}
 use Rattle.grammar.proofs.Rooms.{Places, placing}
 use Rattle.packed.proofs.Candidate.{Stored, held_stored, stored_formed}
 use Rattle.limits.specs.Limits.{most_read}
-use Rattle.desk.specs.Desk.{room_marks, Roomy, file_in, refusal_in, crowded_as}
+use Rattle.desk.specs.Desk.{room_marks, Roomy, file_in, crowded_as}
 use Rattle.desk.proofs.Numbers.{front}
 
 -- ---- the call
@@ -91,32 +92,34 @@ read_as b h = rw (le-leb (length b) most_read h) (go (held_of b) refl)
     go (ok F) x = let f = formed F (stored_formed (held_stored x)) in held F f.sized f.way
     go (refused q) x = rw (no_other b x)
 
-module _ (b M P W C Q : List ℕ) (r : Read) {M' P' W' C' Q' : List ℕ} (h : length b ≤ most_read) (y : Roomy M P W C Q) (e : outcome (read_answer r) M' P' W' C' Q' ≡ read_of b M P W C Q) where
-  lent : outcome (read_answer r) M' P' W' C' Q' ≡ settled (judged b 8192 4095 4095 36855 4096) M P W C Q
+module _ (b M P W C Q : List ℕ) (r : Result Found Refusal) {M' P' W' C' Q' : List ℕ} (h : length b ≤ most_read) (y : Roomy M P W C Q) (e : outcome (answer r) M' P' W' C' Q' ≡ read_of b M P W C Q) where
+  lent : outcome (answer r) M' P' W' C' Q' ≡ settled (judged b 8192 4095 4095 36855 4096) M P W C Q
   unfolding read_of
   lent = e ∙ rw (y.marks, y.firsts, y.worsts, y.curves, y.params)
 
-  pub file-read : {form : Form} {t n k : ℕ} → r ≡ read.File form t n k → outcome (read_answer (read.File form t n k)) M' P' W' C' Q' ≡ settled (file_in b) M P W C Q
-  file-read {form} {t} {n} {k} i = rw (read_as b h) (go (judged b 8192 4095 4095 36855 4096) (rw i at lent))
+  pub file-read : {f : Found} → r ≡ Ok f → outcome (answer (Ok f)) M' P' W' C' Q' ≡ settled (file_in b) M P W C Q
+  file-read {f} i = rw (read_as b h) (go (judged b 8192 4095 4095 36855 4096) (rw i at lent))
     where
-      go : (a : Answer File) → outcome (read_answer (read.File form t n k)) M' P' W' C' Q' ≡ settled a M P W C Q → outcome (read_answer (read.File form t n k)) M' P' W' C' Q' ≡ settled (moved a) M P W C Q
+      go : (a : Answer File) → outcome (ok f) M' P' W' C' Q' ≡ settled a M P W C Q → outcome (ok f) M' P' W' C' Q' ≡ settled (moved a) M P W C Q
       go (ok F) x = x
       go (refused q) x = not_refused q (ap (λ (o : Outcome). o.answer) x)
 
-  pub file-refused : {q p : ℕ} → r ≡ read.Refused q → p ≡ crowded_as q → outcome (read_answer (read.Refused p)) M' P' W' C' Q' ≡ settled (file_in b) M P W C Q
-  file-refused {q} {p} i z = rw (read_as b h) (go (judged b 8192 4095 4095 36855 4096) (rw i at lent))
+  pub file-refused : (q p : Refusal) → r ≡ Err q → number p ≡ crowded_as (number q) → outcome (answer (Err p)) M' P' W' C' Q' ≡ settled (file_in b) M P W C Q
+  file-refused q p i z = rw (read_as b h) (go (judged b 8192 4095 4095 36855 4096) (rw i at lent))
     where
-      go : (a : Answer File) → outcome (read_answer (read.Refused q)) M' P' W' C' Q' ≡ settled a M P W C Q → outcome (read_answer (read.Refused p)) M' P' W' C' Q' ≡ settled (moved a) M P W C Q
-      go (ok F) x = not_refused q (sym (ap (λ (o : Outcome). o.answer) x))
+      go : (a : Answer File) → outcome (refused (number q)) M' P' W' C' Q' ≡ settled a M P W C Q → outcome (refused (number p)) M' P' W' C' Q' ≡ settled (moved a) M P W C Q
+      go (ok F) x = not_refused (number q) (sym (ap (λ (o : Outcome). o.answer) x))
       go (refused s) x =
-          let a : ◌≡◌ {A = Answer Found} (refused q) (refused s) = ap (λ (o : Outcome). o.answer) x in
-          let g : q ≡ s = cc in
-          let u : p ≡ crowded_as s = z ∙ ap crowded_as g in
+          let a : ◌≡◌ {A = Answer Found} (refused (number q)) (refused s) = ap (λ (o : Outcome). o.answer) x in
+          let g : number q ≡ s = cc in
+          let u : number p ≡ crowded_as s = z ∙ ap crowded_as g in
           rw u (λ i. outcome (refused (crowded_as s)) (x i).marks (x i).firsts (x i).worsts (x i).curves (x i).params)
 
--- the arm of a file that was refused
-pub refused_tag : (r : Read) {q : ℕ} → r ≡ read.Refused q → OneOf (1 ∷ []) (tag_of the_type r)
-refused_tag r e = rw e refl
+-- what the reader said, with its refusal for want of room moved
+pub opened_as : (b M P W C Q : List ℕ) (r s : Result Found Refusal) {M' P' W' C' Q' : List ℕ} → length b ≤ most_read → Roomy M P W C Q → outcome (answer r) M' P' W' C' Q' ≡ read_of b M P W C Q
+    → MatchResult r (λ f. s ≡ Ok f) (λ q. IsErrAnd s (λ p. number p ≡ crowded_as (number q))) → outcome (answer s) M' P' W' C' Q' ≡ settled (file_in b) M P W C Q
+opened_as b M P W C Q (Ok f) s h y e m = rw m (file-read b M P W C Q (Ok f) h y e refl)
+opened_as b M P W C Q (Err q) s h y e m = let p = err_from_is_err_and s m in rw p.1 (file-refused b M P W C Q (Err q) h y e q p.0 refl p.2)
 
 -- ---- what it tells
 
@@ -179,13 +182,10 @@ module _ (b M P W C Q : List ℕ) {M' P' W' C' Q' : List ℕ} where
         params = front _ _ _ eQ f.sized.params;
       }
 
-  pub opened : (r : Read) {form : Form} {t n k : ℕ} → r ≡ read.File form t n k → outcome (read_answer r) M' P' W' C' Q' ≡ settled (file_in b) M P W C Q → Opened b form t n k M' P' W' C' Q'
-  opened r {form} {t} {n} {k} i e = go (file_in b) refl (rw i at e)
+  pub opened : (f : Found) → outcome (ok f) M' P' W' C' Q' ≡ settled (file_in b) M P W C Q → Opened b f.form f.tolerance f.marks f.curves M' P' W' C' Q'
+  opened f e = go (file_in b) refl e
     where
-      f : Found
-      f = record { form = form; tolerance = t; marks = n; curves = k }
-
-      go : (a : Answer File) → file_in b ≡ a → outcome (ok f) M' P' W' C' Q' ≡ settled a M P W C Q → Opened b form t n k M' P' W' C' Q'
+      go : (a : Answer File) → file_in b ≡ a → outcome (ok f) M' P' W' C' Q' ≡ settled a M P W C Q → Opened b f.form f.tolerance f.marks f.curves M' P' W' C' Q'
       go (ok F) x y =
           let a : ◌≡◌ {A = Answer Found} (ok f) (ok (found_in F)) = ap (λ (o : Outcome). o.answer) y in
           let i : f ≡ found_in F = cc in
@@ -193,17 +193,13 @@ module _ (b M P W C Q : List ℕ) {M' P' W' C' Q' : List ℕ} where
           (whole F x (ap (λ (o : Outcome). o.marks) y) (ap (λ (o : Outcome). o.firsts) y) (ap (λ (o : Outcome). o.worsts) y) (ap (λ (o : Outcome). o.curves) y) (ap (λ (o : Outcome). o.params) y))
       go (refused q) x y = not_refused q (ap (λ (o : Outcome). o.answer) y)
 
-  refusal : (q : ℕ) → outcome (refused q) M' P' W' C' Q' ≡ settled (file_in b) M P W C Q → file_in b ≡ refused q
-  refusal q e = go (file_in b) refl e
+  -- one that was not read
+  pub unopened : (q : ℕ) → outcome (refused q) M' P' W' C' Q' ≡ settled (file_in b) M P W C Q → file_in b ≡ refused q
+  unopened q e = go (file_in b) refl e
     where
       go : (a : Answer File) → file_in b ≡ a → outcome (refused q) M' P' W' C' Q' ≡ settled a M P W C Q → file_in b ≡ refused q
       go (ok F) x y = not_refused q (sym (ap (λ (o : Outcome). o.answer) y))
       go (refused p) x y = let z : ◌≡◌ {A = Answer Found} (refused q) (refused p) = ap (λ (o : Outcome). o.answer) y in let s : q ≡ p = cc in rw s x
-
-  -- in the arm of a file that was not read
-  pub unopened : (r : Read) → OneOf (1 ∷ []) (tag_of the_type r) → outcome (read_answer r) M' P' W' C' Q' ≡ settled (file_in b) M P W C Q → file_in b ≡ refused (refusal_in r)
-  unopened (read.File form t n k) o e = absurd (omega arith)
-  unopened (read.Refused q) o e = refusal q e
 
 -- the front of a list is no longer than the list
 front_within : (i : ℕ) (l : List ℕ) {m : List ℕ} → take i l ≡ m → length m ≡ i → i ≤ length l

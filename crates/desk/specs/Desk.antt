@@ -8,8 +8,6 @@ use Rattle.limits.specs.Limits.{most_read}
 use Rattle.house.specs.Limits.{too_many, no_room, badly_formed}
 use Rattle.house.specs.File.{File, marks_in}
 use Rattle.packed.specs.Unpacked.{held_of}
-use Rattle.reader.specs.declared.Read.{Read}
-use Rattle.reader.specs.declared.Read.TheVariants as read
 
 -- ---- numbers
 
@@ -48,11 +46,6 @@ unfoldable pub file_in : List ℕ → Answer File
 file_in b = unless badly_formed (leb (length b) most_read) do
   F ← held_of b
   unless too_many (leb (marks_in F) room_marks) (ok F)
-
--- the number of a reader's refusal, and 0 where there is none
-abbrev pub refusal_in : Read → ℕ
-refusal_in (read.File form t n k) = 0
-refusal_in (read.Refused q) = q
 
 -- for an inner contract: a reader's refusal for want of room is one of too many marks
 abbrev pub crowded_as : ℕ → ℕ

@@ -3,13 +3,14 @@
 
 ghost use Rattle.std.specs.Prelude.{◌≡◌, ◌≤◌, length};
 ghost use Rattle.float.specs.Slices.{written};
-ghost use Rattle.reader.specs.Reader.{read_answer, outcome, settled};
-ghost use Rattle.desk.specs.Desk.{floats, patterns, zeros, no_marks, file_in, refusal_in, crowded_as, Roomy};
+ghost use Rattle.float.specs.Refusal.{answer, number};
+ghost use Rattle.reader.specs.Reader.{outcome, settled};
+ghost use Rattle.desk.specs.Desk.{floats, patterns, zeros, no_marks, file_in, crowded_as, Roomy};
 
-use float::refusal::{BADLY_FORMED, NO_ROOM, TOO_MANY};
+use float::refusal::Refusal;
 use float::{of_bits, to_bits};
 use limits::MOST_READ;
-use reader::{Read, read_file};
+use reader::{Found, read_file};
 
 // ---- numbers and patterns
 
@@ -18,22 +19,18 @@ pub fn copy_floats(xs: &[u64], out: &mut [f64])
     requires { length xs.now ≤ length out.old }
     ensures { out.new ≡ written (floats xs.now) out.old }
 {
-    let mut i = 0;
-    while i < xs.len() {
-        out[i] = of_bits(xs[i]);
-        i += 1;
+    for (i, x) in xs.iter().enumerate() {
+        out[i] = of_bits(*x);
     }
 }
 
-// The patterns of some numbers, into the first places.
+// The patterns of some numbers, into the first places. (Not one function with `copy_floats`, by a closure: what that promises of the closure would be longer than the loop.)
 pub fn copy_patterns(xs: &[f64], out: &mut [u64])
     requires { length xs.now ≤ length out.old }
     ensures { out.new ≡ written (patterns xs.now) out.old }
 {
-    let mut i = 0;
-    while i < xs.len() {
-        out[i] = to_bits(xs[i]);
-        i += 1;
+    for (i, x) in xs.iter().enumerate() {
+        out[i] = to_bits(*x);
     }
 }
 
@@ -90,14 +87,14 @@ pub fn param_floats() -> [f64; 4096]
 
 // ---- the file
 
-// The number of a reader's refusal, where the slices have room for 4,096 marks: only more marks than that leave none.
-fn crowded(q: u32) -> u32
-    ensures { result ≡ crowded_as q }
+// A reader's refusal, where the slices have room for 4,096 marks: only more marks than that leave none.
+fn crowded(q: Refusal) -> Refusal
+    ensures { number result ≡ crowded_as (number q) }
 {
-    if q == NO_ROOM {
-        return TOO_MANY;
+    match q {
+        Refusal::NoRoom => Refusal::TooMany,
+        q => q,
     }
-    q
 }
 
 // Takes a file apart into slices with that room. One of more marks is too many here, also where the reader would take it; one that is longer than any of so many
@@ -109,41 +106,12 @@ pub fn open_file(
     worsts: &mut [u32],
     curves: &mut [u64],
     params: &mut [u64],
-) -> Read
+) -> Result<Found, Refusal>
     requires { Roomy marks.old firsts.old worsts.old curves.old params.old }
-    ensures { outcome (read_answer result) marks.new firsts.new worsts.new curves.new params.new ≡ settled (file_in file.now) marks.old firsts.old worsts.old curves.old params.old }
+    ensures { outcome (answer result) marks.new firsts.new worsts.new curves.new params.new ≡ settled (file_in file.now) marks.old firsts.old worsts.old curves.old params.old }
 {
     if file.len() > MOST_READ {
-        return Read::Refused(BADLY_FORMED);
+        return Err(Refusal::BadlyFormed);
     }
-    let read = read_file(file, marks, firsts, worsts, curves, params);
-    match read {
-        Read::File {
-            form,
-            tolerance,
-            marks: n,
-            curves: k,
-        } => Read::File {
-            form,
-            tolerance,
-            marks: n,
-            curves: k,
-        },
-        Read::Refused(q) => Read::Refused(crowded(q)),
-    }
-}
-
-// The number of a refusal, and 0 where a file was read.
-pub fn refusal_of(read: Read) -> u32
-    ensures { result ≡ refusal_in read }
-{
-    match read {
-        Read::File {
-            form: _,
-            tolerance: _,
-            marks: _,
-            curves: _,
-        } => 0,
-        Read::Refused(q) => q,
-    }
+    read_file(file, marks, firsts, worsts, curves, params).map_err(crowded)
 }

@@ -3,8 +3,6 @@ use Rattle.std.specs.Prelude.{ℕ, ◌≡◌, List, Float}
 use Rattle.std.specs.Float.{binary64}
 use Rattle.std.specs.Float.Ieee.{of_bits}
 use Rattle.float.specs.Answer.{Answer}
-use Rattle.cut.specs.declared.Fitted.{Fitted}
-use Rattle.cut.specs.declared.Fitted.TheVariants as fitted
 use Rattle.tangents.specs.declared.Cutting.TheVariants.{Joined}
 use Rattle.fit.specs.Fit.{Ending, fit_of}
 use Rattle.house.specs.File.{File}
@@ -23,8 +21,3 @@ pub record Left (E : Ending) (a : Answer ℕ) (C : List Float) (P : List ℕ) : 
   pub answer : a ≡ E.answer
   pub curves : C ≡ E.curves
   pub firsts : P ≡ E.firsts
-
--- the number of a fit's refusal, and 0 where there is none
-abbrev pub refusal_in : Fitted → ℕ
-refusal_in (fitted.Curves k) = 0
-refusal_in (fitted.Refused q) = q

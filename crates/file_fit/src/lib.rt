@@ -1,18 +1,18 @@
-// The joined fit of a house file that is known to be well formed; and the number of a fit's refusal.
+// The joined fit of a house file that is known to be well formed.
 #![tactic(auto)]
 
 ghost use Rattle.std.specs.Prelude.{◌≡◌, ◌+◌, ◌*◌, ◌≤◌, length, drop};
 ghost use Rattle.float.specs.Slices.{written};
-ghost use Rattle.fit.specs.Fit.{fitted_answer};
+ghost use Rattle.float.specs.Refusal.{answer};
 ghost use Rattle.house.specs.Limits.{number_field, mark_bytes, marks_at};
 ghost use Rattle.house.specs.Bytes.{words};
 ghost use Rattle.house.specs.Held.{file_at};
 ghost use Rattle.form.specs.declared.Form.TheVariants as form;
 ghost use Rattle.desk.specs.Desk.{zeros, no_marks, floats};
-ghost use Rattle.file_fit.specs.FileFit.{file_fit, Left, refusal_in};
+ghost use Rattle.file_fit.specs.FileFit.{file_fit, Left};
 
-use cut::Fitted;
 use float::of_bits;
+use float::refusal::Refusal;
 use house::bytes::eight;
 use house::sizes;
 
@@ -21,10 +21,8 @@ pub fn copy_numbers(b: &[u8], at: usize, n: usize, out: &mut [f64])
     requires { (at + number_field * n ≤ length b.now) × (n ≤ length out.old) }
     ensures { out.new ≡ written (floats (words n (drop at b.now))) out.old }
 {
-    let mut i = 0;
-    while i < n {
+    for i in 0..n {
         out[i] = of_bits(eight(b, at + sizes::NUMBER_FIELD * i));
-        i += 1;
     }
 }
 
@@ -50,9 +48,14 @@ fn param_room() -> [f64; 512]
 }
 
 // Fits the outline of a file of n marks, at most 512. The worst marks and the parameters are not asked for.
-pub fn fit_file(file: &[u8], n: usize, curves: &mut [f64], firsts: &mut [u32]) -> Fitted
+pub fn fit_file(
+    file: &[u8],
+    n: usize,
+    curves: &mut [f64],
+    firsts: &mut [u32],
+) -> Result<usize, Refusal>
     requires { (marks_at + mark_bytes * n ≤ length file.now) × (n ≤ 512) }
-    ensures { Left (file_fit (file_at file.now form.Eight n 0) curves.old firsts.old (no_marks 511) (zeros 512)) (fitted_answer result) curves.new firsts.new }
+    ensures { Left (file_fit (file_at file.now form.Eight n 0) curves.old firsts.old (no_marks 511) (zeros 512)) (answer result) curves.new firsts.new }
 {
     let mut marks = mark_room();
     let mut worsts = worst_room();
@@ -68,14 +71,4 @@ pub fn fit_file(file: &[u8], n: usize, curves: &mut [f64], firsts: &mut [u32]) -
         &mut worsts,
         &mut params,
     )
-}
-
-// The number of a fit's refusal, and 0 where there is none.
-pub fn refusal_of(fitted: Fitted) -> u32
-    ensures { result ≡ refusal_in fitted }
-{
-    match fitted {
-        Fitted::Curves(_) => 0,
-        Fitted::Refused(q) => q,
-    }
 }

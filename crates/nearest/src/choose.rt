@@ -5,8 +5,8 @@ ghost use Rattle.nearest.specs.Tests.{as_best, try_of};
 
 use plane::{Curve, Point};
 
-// The best candidate so far, its squared distance, and whether each operation on the way gave a finite number. A flag and no `Result`: one
-// would have to lead from this struct to the definition's `Nearest` besides, and the loop has no way out to tell.
+// The best candidate so far, its squared distance, and whether each operation on the way gave a finite number.
+// A flag and no `Result`: the definitions speak of `Nearest`, and `answer` leads to no other type than the code's.
 #[derive(Clone, Copy)]
 pub struct Best {
     pub t: f64,

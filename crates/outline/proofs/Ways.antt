@@ -1,5 +1,5 @@
 -- What each way through the listing shows. Assumes nothing.
-use mathlib.Core.Path.{◌≡◌, refl, sym, ap, ◌∙◌}
+use mathlib.Core.Path.{◌≡◌, refl, sym}
 use mathlib.Core.List.{List}
 use Prim.Native.Nat.{ℕ, ◌*◌, ◌/◌, ◌<◌, ◌≤◌}
 use native.Mathlib.Omega.{arith}
@@ -8,9 +8,8 @@ use lib.Dec.{leb}
 use lib.ListN.{length, take, drop}
 use Rattle.float.specs.Answer.{Answer, ok, refused, unless}
 use lib.Ieee.{Float}
-use Rattle.cut.specs.declared.Fitted.{Fitted}
-use Rattle.cut.specs.declared.Fitted.TheVariants.{Curves, Refused}
-use Rattle.fit.specs.Fit.{Ending, fitted_answer}
+use Rattle.std.proofs.Common.{None}
+use Rattle.fit.specs.Fit.{Ending}
 use Rattle.lines.specs.Lines.{outline_lines, refusal_line}
 use Rattle.lines.specs.Handed.{shown}
 use Rattle.house.specs.Bytes.{num, words}
@@ -22,7 +21,6 @@ use Rattle.form.specs.declared.Form.TheVariants.{Eight}
 use Rattle.packed.specs.Unpacked.{held_of}
 use Rattle.packed_heads.specs.declared.Joints.{Joints}
 use Rattle.packed_heads.specs.declared.Joints.TheVariants.{Twice, Once}
-use Rattle.packed_heads.specs.declared.Held.TheVariants as held
 use Rattle.packed_heads.specs.Layout.{held_layout_of}
 use Rattle.packed_heads.proofs.Told.{HeldTold, held_untold}
 use Rattle.desk.specs.Desk.{zeros, no_marks}
@@ -36,7 +34,7 @@ pub list_long : (b : List ℕ) → 65536 < length b → listing_of b ≡ refusal
 unfolding lines_of
 list_long b h = rw (lt-leb (length b) 65536 h)
 
-pub list_broken : (b : List ℕ) → length b ≤ 65536 → held_layout_of b ≡ held.Broken → listing_of b ≡ refusal_line 9
+pub list_broken : (b : List ℕ) → length b ≤ 65536 → held_layout_of b ≡ None → listing_of b ≡ refusal_line 9
 unfolding lines_of
 list_broken b h e = rw (le-leb (length b) 65536 h, held_untold b e)
 
@@ -80,21 +78,13 @@ module _ (b : List ℕ) (n : ℕ) (C : List Float) (P : List ℕ) where
   unfolding roomy_fit
   same_fit e_c eP = rw (e_c, eP)
 
-  module _ {C' : List Float} {P' : List ℕ} (r : Fitted) {k : ℕ} (l : Left (file_fit (file_at b Eight n 0) C P (no_marks 511) (zeros 512)) (fitted_answer r) C' P') where
-    done-answer : r ≡ Curves k → (file_fit (file_at b Eight n 0) C P (no_marks 511) (zeros 512)).answer ≡ ok k
-    unfolding fitted_answer
-    done-answer e = sym l.answer ∙ ap fitted_answer e
-
-    refused-answer : r ≡ Refused k → (file_fit (file_at b Eight n 0) C P (no_marks 511) (zeros 512)).answer ≡ refused k
-    unfolding fitted_answer
-    refused-answer e = sym l.answer ∙ ap fitted_answer e
-
+  module _ {C' : List Float} {P' : List ℕ} {k : ℕ} where
     -- there are no more curves than places
-    pub done-count : r ≡ Curves k → k ≤ length P'
-    done-count e = rw l.firsts (fit_count (file_at b Eight n 0) C P (no_marks 511) (zeros 512) k (done-answer e))
+    pub done-count : Left (file_fit (file_at b Eight n 0) C P (no_marks 511) (zeros 512)) (ok k) C' P' → k ≤ length P'
+    done-count l = rw l.firsts (fit_count (file_at b Eight n 0) C P (no_marks 511) (zeros 512) k (sym l.answer))
 
-    pub done_lines : C ≡ zeros 4599 → P ≡ no_marks 511 → r ≡ Curves k → shown (fit_lines n (roomy_fit (file_at b Eight n 0))) ≡ outline_lines n (take k P') C'
-    done_lines e_c eP e = rw (← same_fit e_c eP, l.firsts, l.curves) (fit-done n (file_fit (file_at b Eight n 0) C P (no_marks 511) (zeros 512)) k (done-answer e))
+    pub done_lines : Left (file_fit (file_at b Eight n 0) C P (no_marks 511) (zeros 512)) (ok k) C' P' → C ≡ zeros 4599 → P ≡ no_marks 511 → shown (fit_lines n (roomy_fit (file_at b Eight n 0))) ≡ outline_lines n (take k P') C'
+    done_lines l e_c eP = rw (← same_fit e_c eP, l.firsts, l.curves) (fit-done n (file_fit (file_at b Eight n 0) C P (no_marks 511) (zeros 512)) k (sym l.answer))
 
-    pub refused_lines : C ≡ zeros 4599 → P ≡ no_marks 511 → r ≡ Refused k → shown (fit_lines n (roomy_fit (file_at b Eight n 0))) ≡ refusal_line k
-    refused_lines e_c eP e = rw (← same_fit e_c eP) (fit_refused n (file_fit (file_at b Eight n 0) C P (no_marks 511) (zeros 512)) k (refused-answer e))
+    pub refused_lines : Left (file_fit (file_at b Eight n 0) C P (no_marks 511) (zeros 512)) (refused k) C' P' → C ≡ zeros 4599 → P ≡ no_marks 511 → shown (fit_lines n (roomy_fit (file_at b Eight n 0))) ≡ refusal_line k
+    refused_lines l e_c eP = rw (← same_fit e_c eP) (fit_refused n (file_fit (file_at b Eight n 0) C P (no_marks 511) (zeros 512)) k (sym l.answer))

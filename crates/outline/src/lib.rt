@@ -2,19 +2,19 @@
 #![tactic(auto)]
 
 ghost use Rattle.std.specs.Prelude.{◌≡◌, ◌+◌, ◌*◌, ◌≤◌, length};
+ghost use Rattle.float.specs.Refusal.{answer};
 ghost use Rattle.text.specs.Put.{Put};
 ghost use Rattle.house.specs.Limits.{mark_bytes, marks_at};
 ghost use Rattle.house.specs.Held.{file_at};
 ghost use Rattle.form.specs.declared.Form.TheVariants as form;
 ghost use Rattle.desk.specs.Desk.{zeros, no_marks};
-ghost use Rattle.lines.specs.Handed.{shown, handed, listed_answer, hand_over};
+ghost use Rattle.lines.specs.Handed.{shown, handed, hand_over};
 ghost use Rattle.outline.specs.Outline.{fit_lines, roomy_fit, listing_of};
 
-use cut::Fitted;
-use file_fit::{fit_file, refusal_of};
-use float::refusal::{BADLY_FORMED, TOO_FEW, TOO_MANY};
-use lines::{Listed, hand_over, put_outline, put_refusal};
-use packed_heads::{Held, find_held};
+use file_fit::fit_file;
+use float::refusal::Refusal;
+use lines::{hand_over, put_outline, put_refusal};
+use packed_heads::find_held;
 
 // The most bytes that a listed file has.
 pub const MOST_BYTES: usize = 65536;
@@ -50,11 +50,10 @@ fn put_fit(file: &[u8], n: usize, text: &mut [u8]) -> usize
 {
     let mut curves = curve_room();
     let mut firsts = first_room();
-    let fitted = fit_file(file, n, &mut curves, &mut firsts);
-    let Fitted::Curves(k) = fitted else {
-        return put_refusal(text, refusal_of(fitted));
-    };
-    put_outline(text, n, &firsts, &curves, k)
+    match fit_file(file, n, &mut curves, &mut firsts) {
+        Ok(k) => put_outline(text, n, &firsts, &curves, k),
+        Err(q) => put_refusal(text, q.number()),
+    }
 }
 
 // The text for any bytes. It has at most 50 bytes, and 153 for each of at most 511 curves.
@@ -63,31 +62,25 @@ fn put_listing(file: &[u8], text: &mut [u8]) -> usize
     ensures { (result ≤ 78233) × Put text.old 0 (listing_of file.now) text.new result }
 {
     if file.len() > MOST_BYTES {
-        return put_refusal(text, BADLY_FORMED);
+        return put_refusal(text, Refusal::BadlyFormed.number());
     }
-    let held = find_held(file);
-    let Held::Counts {
-        joints: _,
-        form: _,
-        marks: n,
-        curves: _,
-    } = held
-    else {
-        return put_refusal(text, BADLY_FORMED);
+    let Some(held) = find_held(file) else {
+        return put_refusal(text, Refusal::BadlyFormed.number());
     };
+    let n = held.layout.marks;
     if n < 2 {
-        return put_refusal(text, TOO_FEW);
+        return put_refusal(text, Refusal::TooFew.number());
     }
     if n > MOST_LISTED {
-        return put_refusal(text, TOO_MANY);
+        return put_refusal(text, Refusal::TooMany.number());
     }
     put_fit(file, n, text)
 }
 
 // Lists the outline of a house file, packed or not, in the first bytes of `out`: a line for the counts and one for each curve, or one line that names a
 // refusal. Where `out` is too short for the text the call itself is refused, and `out` stays as it is.
-pub fn list_outline(file: &[u8], out: &mut [u8]) -> Listed
-    ensures { handed (listed_answer result) out.new ≡ hand_over (listing_of file.now) out.old }
+pub fn list_outline(file: &[u8], out: &mut [u8]) -> Result<usize, Refusal>
+    ensures { handed (answer result) out.new ≡ hand_over (listing_of file.now) out.old }
 {
     let mut text = text_room();
     let size = put_listing(file, &mut text);

@@ -1,4 +1,5 @@
 // basis.rs's `de_casteljau_n` and derivative.rs's `derivative_n`, of the heights of six points.
+// Not one generic with that of points: each has its own definition in specs/, so every call would need a law from the generic's to it.
 ghost use Rattle.std.specs.Prelude.{◌≡◌};
 ghost use Rattle.quintic.specs.Numbers.{number2, number3, number4, number5, number6, derivative6_of};
 

@@ -72,12 +72,12 @@ module _ (t : ℕ) {M : List ℕ} {k : ℕ} {P W : List ℕ} {C Q : List Float} 
   write_over h = put-over (saved t r) O (rw (checked_at t r (length O)) at h)
 
   -- from the patterns in slices of the call's own
-  pub written_over : {a a' : Answer ℕ} {O' : List ℕ} (cs ps : List ℕ) {cs' ps' : List ℕ} → 36855 ≡ length cs → 4096 ≡ length ps → cs' ≡ written (patterns C) cs → ps' ≡ written (patterns Q) ps → a ≡ a'
-      → writing a' O' ≡ write_of Nine t M k P W cs' ps' O → handed a O' ≡ hand_over (bytes_of (file_for Nine t M k P W (patterns C) (patterns Q))) O
-  written_over {a} {a'} {O'} cs ps {cs'} {ps'} lc lp ec ep e h =
+  pub written_over : {a : Answer ℕ} {O' : List ℕ} (cs ps : List ℕ) {cs' ps' : List ℕ} → 36855 ≡ length cs → 4096 ≡ length ps → cs' ≡ written (patterns C) cs → ps' ≡ written (patterns Q) ps
+      → writing a O' ≡ write_of Nine t M k P W cs' ps' O → handed a O' ≡ hand_over (bytes_of (file_for Nine t M k P W (patterns C) (patterns Q))) O
+  written_over {a} {O'} cs ps {cs'} {ps'} lc lp ec ep h =
       let c : cs' ≡ patterns C = ec ∙ written_all (patterns C) cs (omega (arith, length-patterns C, r.curves)) in
       let p : ps' ≡ patterns Q = ep ∙ written_all (patterns Q) ps (omega (arith, length-patterns Q, r.params)) in
-      rw e (write_over (rw (c, p) at h))
+      write_over (rw (c, p) at h)
 
 -- ---- a joined fit leaves a list that is ready
 

@@ -2,32 +2,22 @@
 #![tactic(auto)]
 
 ghost use Rattle.std.specs.Prelude.{◌≡◌, ◌%◌, ◌≤◌, length};
-ghost use Rattle.lines.specs.Handed.{shown, handed, listed_answer, hand_over};
+ghost use Rattle.float.specs.Refusal.{answer};
+ghost use Rattle.lines.specs.Handed.{shown, handed, hand_over};
 ghost use Rattle.house.specs.File.{bytes_of};
 ghost use Rattle.form.specs.declared.Form.TheVariants as form;
-ghost use Rattle.writer.specs.Writer.{write_answer, file_for};
+ghost use Rattle.writer.specs.Writer.{file_for};
 ghost use Rattle.desk.specs.Desk.{patterns};
 ghost use Rattle.saving.specs.Saving.{roomy_fit, file_with, bytes_in, saved_of};
 ghost use Rattle.saving.specs.Ready.{Ready};
 
-use cut::Fitted;
 use desk::{copy_floats, copy_patterns, open_file};
 use fit::fit_joined;
 use float::of_bits;
+use float::refusal::Refusal;
 use form::Form;
-use lines::{Listed, hand_refusal};
-use reader::Read;
-use writer::{Wrote, write_file};
-
-// What the writer answers, in this call's words.
-fn as_listed(wrote: Wrote) -> Listed
-    ensures { listed_answer result ≡ write_answer wrote }
-{
-    match wrote {
-        Wrote::Bytes(size) => Listed::Bytes(size),
-        Wrote::Refused(q) => Listed::Refused(q),
-    }
-}
+use lines::hand_refusal;
+use writer::write_file;
 
 // The marks with their first k curves, as a file.
 fn hand_file(
@@ -39,15 +29,15 @@ fn hand_file(
     curves: &[f64],
     params: &[f64],
     out: &mut [u8],
-) -> Listed
+) -> Result<usize, Refusal>
     requires { Ready marks.now k firsts.now worsts.now curves.now params.now }
-    ensures { handed (listed_answer result) out.new ≡ hand_over (bytes_of (file_for form.Nine tolerance marks.now k firsts.now worsts.now (patterns curves.now) (patterns params.now))) out.old }
+    ensures { handed (answer result) out.new ≡ hand_over (bytes_of (file_for form.Nine tolerance marks.now k firsts.now worsts.now (patterns curves.now) (patterns params.now))) out.old }
 {
     let mut cs = desk::curve_patterns();
     let mut ps = desk::param_patterns();
     copy_patterns(curves, &mut cs);
     copy_patterns(params, &mut ps);
-    as_listed(write_file(
+    write_file(
         Form::Nine,
         tolerance,
         marks,
@@ -57,13 +47,13 @@ fn hand_file(
         &cs,
         &ps,
         out,
-    ))
+    )
 }
 
 // The joined fit of a file's marks, as a file.
-fn hand_fit(tolerance: u64, marks: &[u64], out: &mut [u8]) -> Listed
+fn hand_fit(tolerance: u64, marks: &[u64], out: &mut [u8]) -> Result<usize, Refusal>
     requires { (length marks.now % 2 ≡ 0) × (length marks.now ≤ 8192) }
-    ensures { handed (listed_answer result) out.new ≡ hand_over (shown (bytes_in (file_with tolerance marks.now (roomy_fit tolerance marks.now)))) out.old }
+    ensures { handed (answer result) out.new ≡ hand_over (shown (bytes_in (file_with tolerance marks.now (roomy_fit tolerance marks.now)))) out.old }
 {
     let mut ms = desk::mark_floats();
     let mut curves = desk::curve_floats();
@@ -80,16 +70,16 @@ fn hand_fit(tolerance: u64, marks: &[u64], out: &mut [u8]) -> Listed
         &mut worsts,
         &mut params,
     );
-    let Fitted::Curves(k) = fitted else {
-        return hand_refusal(file_fit::refusal_of(fitted), out);
-    };
-    hand_file(tolerance, marks, k, &firsts, &worsts, &curves, &params, out)
+    match fitted {
+        Ok(k) => hand_file(tolerance, marks, k, &firsts, &worsts, &curves, &params, out),
+        Err(q) => hand_refusal(q.number(), out),
+    }
 }
 
 // Fits the outline of a house file and writes it with its curves into the first bytes of `out`; a file that is refused gives the one line that names its refusal. Curves
 // that the file has are not looked at. Where `out` is too short the call itself is refused, and `out` stays as it is.
-pub fn save_fit(file: &[u8], out: &mut [u8]) -> Listed
-    ensures { handed (listed_answer result) out.new ≡ hand_over (saved_of file.now) out.old }
+pub fn save_fit(file: &[u8], out: &mut [u8]) -> Result<usize, Refusal>
+    ensures { handed (answer result) out.new ≡ hand_over (saved_of file.now) out.old }
 {
     let mut marks = desk::mark_patterns();
     let mut firsts = desk::first_marks();
@@ -104,15 +94,11 @@ pub fn save_fit(file: &[u8], out: &mut [u8]) -> Listed
         &mut curves,
         &mut params,
     );
-    let Read::File {
-        form: _,
-        tolerance,
-        marks: n,
-        curves: _,
-    } = read
-    else {
-        return hand_refusal(desk::refusal_of(read), out);
-    };
-    let m = 2 * n;
-    hand_fit(tolerance, &marks[..m], out)
+    match read {
+        Ok(found) => {
+            let m = 2 * found.marks;
+            hand_fit(found.tolerance, &marks[..m], out)
+        }
+        Err(q) => hand_refusal(q.number(), out),
+    }
 }

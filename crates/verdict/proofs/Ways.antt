@@ -1,14 +1,12 @@
 -- What each way through the judge shows. Assumes nothing.
 use mathlib.Core.Path.{◌≡◌, ◌∙◌}
-use mathlib.Core.List.{List, [], ◌∷◌}
+use mathlib.Core.List.{List}
 use Prim.Native.Nat.{ℕ, ◌*◌, ◌<◌, ◌≤◌}
 use native.Mathlib.Omega.{arith}
 use borrow.Author.Tests.{eq-eqb, ne_eqb}
-use types.Run.{OneOf}
-use denote.Enum.Declared.{tag_of}
 use lib.ListN.{length, take}
 use lib.Ieee.{Float, binary64, of_bits}
-use Rattle.float.specs.Answer.{Answer}
+use Rattle.float.specs.Answer.{Answer, refused}
 use Rattle.float.specs.Slices.{written}
 use Rattle.form.specs.Form.{width, worsts_for}
 use Rattle.form.specs.declared.Form.{Form}
@@ -17,10 +15,8 @@ use Rattle.checker.specs.Check.{Verdict, check_of}
 use Rattle.lines.specs.Lines.{one_line, refusal_line}
 use Rattle.lines.specs.Handed.{shown}
 use Rattle.house.specs.File.{File, marks_in}
-use Rattle.reader.specs.declared.Read.{Read}
-use Rattle.reader.specs.Reader.{read_answer, outcome, settled}
-use Rattle.reader.specs.contracts.Read.{the_type}
-use Rattle.desk.specs.Desk.{floats, file_in, refusal_in}
+use Rattle.reader.specs.Reader.{outcome, settled}
+use Rattle.desk.specs.Desk.{floats, file_in}
 use Rattle.desk.proofs.Numbers.{floats-front}
 use Rattle.desk.proofs.Opened.{Opened, unopened, params_at, bounds}
 use Rattle.verdict.specs.Verdict.{no_curves_word, list_in, verdict_in, file_line, line_of, judgement_of}
@@ -34,10 +30,9 @@ checked-as form ms cs ps fs ws t k M C Q eM e_c eQ et e = rw (← floats-front m
 
 -- ---- a file that is refused
 
-pub refused-line : (b M P W C Q : List ℕ) {M' P' W' C' Q' : List ℕ} (r : Read) → OneOf (1 ∷ []) (tag_of the_type r)
-    → outcome (read_answer r) M' P' W' C' Q' ≡ settled (file_in b) M P W C Q → judgement_of b ≡ refusal_line (refusal_in r)
+pub refused-line : (b M P W C Q : List ℕ) {M' P' W' C' Q' : List ℕ} (q : ℕ) → outcome (refused q) M' P' W' C' Q' ≡ settled (file_in b) M P W C Q → judgement_of b ≡ refusal_line q
 unfolding line_of
-refused-line b M P W C Q r o e = rw (unopened b M P W C Q r o e)
+refused-line b M P W C Q q e = rw (unopened b M P W C Q q e)
 
 -- ---- one that is opened
 

@@ -4,19 +4,20 @@
 ghost use Rattle.std.specs.Prelude.{◌≡◌, ◌≤◌, length};
 ghost use Rattle.std.specs.Float.{binary64};
 ghost use Rattle.std.specs.Float.Ieee.{of_bits};
+ghost use Rattle.float.specs.Refusal.{answer};
 ghost use Rattle.text.specs.Put.{Put};
-ghost use Rattle.lines.specs.Handed.{shown, handed, listed_answer, hand_over};
+ghost use Rattle.lines.specs.Handed.{shown, handed, hand_over};
 ghost use Rattle.ring.specs.declared.Outline.TheVariants as outline;
 ghost use Rattle.checker.specs.Check.{checked_answer, check_of};
 ghost use Rattle.desk.specs.Desk.{floats};
 ghost use Rattle.verdict.specs.Verdict.{place_line, fault_line, verdict_in, judgement_of};
 
 use checker::{Checked, Fault, Place, check};
-use desk::{copy_floats, open_file, refusal_of};
+use desk::{copy_floats, open_file};
 use float::of_bits;
+use float::refusal::Refusal;
 use form::{Form, width, worsts_for};
-use lines::{Listed, hand_over, put_one, put_refusal, put_two};
-use reader::Read;
+use lines::{hand_over, put_one, put_refusal, put_two};
 use ring::Outline;
 
 // Room for the longest line.
@@ -56,7 +57,7 @@ fn put_verdict(text: &mut [u8], n: usize, k: usize, checked: Checked) -> usize
     match checked {
         Checked::Passed => put_two(text, b"PASSED ", n as u64, k as u64),
         Checked::Faulty(fault) => put_fault(text, fault),
-        Checked::Refused(q) => put_refusal(text, q),
+        Checked::Refused(q) => put_refusal(text, q.number()),
     }
 }
 
@@ -114,15 +115,13 @@ fn put_judgement(file: &[u8], text: &mut [u8]) -> usize
         &mut curves,
         &mut params,
     );
-    let Read::File {
-        form,
-        tolerance,
-        marks: n,
-        curves: k,
-    } = read
-    else {
-        return put_refusal(text, refusal_of(read));
+    let found = match read {
+        Ok(found) => found,
+        Err(q) => return put_refusal(text, q.number()),
     };
+    let form = found.form;
+    let n = found.marks;
+    let k = found.curves;
     if k == 0 {
         return put_one(text, b"NO CURVES ", n as u64);
     }
@@ -131,7 +130,7 @@ fn put_judgement(file: &[u8], text: &mut [u8]) -> usize
     let c = width(form) * k;
     let checked = check_file(
         form,
-        tolerance,
+        found.tolerance,
         &marks[..m],
         k,
         &firsts[..k],
@@ -144,8 +143,8 @@ fn put_judgement(file: &[u8], text: &mut [u8]) -> usize
 
 // Judges a house file in the first bytes of `out`, by one line: whether its curves are a sound list, or the first fault, or that it has none, or why it is refused. Where
 // `out` is too short for the line the call itself is refused, and `out` stays as it is.
-pub fn judge_file(file: &[u8], out: &mut [u8]) -> Listed
-    ensures { handed (listed_answer result) out.new ≡ hand_over (judgement_of file.now) out.old }
+pub fn judge_file(file: &[u8], out: &mut [u8]) -> Result<usize, Refusal>
+    ensures { handed (answer result) out.new ≡ hand_over (judgement_of file.now) out.old }
 {
     let mut text = line_room();
     let size = put_judgement(file, &mut text);

@@ -65,6 +65,19 @@ module _ (ms : List Float) (a b : ℕ) (some : a < b) where
   pub round_long : Even ms → b ≡ count ms → (round : List Float) (tail : ℕ) → tail ≤ a → round ≡ drop (2 * tail) (whole Closed ms) → length round ≡ 2 * (b + 1) - 2 * tail
   round_long even h round tail t e = let n = whole_length Closed ms even in ap length e ∙ simp length-drop (omega arith)
 
+-- what is known of a part that the marks given do not hold
+pub record Behind (ms round : List Float) (tail a b : ℕ) : Type 0 where
+  pub last : b ≡ count ms
+  pub reach : tail ≤ a
+  pub laid : round ≡ drop (2 * tail) (whole Closed ms)
+  pub long : length round ≡ 2 * (b + 1) - 2 * tail
+
+pub behind : (ms round : List Float) (tail a b : ℕ) → Even ms × ((a < b) × (b ≤ count ms)) → (b ≡ count ms → (tail ≤ a) × (round ≡ drop (2 * tail) (whole Closed ms))) → length ms < 2 * b + 2 → Behind ms round tail a b
+behind ms round tail a b e l h =
+    let last : b ≡ count ms = omega (arith, e) in
+    let r = l last in
+    record { last = last; reach = r.0; laid = r.1; long = round_long ms a b e.1.0 e.0 last round tail r.0 r.1 }
+
 -- ---- try_between
 
 module _ (h : Heading) (ms round : List Float) (tail n size : ℕ) (tol : Float) (O : Outlined h ms round tail n size tol) where

@@ -24,54 +24,6 @@ use parts::Heading;
 use plane::Point;
 use ring::Outline;
 
-// What the marks from `from` to `to` come to as one part. Those of a closed outline's last part stand in `round`, which begins with mark `tail` and has mark 0 behind the last.
-fn try_marks(
-    marks: &[f64],
-    round: &[f64],
-    tail: usize,
-    from: usize,
-    to: usize,
-    start: Point,
-    end: Point,
-    tolerance: f64,
-    params: &mut [f64],
-) -> Result<Tried, Refusal>
-    requires even { Even marks.now × ((from < to) × (to ≤ count marks.now)) }
-    requires to_value { to + 1 ≡ from + length params.old }
-    requires tail_le_from { to ≡ count marks.now → (tail ≤ from) × (round.now ≡ drop (2 * tail) (whole outline.Closed marks.now)) }
-    ensures { Did (part_of (part_at (whole outline.Closed marks.now) from to) start end tolerance) result params.new }
-{
-    let head = 2 * from;
-    let past = 2 * to + 2;
-    if past <= marks.len() {
-        return part::try_part(&marks[head..past], start, end, tolerance, params);
-    }
-    let behind = head - 2 * tail;
-    part::try_part(&round[behind..], start, end, tolerance, params)
-}
-
-// The same with the tangents of the two end marks.
-fn try_between(
-    heading: Heading,
-    marks: &[f64],
-    round: &[f64],
-    tail: usize,
-    n: usize,
-    size: usize,
-    from: usize,
-    to: usize,
-    tolerance: f64,
-    params: &mut [f64],
-) -> Result<Tried, Refusal>
-    requires outlined { Outlined heading marks.now round.now tail n size tolerance }
-    requires within { Within n size from to (length params.old) }
-    ensures { Did (part_in (start_in heading (marks_in heading marks.now) n size) (end_in heading (marks_in heading marks.now) n size) (marks_in heading marks.now) tolerance from to) result params.new }
-{
-    let start = parts::start_in(heading, marks, n, size, from)?;
-    let end = parts::end_in(heading, marks, n, size, to)?;
-    try_marks(marks, round, tail, from, to, start, end, tolerance, params)
-}
-
 // The curve number `made`, of a part whose first mark has the number `first`.
 fn put_curve(
     curves: &mut [f64],
@@ -117,62 +69,100 @@ fn wait_blocks(last: usize, size: usize, open: &mut [u32]) -> Waiting
     Waiting { to: stop, depth }
 }
 
-// The curves of all open parts, from left to right. A part that is over the tolerance is cut: its own end waits, and its left side is next.
-fn work_off(
+// An outline, or the part of one, whose parts are tried: in blocks of `size` marks, at a tolerance. The marks of a closed outline's last part stand in `round`,
+// which begins with mark `tail` and has mark 0 behind the last.
+#[derive(Clone, Copy)]
+struct Course<'a> {
     heading: Heading,
-    marks: &[f64],
-    round: &[f64],
+    marks: &'a [f64],
+    round: &'a [f64],
     tail: usize,
     size: usize,
     tolerance: f64,
-    curves: &mut [f64],
-    firsts: &mut [u32],
-    worsts: &mut [u32],
-    params: &mut [f64],
-    open: &mut [u32],
-) -> Result<usize, Refusal>
-    requires outlined { Outlined heading marks.now round.now tail (length params.old) size tolerance }
-    requires room { Room (length params.old) (length curves.old) (length firsts.old) (length worsts.old) (length «open».old) }
-    ensures { Left (run_in heading (marks_in heading marks.now) size tolerance) result curves.old curves.new firsts.old firsts.new worsts.old worsts.new params.new }
-{
-    let n = params.len();
-    let first = wait_blocks(n - 1, size, open);
-    let mut from = 0;
-    let mut to = first.to;
-    let mut depth = first.depth;
-    let mut made = 0;
-    // A loop: a part that is cut stays open.
-    loop {
-        let past = to + 1;
-        match try_between(
-            heading,
-            marks,
-            round,
-            tail,
-            n,
-            size,
-            from,
-            to,
-            tolerance,
-            &mut params[from..past],
-        ) {
-            Ok(Tried::Good(s)) => {
-                put_curve(curves, firsts, worsts, made, from, s);
-                made += 1;
-                if depth == 0 {
-                    return Ok(made);
+}
+
+impl Course<'_> {
+    // What the marks from `from` to `to` come to as one part.
+    fn try_marks(
+        &self,
+        from: usize,
+        to: usize,
+        start: Point,
+        end: Point,
+        params: &mut [f64],
+    ) -> Result<Tried, Refusal>
+        requires even { Even self.now.marks.now × ((from < to) × (to ≤ count self.now.marks.now)) }
+        requires to_value { to + 1 ≡ from + length params.old }
+        requires tail_le_from { to ≡ count self.now.marks.now → (self.now.tail ≤ from) × (self.now.round.now ≡ drop (2 * self.now.tail) (whole outline.Closed self.now.marks.now)) }
+        ensures { Did (part_of (part_at (whole outline.Closed self.now.marks.now) from to) start end self.now.tolerance) result params.new }
+    {
+        let head = 2 * from;
+        let past = 2 * to + 2;
+        if past <= self.marks.len() {
+            return part::try_part(&self.marks[head..past], start, end, self.tolerance, params);
+        }
+        let behind = head - 2 * self.tail;
+        part::try_part(&self.round[behind..], start, end, self.tolerance, params)
+    }
+
+    // The same with the tangents of the two end marks, of n marks.
+    fn try_between(
+        &self,
+        n: usize,
+        from: usize,
+        to: usize,
+        params: &mut [f64],
+    ) -> Result<Tried, Refusal>
+        requires outlined { let l = self.now in Outlined l.heading l.marks.now l.round.now l.tail n l.size l.tolerance }
+        requires within { Within n self.now.size from to (length params.old) }
+        ensures { let l = self.now in Did (part_in (start_in l.heading (marks_in l.heading l.marks.now) n l.size) (end_in l.heading (marks_in l.heading l.marks.now) n l.size) (marks_in l.heading l.marks.now) l.tolerance from to) result params.new }
+    {
+        let start = parts::start_in(self.heading, self.marks, n, self.size, from)?;
+        let end = parts::end_in(self.heading, self.marks, n, self.size, to)?;
+        self.try_marks(from, to, start, end, params)
+    }
+
+    // The curves of all open parts, from left to right. A part that is over the tolerance is cut: its own end waits, and its left side is next.
+    fn work_off(
+        &self,
+        curves: &mut [f64],
+        firsts: &mut [u32],
+        worsts: &mut [u32],
+        params: &mut [f64],
+        open: &mut [u32],
+    ) -> Result<usize, Refusal>
+        requires outlined { let l = self.now in Outlined l.heading l.marks.now l.round.now l.tail (length params.old) l.size l.tolerance }
+        requires room { Room (length params.old) (length curves.old) (length firsts.old) (length worsts.old) (length «open».old) }
+        ensures { let l = self.now in Left (run_in l.heading (marks_in l.heading l.marks.now) l.size l.tolerance) result curves.old curves.new firsts.old firsts.new worsts.old worsts.new params.new }
+    {
+        let n = params.len();
+        let first = wait_blocks(n - 1, self.size, open);
+        let mut from = 0;
+        let mut to = first.to;
+        let mut depth = first.depth;
+        let mut made = 0;
+        // A loop: a part that is cut stays open.
+        loop {
+            let past = to + 1;
+            match self.try_between(n, from, to, &mut params[from..past]) {
+                Ok(Tried::Good(s)) => {
+                    put_curve(curves, firsts, worsts, made, from, s);
+                    made += 1;
+                    if depth == 0 {
+                        return Ok(made);
+                    }
+                    depth -= 1;
+                    from = to;
+                    to = open[depth] as usize;
                 }
-                depth -= 1;
-                from = to;
-                to = open[depth] as usize;
+                Ok(Tried::Cut(at)) => {
+                    let cut = from + at;
+                    open[depth] = to as u32;
+                    depth += 1;
+                    to = cut;
+                }
+                Err(q) => return Err(q),
             }
-            Ok(Tried::Cut(at)) => {
-                let cut = from + at;
-                open[depth] = to as u32;
-                depth += 1;
-                to = cut;
-            }
-            Err(q) => return Err(q),
         }
     }
 }
@@ -198,19 +188,15 @@ fn fit_round(
     let mut round = blocks::block_room();
     ring::lay_round(marks, tail, &mut round);
     let many = 2 * (n - tail);
-    work_off(
+    let course = Course {
         heading,
         marks,
-        &round[..many],
+        round: &round[..many],
         tail,
         size,
         tolerance,
-        curves,
-        firsts,
-        worsts,
-        params,
-        open,
-    )
+    };
+    course.work_off(curves, firsts, worsts, params, open)
 }
 
 // The curves of a run, by blocks of `size` marks; with given tangents all marks are one block.
@@ -234,8 +220,16 @@ pub fn fit_waiting(
             heading, marks, size, tolerance, curves, firsts, worsts, params, open,
         ),
         // An open outline's marks stand together, and no others are asked for.
-        Outline::Open => work_off(
-            heading, marks, marks, 0, size, tolerance, curves, firsts, worsts, params, open,
-        ),
+        Outline::Open => {
+            let course = Course {
+                heading,
+                marks,
+                round: marks,
+                tail: 0,
+                size,
+                tolerance,
+            };
+            course.work_off(curves, firsts, worsts, params, open)
+        }
     }
 }

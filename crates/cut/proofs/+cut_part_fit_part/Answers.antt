@@ -63,7 +63,7 @@ cut_part-returns-in_default-right t c =
     let l = c.fit_part-left in
     let H = laws.half K (sym c.in-Ok.ensures) _ _ _ _ l.ensures c.in-Ok-left.is l.auto.curves l.auto.firsts l.auto.worsts l.auto.params in
     let f = c.fit_part-right in
-    let R = laws.right K H _ _ _ _ _ f.ensures f.auto.curves f.auto.firsts f.auto.worsts f.auto.params in
+    let R = laws.right K H _ _ _ _ _ f.ensures in
     laws.cut_stops_right K H R c.in_default-right.field-0 _ _ _ _ c.in_default-right.is
 
 pub cut_part-returns : goal.cut_part-returns
@@ -72,7 +72,7 @@ cut_part-returns t c =
     let l = c.fit_part-left in
     let H = laws.half K (sym c.in-Ok.ensures) _ _ _ _ l.ensures c.in-Ok-left.is l.auto.curves l.auto.firsts l.auto.worsts l.auto.params in
     let f = c.fit_part-right in
-    let R = laws.right K H _ _ _ _ _ f.ensures f.auto.curves f.auto.firsts f.auto.worsts f.auto.params in
+    let R = laws.right K H _ _ _ _ _ f.ensures in
     laws.cut_done K H R c.in-Ok-right.k c.in-Ok-right.is
 
 pub fit_part-overflow_add-worst : goal.fit_part-overflow_add-worst

@@ -5,39 +5,9 @@ use native.Mathlib.Omega.{arith}
 use Rattle.float.proofs.Truth.{not_so, true-false}
 use Rattle.house.specs.declared.sizes.Field.{Field}
 use Rattle.house.specs.Limits.{field_for, curve_kind, body_bytes, curve_bytes}
-use Rattle.house.proofs.Forms.{body-few}
 use Rattle.grammar.proofs.Laid.{ended}
 use Rattle.heads.proofs.Ways.{ends_by, leads_by}
 use Rattle.heads.proofs.ends_with.Goals as goal
-
-pub overflow_add-last : goal.overflow_add-last
-overflow_add-last c =
-    let body : c.body_bytes-body.result ≡ body_bytes c.args.form (field_for c.args.n) = c.body_bytes-body.ensures ∙ ap (λ (f : Field). body_bytes c.args.form f) c.field_for-field.ensures in
-    omega (arith, body-few c.args.form (field_for c.args.n), body)
-
-pub overflow_mul-last : goal.overflow_mul-last
-overflow_mul-last c =
-    let body : c.body_bytes-body.result ≡ body_bytes c.args.form (field_for c.args.n) = c.body_bytes-body.ensures ∙ ap (λ (f : Field). body_bytes c.args.form f) c.field_for-field.ensures in
-    let curves : (6 + c.body_bytes-body.result) * c.args.k ≡ curve_bytes c.args.form (field_for c.args.n) * c.args.k = ap (λ (x : ℕ). (6 + x) * c.args.k) body in
-    omega (arith, curves)
-
-pub overflow_add-last-2 : goal.overflow_add-last-2
-overflow_add-last-2 c =
-    let body : c.body_bytes-body.result ≡ body_bytes c.args.form (field_for c.args.n) = c.body_bytes-body.ensures ∙ ap (λ (f : Field). body_bytes c.args.form f) c.field_for-field.ensures in
-    let curves : (6 + c.body_bytes-body.result) * c.args.k ≡ curve_bytes c.args.form (field_for c.args.n) * c.args.k = ap (λ (x : ℕ). (6 + x) * c.args.k) body in
-    omega (arith, curves)
-
-pub overflow_add-last-3 : goal.overflow_add-last-3
-overflow_add-last-3 c =
-    let body : c.body_bytes-body.result ≡ body_bytes c.args.form (field_for c.args.n) = c.body_bytes-body.ensures ∙ ap (λ (f : Field). body_bytes c.args.form f) c.field_for-field.ensures in
-    let curves : (6 + c.body_bytes-body.result) * c.args.k ≡ curve_bytes c.args.form (field_for c.args.n) * c.args.k = ap (λ (x : ℕ). (6 + x) * c.args.k) body in
-    omega (arith, curves)
-
-pub overflow_add-last-4 : goal.overflow_add-last-4
-overflow_add-last-4 c =
-    let body : c.body_bytes-body.result ≡ body_bytes c.args.form (field_for c.args.n) = c.body_bytes-body.ensures ∙ ap (λ (f : Field). body_bytes c.args.form f) c.field_for-field.ensures in
-    let curves : (6 + c.body_bytes-body.result) * c.args.k ≡ curve_bytes c.args.form (field_for c.args.n) * c.args.k = ap (λ (x : ℕ). (6 + x) * c.args.k) body in
-    omega (arith, curves)
 
 pub returns-then-b-last : goal.returns-then-b-last
 returns-then-b-last c =
@@ -50,18 +20,6 @@ returns-then-k-eq0 c = let a = c.args in sym (not_so _ (λ h. let s = ended a.b.
 
 pub returns-then-n-k : goal.returns-then-n-k
 returns-then-n-k c = let a = c.args in sym (not_so _ (λ h. let s = ended a.b.now a.form a.n a.k h in omega (arith, s.few)))
-
-pub records_lead-requires : goal.records_lead-requires
-records_lead-requires c =
-    let body : c.body_bytes-body.result ≡ body_bytes c.args.form (field_for c.args.n) = c.body_bytes-body.ensures ∙ ap (λ (f : Field). body_bytes c.args.form f) c.field_for-field.ensures in
-    let curves : (6 + c.body_bytes-body.result) * c.args.k ≡ curve_bytes c.args.form (field_for c.args.n) * c.args.k = ap (λ (x : ℕ). (6 + x) * c.args.k) body in
-    (omega (arith, curves), omega (arith, body-few c.args.form (field_for c.args.n), body))
-
-pub has_head-requires : goal.has_head-requires
-has_head-requires c =
-    let body : c.body_bytes-body.result ≡ body_bytes c.args.form (field_for c.args.n) = c.body_bytes-body.ensures ∙ ap (λ (f : Field). body_bytes c.args.form f) c.field_for-field.ensures in
-    let curves : (6 + c.body_bytes-body.result) * c.args.k ≡ curve_bytes c.args.form (field_for c.args.n) * c.args.k = ap (λ (x : ℕ). (6 + x) * c.args.k) body in
-    omega (arith, curves)
 
 pub returns-then-records_lead : goal.returns-then-records_lead
 returns-then-records_lead c =

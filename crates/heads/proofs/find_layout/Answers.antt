@@ -1,15 +1,14 @@
 -- `heads::find_layout` meets its contract.
 use mathlib.Core.Path.{◌≡◌, refl, sym, ap, ◌∙◌}
 use mathlib.Core.Bool.{true}
-use Prim.Native.Nat.{ℕ, ◌+◌, ◌-◌, ◌*◌, ◌/◌, ◌≤◌}
+use Prim.Native.Nat.{ℕ, ◌+◌, ◌-◌, ◌*◌, ◌/◌}
 use native.Mathlib.Omega.{arith}
 use lib.ListN.{length}
 use Rattle.float.proofs.Truth.{true-false}
 use Rattle.house.specs.declared.sizes.Field.{Field}
-use Rattle.house.specs.Limits.{field_for, body_bytes, curve_bytes}
+use Rattle.house.specs.Limits.{field_for, body_bytes}
 use Rattle.house.specs.Bytes.{all_fit}
 use Rattle.house.specs.Held.{marks_held, form_held, curves_held}
-use Rattle.house.proofs.Forms.{body-few, records_under}
 use Rattle.house.proofs.Numbers.{fit-each}
 use Rattle.grammar.proofs.Laid.{Started, plain, full, started, starting, ended, ending, laid_started, laid-ended}
 use Rattle.heads.proofs.Ways.{counted, broken, form_by}
@@ -28,17 +27,6 @@ pub returns-then-len-least : goal.returns-then-len-least
 returns-then-len-least c =
     let marks : marks_held c.args.b.now ≡ c.four.result / 16 = ap (λ (x : ℕ). x / 16) (sym c.four.ensures.0) in
     broken c.args.b.now _ (c.four.result / 16) _ marks refl refl (λ l. let d = laid-ended l (λ z. omega arith) in omega (arith, d.size))
-
-pub overflow_add-k : goal.overflow_add-k
-overflow_add-k c =
-    let body : c.body_bytes.result ≡ body_bytes c.form_of-form.result (field_for (c.four.result / 16)) = c.body_bytes.ensures ∙ ap (λ (f : Field). body_bytes c.form_of-form.result f) c.field_for-field.ensures in
-    omega (arith, body-few c.form_of-form.result (field_for (c.four.result / 16)), body)
-
-pub ends_with-requires : goal.ends_with-requires
-ends_with-requires c =
-    let body : c.body_bytes.result ≡ body_bytes c.form_of-form.result (field_for (c.four.result / 16)) = c.body_bytes.ensures ∙ ap (λ (f : Field). body_bytes c.form_of-form.result f) c.field_for-field.ensures in
-    let under : let n = c.four.result / 16 in let x = length c.args.b.now - (20 + 16 * n + 6 + 8 * n) in curve_bytes c.form_of-form.result (field_for n) * (x / (6 + c.body_bytes.result)) ≤ x = let n = c.four.result / 16 in rw body (records_under c.form_of-form.result (field_for n) (length c.args.b.now - (20 + 16 * n + 6 + 8 * n))) in
-    omega (arith, under)
 
 pub returns-then-ends_with : goal.returns-then-ends_with
 returns-then-ends_with c =

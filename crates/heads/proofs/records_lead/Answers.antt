@@ -1,30 +1,10 @@
 -- `heads::records_lead` meets its contract. After i turns what is asked is asked of the records that are left.
 use mathlib.Core.Path.{◌≡◌, sym, ◌∙◌}
-use Prim.Native.Nat.{◌+◌, ◌-◌, ◌*◌, ◌≤◌}
-use native.Mathlib.Nat.{add-zero, mul-zero, sub-zero}
+use Prim.Native.Nat.{◌-◌}
 use native.Mathlib.Omega.{arith}
 use Rattle.house.specs.Layout.{records_lead}
-use Rattle.house.proofs.Forms.{within}
 use Rattle.heads.proofs.Turns.{lead_more, lead_stop}
 use Rattle.heads.proofs.records_lead.Goals as goal
-
-pub loop-i-init : goal.loop-i-init
-loop-i-init c = simp (mul-zero, add-zero, sub-zero)
-
-pub overflow_mul-head : goal.overflow_mul-head
-overflow_mul-head c =
-    let inside : let a = c.args in (6 + a.body) * c.loop-i.i + (6 + a.body) ≤ (6 + a.body) * a.k = let a = c.args in within (6 + a.body) a.k c.loop-i.i (omega arith) in
-    omega (arith, inside)
-
-pub overflow_add-head : goal.overflow_add-head
-overflow_add-head c =
-    let inside : let a = c.args in (6 + a.body) * c.loop-i.i + (6 + a.body) ≤ (6 + a.body) * a.k = let a = c.args in within (6 + a.body) a.k c.loop-i.i (omega arith) in
-    omega (arith, inside)
-
-pub has_head-requires : goal.has_head-requires
-has_head-requires c =
-    let inside : let a = c.args in (6 + a.body) * c.loop-i.i + (6 + a.body) ≤ (6 + a.body) * a.k = let a = c.args in within (6 + a.body) a.k c.loop-i.i (omega arith) in
-    omega (arith, inside)
 
 pub loop-i-preserved : goal.loop-i-preserved
 loop-i-preserved c =

@@ -6,15 +6,6 @@ use Rattle.packed.proofs.Laid.{joined}
 use Rattle.packed_heads.proofs.Ways.{ends_by, ends_leads, ends-marks}
 use Rattle.packed_heads.proofs.ends_packed.Goals as goal
 
-pub entry_at-last-requires : goal.entry_at-last-requires
-entry_at-last-requires c = omega arith
-
-pub overflow_add-last : goal.overflow_add-last
-overflow_add-last c = omega (arith, c.entry_at-last.ensures)
-
-pub overflow_add-last-2 : goal.overflow_add-last-2
-overflow_add-last-2 c = omega (arith, c.entry_at-last.ensures)
-
 pub returns-then-b-last : goal.returns-then-b-last
 returns-then-b-last c = let a = c.args in sym (not_so _ (λ h. let s = joined a.b.now a.form a.n a.k h in omega (arith, c.entry_at-last.ensures, s.size)))
 
@@ -23,15 +14,6 @@ returns-then-k-eq0 c = let a = c.args in sym (not_so _ (λ h. let s = joined a.b
 
 pub returns-then-n-k : goal.returns-then-n-k
 returns-then-n-k c = let a = c.args in sym (not_so _ (λ h. let s = joined a.b.now a.form a.n a.k h in omega (arith, s.few)))
-
-pub leads_packed-requires : goal.leads_packed-requires
-leads_packed-requires c = omega arith
-
-pub marks_packed-requires : goal.marks_packed-requires
-marks_packed-requires c = (omega arith, (omega arith, omega arith))
-
-pub has_head-requires : goal.has_head-requires
-has_head-requires c = omega (arith, c.entry_at-last.ensures)
 
 pub returns-then-marks_packed : goal.returns-then-marks_packed
 returns-then-marks_packed c = let a = c.args in ends_by a.b.now a.form a.n a.k c.entry_at-last.ensures (omega arith) (omega arith) (omega arith) (sym c.leads_packed.ensures ∙ c.if-leads_packed.true) (sym c.marks_packed.ensures ∙ c.if-marks_packed.true) c.has_head.ensures

@@ -1,7 +1,7 @@
 -- `packed_heads::find_packed` meets its contract.
 use mathlib.Core.Path.{◌≡◌, refl, sym, ap, ◌∙◌}
 use mathlib.Core.Bool.{true}
-use Prim.Native.Nat.{ℕ, ◌+◌, ◌-◌, ◌*◌, ◌/◌, ◌≤◌}
+use Prim.Native.Nat.{ℕ, ◌+◌, ◌-◌, ◌*◌, ◌/◌}
 use native.Mathlib.Omega.{arith}
 use lib.ListN.{length}
 use Rattle.float.proofs.Truth.{true-false}
@@ -9,9 +9,7 @@ use Rattle.house.specs.Bytes.{all_fit}
 use Rattle.house.specs.Held.{marks_held}
 use Rattle.house.proofs.Numbers.{fit-each}
 use Rattle.grammar.proofs.Laid.{Started, started, starting}
-use Rattle.packed.specs.Packed.{entry_bytes}
 use Rattle.packed.specs.Unpacked.{packed_curves}
-use Rattle.packed.proofs.Sizes.{entry_some, entries_under}
 use Rattle.packed.proofs.Laid.{plain, full, joined, joining, packed_started, packed_joined}
 use Rattle.packed_heads.proofs.Ways.{packed_counted, packed_broken, counted_by}
 use Rattle.packed_heads.proofs.find_packed.Goals as goal
@@ -29,14 +27,6 @@ pub returns-then-len-least : goal.returns-then-len-least
 returns-then-len-least c =
     let marks : marks_held c.args.b.now ≡ c.four.result / 16 = ap (λ (x : ℕ). x / 16) (sym c.four.ensures.0) in
     packed_broken c.args.b.now _ (c.four.result / 16) _ marks refl refl (λ l. let d = packed_joined l (λ z. omega arith) in omega (arith, d.size))
-
-pub nonzero_div-k : goal.nonzero_div-k
-nonzero_div-k c = omega (arith, c.entry_bytes.ensures, entry_some c.form_at-form.result)
-
-pub ends_packed-requires : goal.ends_packed-requires
-ends_packed-requires c =
-    let under : let n = c.four.result / 16 in let x = length c.args.b.now - (20 + 16 * n + 6 + 21 + 6 + 8 * n) in entry_bytes c.form_at-form.result * (x / c.entry_bytes.result) ≤ x = let n = c.four.result / 16 in rw c.entry_bytes.ensures (entries_under c.form_at-form.result (length c.args.b.now - (20 + 16 * n + 6 + 21 + 6 + 8 * n))) in
-    omega (arith, under)
 
 pub returns-then-ends_packed : goal.returns-then-ends_packed
 returns-then-ends_packed c =

@@ -14,4 +14,4 @@ returns-in-Faulty c = (omega arith, rw c.in-Faulty.is c.put_fault.ensures.1)
 
 pub returns-in-Refused : goal.returns-in-Refused
 unfolding verdict_in checked_answer
-returns-in-Refused c = (omega arith, rw c.in-Refused.is c.put_refusal.ensures.1)
+returns-in-Refused c = (omega arith, rw (c.in-Refused.is) (rw c.number.ensures at c.put_refusal.ensures.1))

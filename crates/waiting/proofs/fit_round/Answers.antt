@@ -23,8 +23,8 @@ overflow_mul-many c = omega (arith, c.saturating_sub-tail.ensures, c.requires.he
 pub slice_bounds-round-end : goal.slice_bounds-round-end
 slice_bounds-round-end c = omega (arith, c.saturating_sub-tail.ensures, c.requires.heading_value, c.lay_round.auto.out, c.block_room-round.ensures)
 
-pub slice_bounds-work_off-end : goal.slice_bounds-work_off-end
-slice_bounds-work_off-end c = sym (length-take-le _ _ (omega (arith, c.saturating_sub-tail.ensures, c.requires.heading_value, c.lay_round.auto.out, c.block_room-round.ensures)))
+pub slice_bounds-course-end : goal.slice_bounds-course-end
+slice_bounds-course-end c = sym (length-take-le _ _ (omega (arith, c.saturating_sub-tail.ensures, c.requires.heading_value, c.lay_round.auto.out, c.block_room-round.ensures)))
 
 pub work_off-requires : goal.work_off-requires
 work_off-requires c =

@@ -1,57 +1,51 @@
 -- `checker::List::check_curve` meets its contract.
-use Prim.Native.Nat.{ℕ, ◌+◌}
 use native.Mathlib.Omega.{arith}
 use mathlib.Core.Path.{sym, ap, ◌∙◌}
-use Rattle.marks.specs.Marks.{count}
 use Rattle.checker.specs.Inner.{verdict}
 use Rattle.checker.proofs.Turns.{halted}
-use Rattle.checker.proofs.Curves.{Places, places, tested, fault_b, under, curve_halt, curve-rest}
+use Rattle.checker.proofs.Curves.{places, tested, fault_b, under, curve_halt, curve-rest}
 use Rattle.checker.proofs.List.check_curve.Goals as goal
 
 pub last_at-last-requires : goal.last_at-last-requires
 last_at-last-requires c =
-    let bounds : Places c.args.self.now.outline c.args.self.now.marks.now (c.again.result + count c.args.self.now.marks.now) c.args.self.now.count c.args.self.now.firsts.now c.args.self.now.params.now c.args.j = let a = c.args.self.now in
-    places a.outline a.form a.marks.now a.tolerance a.count a.curves.now a.firsts.now a.worsts.now a.params.now (c.again.result + count c.args.self.now.marks.now) c.args.j (ap (λ (m : ℕ). m + count a.marks.now) c.again.ensures) c.requires in
-    let b = bounds in (omega arith, (omega arith, omega arith))
+    let l = c.args.self.now in
+    let b = places l.outline l.marks.now c.again.ensures c.requires in
+    (omega arith, (omega arith, omega arith))
 
 pub mark_at-p-requires : goal.mark_at-p-requires
 mark_at-p-requires c =
-    let bounds : Places c.args.self.now.outline c.args.self.now.marks.now (c.again.result + count c.args.self.now.marks.now) c.args.self.now.count c.args.self.now.firsts.now c.args.self.now.params.now c.args.j = let a = c.args.self.now in
-    places a.outline a.form a.marks.now a.tolerance a.count a.curves.now a.firsts.now a.worsts.now a.params.now (c.again.result + count c.args.self.now.marks.now) c.args.j (ap (λ (m : ℕ). m + count a.marks.now) c.again.ensures) c.requires in
-    let b = bounds in omega (arith, c.first_at-first.ensures)
+    let l = c.args.self.now in
+    let b = places l.outline l.marks.now c.again.ensures c.requires in
+    omega (arith, c.first_at-first.ensures)
 
 pub mark_round-q-requires : goal.mark_round-q-requires
 mark_round-q-requires c =
-    let bounds : Places c.args.self.now.outline c.args.self.now.marks.now (c.again.result + count c.args.self.now.marks.now) c.args.self.now.count c.args.self.now.firsts.now c.args.self.now.params.now c.args.j = let a = c.args.self.now in
-    places a.outline a.form a.marks.now a.tolerance a.count a.curves.now a.firsts.now a.worsts.now a.params.now (c.again.result + count c.args.self.now.marks.now) c.args.j (ap (λ (m : ℕ). m + count a.marks.now) c.again.ensures) c.requires in
-    let b = bounds in (b.even, omega (arith, c.last_at-last.ensures))
+    let l = c.args.self.now in
+    let b = places l.outline l.marks.now c.again.ensures c.requires in
+    (b.even, omega (arith, c.last_at-last.ensures))
 
 pub returns-then-not-is_run : goal.returns-then-not-is_run
 returns-then-not-is_run c =
-    let bounds : Places c.args.self.now.outline c.args.self.now.marks.now (c.again.result + count c.args.self.now.marks.now) c.args.self.now.count c.args.self.now.firsts.now c.args.self.now.params.now c.args.j = let a = c.args.self.now in
-    places a.outline a.form a.marks.now a.tolerance a.count a.curves.now a.firsts.now a.worsts.now a.params.now (c.again.result + count c.args.self.now.marks.now) c.args.j (ap (λ (m : ℕ). m + count a.marks.now) c.again.ensures) c.requires in
-    let a = c.args.self.now in
-    (fault_b a.outline a.form a.marks.now a.tolerance a.count a.curves.now a.firsts.now a.worsts.now a.params.now (c.again.result + count c.args.self.now.marks.now) c.args.j bounds _ _ c.curve_at-c.ensures c.first_at-first.ensures _ _ _ _ c.last_at-last.ensures c.mark_at-p.ensures c.mark_round-q.ensures c.is_run.ensures c.if-not-is_run.true)
+    let l = c.args.self.now in
+    let b = places l.outline l.marks.now c.again.ensures c.requires in
+    fault_b _ l.form _ l.tolerance _ l.curves.now _ l.worsts.now _ _ _ b _ _ c.curve_at-c.ensures c.first_at-first.ensures _ _ _ _ c.last_at-last.ensures c.mark_at-p.ensures c.mark_round-q.ensures c.is_run.ensures c.if-not-is_run.true
 
 pub check_under-requires : goal.check_under-requires
 check_under-requires c =
-    let bounds : Places c.args.self.now.outline c.args.self.now.marks.now (c.again.result + count c.args.self.now.marks.now) c.args.self.now.count c.args.self.now.firsts.now c.args.self.now.params.now c.args.j = let a = c.args.self.now in
-    places a.outline a.form a.marks.now a.tolerance a.count a.curves.now a.firsts.now a.worsts.now a.params.now (c.again.result + count c.args.self.now.marks.now) c.args.j (ap (λ (m : ℕ). m + count a.marks.now) c.again.ensures) c.requires in
-    let a = c.args.self.now in
-    under a.outline a.form a.marks.now a.tolerance a.count a.curves.now a.firsts.now a.worsts.now a.params.now (c.again.result + count c.args.self.now.marks.now) c.args.j bounds _ _ c.curve_at-c.ensures c.first_at-first.ensures _ c.stop_at-stop.ensures
+    let l = c.args.self.now in
+    let b = places l.outline l.marks.now c.again.ensures c.requires in
+    under _ l.form _ l.tolerance _ l.curves.now _ l.worsts.now _ _ _ b _ _ c.curve_at-c.ensures c.first_at-first.ensures _ c.stop_at-stop.ensures
 
 pub returns-in_err-far : goal.returns-in_err-far
 returns-in_err-far c =
-    let bounds : Places c.args.self.now.outline c.args.self.now.marks.now (c.again.result + count c.args.self.now.marks.now) c.args.self.now.count c.args.self.now.firsts.now c.args.self.now.params.now c.args.j = let a = c.args.self.now in
-    places a.outline a.form a.marks.now a.tolerance a.count a.curves.now a.firsts.now a.worsts.now a.params.now (c.again.result + count c.args.self.now.marks.now) c.args.j (ap (λ (m : ℕ). m + count a.marks.now) c.again.ensures) c.requires in
-    let a = c.args.self.now in
-    let t = tested a.outline a.form a.marks.now a.tolerance a.count a.curves.now a.firsts.now a.worsts.now a.params.now (c.again.result + count c.args.self.now.marks.now) c.args.j bounds _ _ c.curve_at-c.ensures c.first_at-first.ensures _ _ _ _ c.last_at-last.ensures c.mark_at-p.ensures c.mark_round-q.ensures c.is_run.ensures in
-    ap verdict (halted _ _ c.from_residual.ensures.1) ∙ curve_halt a.outline a.form a.marks.now a.tolerance a.count a.curves.now a.firsts.now a.worsts.now a.params.now (c.again.result + count c.args.self.now.marks.now) c.args.j bounds _ _ c.curve_at-c.ensures c.first_at-first.ensures _ c.stop_at-stop.ensures (sym t ∙ c.if-not-is_run.false) _ c.in_err-far.ensures
+    let l = c.args.self.now in
+    let b = places l.outline l.marks.now c.again.ensures c.requires in
+    let t = tested _ l.form _ l.tolerance _ l.curves.now _ l.worsts.now _ _ _ b _ _ c.curve_at-c.ensures c.first_at-first.ensures _ _ _ _ c.last_at-last.ensures c.mark_at-p.ensures c.mark_round-q.ensures c.is_run.ensures in
+    ap verdict (halted _ _ c.from_residual.ensures.1) ∙ curve_halt _ l.form _ l.tolerance _ l.curves.now _ l.worsts.now _ _ _ b _ _ c.curve_at-c.ensures c.first_at-first.ensures _ c.stop_at-stop.ensures (sym t ∙ c.if-not-is_run.false) _ c.in_err-far.ensures
 
 pub returns : goal.returns
 returns c =
-    let bounds : Places c.args.self.now.outline c.args.self.now.marks.now (c.again.result + count c.args.self.now.marks.now) c.args.self.now.count c.args.self.now.firsts.now c.args.self.now.params.now c.args.j = let a = c.args.self.now in
-    places a.outline a.form a.marks.now a.tolerance a.count a.curves.now a.firsts.now a.worsts.now a.params.now (c.again.result + count c.args.self.now.marks.now) c.args.j (ap (λ (m : ℕ). m + count a.marks.now) c.again.ensures) c.requires in
-    let a = c.args.self.now in
-    let t = tested a.outline a.form a.marks.now a.tolerance a.count a.curves.now a.firsts.now a.worsts.now a.params.now (c.again.result + count c.args.self.now.marks.now) c.args.j bounds _ _ c.curve_at-c.ensures c.first_at-first.ensures _ _ _ _ c.last_at-last.ensures c.mark_at-p.ensures c.mark_round-q.ensures c.is_run.ensures in
-    curve-rest a.outline a.form a.marks.now a.tolerance a.count a.curves.now a.firsts.now a.worsts.now a.params.now (c.again.result + count c.args.self.now.marks.now) c.args.j bounds _ _ c.curve_at-c.ensures c.first_at-first.ensures _ c.stop_at-stop.ensures (sym t ∙ c.if-not-is_run.false) _ c.in_ok-far.ensures c.check_kept.ensures
+    let l = c.args.self.now in
+    let b = places l.outline l.marks.now c.again.ensures c.requires in
+    let t = tested _ l.form _ l.tolerance _ l.curves.now _ l.worsts.now _ _ _ b _ _ c.curve_at-c.ensures c.first_at-first.ensures _ _ _ _ c.last_at-last.ensures c.mark_at-p.ensures c.mark_round-q.ensures c.is_run.ensures in
+    curve-rest _ l.form _ l.tolerance _ l.curves.now _ l.worsts.now _ _ _ b _ _ c.curve_at-c.ensures c.first_at-first.ensures _ c.stop_at-stop.ensures (sym t ∙ c.if-not-is_run.false) _ c.in_ok-far.ensures c.check_kept.ensures

@@ -1,10 +1,9 @@
 -- `house::bytes::copy_words` meets its contract. After i turns the first i numbers of the row stand in front.
-use mathlib.Core.Path.{◌≡◌, refl}
+use mathlib.Core.Path.{refl}
 use Prim.Native.Nat.{◌<◌}
 use native.Mathlib.Omega.{arith}
 use lib.ListN.{length}
 use Rattle.house.specs.Bytes.{row}
-use Rattle.house.proofs.Rows.{length-words}
 use Rattle.house.proofs.Turns.{words-turn}
 use Rattle.house.proofs.bytes.copy_words.Goals as goal
 
@@ -18,10 +17,3 @@ loop-i-preserved c =
     let a = c.args in
     let h : l.i < length a.out.now = omega arith in
     rw (l.invariant, c.eight.ensures) (words-turn a.b.now a.at a.out.now l.i h)
-
-pub returns : goal.returns
-returns c =
-    let l = c.loop-i in
-    let a = c.args in
-    let e : l.i ≡ a.n = omega arith in
-    rw length-words (rw e at l.invariant)

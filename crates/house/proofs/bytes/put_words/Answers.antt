@@ -1,5 +1,5 @@
 -- `house::bytes::put_words` meets its contract. After i turns the first i numbers are put.
-use mathlib.Core.Path.{◌≡◌, refl, ◌∙◌}
+use mathlib.Core.Path.{refl, ◌∙◌}
 use Prim.Native.Nat.{◌<◌}
 use native.Mathlib.Omega.{arith}
 use lib.ListN.{length}
@@ -17,10 +17,3 @@ loop-i-preserved c =
     let a = c.args in
     let h : l.i < length a.xs.now = omega arith in
     c.put_eight.ensures ∙ rw l.invariant (words-put a.out.now a.xs.now a.at l.i h)
-
-pub returns : goal.returns
-returns c =
-    let l = c.loop-i in
-    let a = c.args in
-    let e : l.i ≡ a.n = omega arith in
-    rw e at l.invariant

@@ -1,10 +1,10 @@
--- `waiting::work_off`: at the loop's head the whole is what is written, the part that is next, and what waits (`Sofar`).
+-- `waiting::Course::work_off`: at the loop's head the whole is what is written, the part that is next, and what waits (`Sofar`).
 use native.Mathlib.Omega.{arith}
 use Prim.Native.Nat.{◌-◌}
 use mathlib.Core.Path.{refl, ap, ◌∙◌}
 use Rattle.std.specs.Prelude.{Ok}
 use Rattle.waiting.proofs.Loop.{asked, so_first, head, numbers, within, ran, so_refused, cut_inside, so_cut, good_among, so_done, so_next}
-use Rattle.waiting.proofs.work_off.Goals as goal
+use Rattle.waiting.proofs.Course.work_off.Goals as goal
 
 pub loop-s-init : goal.loop-s-init
 loop-s-init c = so_first _ (asked _ c.requires.outlined c.requires.room c.wait_blocks-first.auto.open) _ _ _ c.wait_blocks-first.ensures refl

@@ -1,9 +1,0 @@
--- `house::sizes::mark_field` meets its contract.
-use mathlib.Core.Path.{refl}
-use Rattle.house.proofs.sizes.mark_field.Goals as goal
-
-pub returns-in-Two : goal.returns-in-Two
-returns-in-Two c = rw c.in-Two.is refl
-
-pub returns-in-Four : goal.returns-in-Four
-returns-in-Four c = rw c.in-Four.is refl
