@@ -70,24 +70,28 @@ fn is_root(a: u64, c: u64) -> bool
     let s = t / 0x800_0000;
     let l = t % 0x800_0000;
     let square = s * s;
-    if square <= a {
-        let r = a - square;
-        if r < 0x2000_0000 {
-            let n = r * 0x800_0000;
-            let w = s * l * 2;
-            if w <= n {
-                let v = n - w;
-                if v < 0x10_0000_0000 {
-                    let z = v * 0x800_0000;
-                    let k = l * l;
-                    if k < z {
-                        return z - k < c * 8;
-                    }
-                }
-            }
-        }
+    if square > a {
+        return false;
     }
-    false
+    let r = a - square;
+    if r >= 0x2000_0000 {
+        return false;
+    }
+    let n = r * 0x800_0000;
+    let w = s * l * 2;
+    if w > n {
+        return false;
+    }
+    let v = n - w;
+    if v >= 0x10_0000_0000 {
+        return false;
+    }
+    let z = v * 0x800_0000;
+    let k = l * l;
+    if k >= z {
+        return false;
+    }
+    z - k < c * 8
 }
 
 // The whole part of the root of a * 2^54, digit by digit: `rest` is what the digits so far leave.
