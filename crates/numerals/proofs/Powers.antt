@@ -1,16 +1,12 @@
 -- Laws of the decimal places of a number. Assumes nothing.
 use Prim.Native.Nat.{ℕ, zero, suc, ◌-◌, ◌*◌, ◌^◌, ◌≤◌}
-use mathlib.Core.Path.{◌≡◌, sym, ap, ◌∙◌}
+use mathlib.Core.Path.{◌≡◌}
 use mathlib.Core.Bool.{Bool, true, false, ◌&&◌, ◌||◌}
 use native.Mathlib.Omega.{arith}
 use borrow.Author.Tests.{leb-true}
 use lib.Dec.{ltb, leb}
 use Rattle.path.specs.Decimals.{most}
 use Rattle.numerals.specs.Numerals.{cap}
-
--- what the last of p places counts, where p is known
-pub power : (p q : ℕ) {n : ℕ} → n ≡ 10 ^ (3 - p) → q ≡ p → n ≡ 10 ^ (3 - q)
-power p q e h = e ∙ ap (λ (x : ℕ). 10 ^ (3 - x)) (sym h)
 
 -- there are digits, and at most three of them are behind the point
 pub second : (w p : ℕ) → (ltb 0 w || ltb 0 p) && leb p 3 ≡ true → p ≤ 3

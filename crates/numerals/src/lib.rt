@@ -106,16 +106,12 @@ fn scale(places: usize) -> u64
     requires { places ≤ 3 }
     ensures { result ≡ 10 ^ (3 - places) }
 {
-    if places == 0 {
-        return 1000;
+    match places {
+        0 => 1000,
+        1 => 100,
+        2 => 10,
+        _ => 1,
     }
-    if places == 1 {
-        return 100;
-    }
-    if places == 2 {
-        return 10;
-    }
-    1
 }
 
 // The number that so many digits before the point and behind it make, if they make one. Of zero no sign is kept.

@@ -1,6 +1,4 @@
 -- `import::walk` meets its contract.
-use native.Mathlib.Omega.{arith}
-use Rattle.numerals.proofs.Leading.{byte_here}
 use Rattle.import.specs.Drawn.{standing}
 use Rattle.import.proofs.Pieces.{from, none, marked}
 use Rattle.import.proofs.Paths.{path_other, path_no_pair, path-walked}
@@ -8,9 +6,6 @@ use Rattle.import.proofs.walk.Goals as goal
 
 pub returns-then-byte_at-ne77 : goal.returns-then-byte_at-ne77
 returns-then-byte_at-ne77 c = path_other c.args.text.now c.args.out.now c.past_space-first.ensures c.byte_at.ensures c.if-byte_at-ne77.true
-
-pub overflow_add-first : goal.overflow_add-first
-overflow_add-first c = omega (arith, byte_here c.args.text.now c.past_space-first.result c.byte_at.ensures (omega arith))
 
 pub returns-in_err-start : goal.returns-in_err-start
 returns-in_err-start c =

@@ -1,18 +1,8 @@
 -- `import::walk_on` meets its contract.
-use mathlib.Core.Path.{refl, ◌∙◌}
+use mathlib.Core.Path.{◌∙◌}
 use native.Mathlib.Omega.{arith}
-use lib.ListN.{length-drop}
 use Rattle.import.proofs.Walks.{turn_marked, turn_shorter, turn, turn-closed, turn-ended, turn-refused}
 use Rattle.import.proofs.walk_on.Goals as goal
-
-pub loop-by-init : goal.loop-by-init
-loop-by-init c = (refl, omega (arith, length-drop c.args.from c.args.text.now), c.requires, refl)
-
-pub step_at-requires : goal.step_at-requires
-step_at-requires c = c.loop-by.invariant.2
-
-pub overflow_add-count : goal.overflow_add-count
-overflow_add-count c = omega (arith, turn_shorter _ _ _ _ _ c.in_ok-by.ensures c.in-Drawn.is)
 
 pub loop-by-smaller : goal.loop-by-smaller
 loop-by-smaller c = turn_shorter _ _ _ _ _ c.in_ok-by.ensures c.in-Drawn.is
@@ -24,9 +14,6 @@ loop-by-preserved c = (
   turn_marked _ _ _ _ _ c.in_ok-by.ensures c.in-Drawn.is,
   turn _ _ _ _ _ c.in_ok-by.ensures c.in-Drawn.is c.args.start _ _ _ c.loop-by.invariant.3 c.put_curve.ensures,
 )
-
-pub close-requires : goal.close-requires
-close-requires c = (omega arith, (c.requires, c.loop-by.invariant.2))
 
 pub returns-in-Closed : goal.returns-in-Closed
 returns-in-Closed c = turn-closed _ _ _ _ _ c.in_ok-by.ensures c.args.start _ _ _ c.loop-by.invariant.3 c.in-Closed.is c.close.ensures

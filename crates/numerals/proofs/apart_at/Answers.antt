@@ -1,11 +1,6 @@
 -- `numerals::apart_at` meets its contract.
-use native.Mathlib.Omega.{arith}
-use Rattle.numerals.proofs.Leading.{byte_here, comma, no_comma}
+use Rattle.numerals.proofs.Leading.{comma, no_comma}
 use Rattle.numerals.proofs.apart_at.Goals as goal
-
-pub overflow_add-comma : goal.overflow_add-comma
-overflow_add-comma c =
-    omega (arith, byte_here c.args.text.now c.past_space-comma.result c.byte_at.ensures (omega arith))
 
 pub returns-then-byte_at-eq44 : goal.returns-then-byte_at-eq44
 returns-then-byte_at-eq44 c =

@@ -1,19 +1,10 @@
 -- `numerals::number_at` meets its contract.
-use native.Mathlib.Omega.{arith}
-use Rattle.numerals.proofs.Leading.{byte_here}
 use Rattle.numerals.proofs.Spelling.{plus, minus, bare}
 use Rattle.numerals.proofs.number_at.Goals as goal
-
-pub overflow_add-at : goal.overflow_add-at
-overflow_add-at c = omega (arith, byte_here c.args.text.now c.args.at c.byte_at-sign.ensures (omega arith))
 
 pub returns-then-sign-eq43 : goal.returns-then-sign-eq43
 returns-then-sign-eq43 c =
     plus c.args.text.now c.args.at c.byte_at-sign.ensures c.if-sign-eq43.true c.unsigned_at.ensures
-
-pub overflow_add-at-then-sign-eq45 : goal.overflow_add-at-then-sign-eq45
-overflow_add-at-then-sign-eq45 c =
-    omega (arith, byte_here c.args.text.now c.args.at c.byte_at-sign.ensures (omega arith))
 
 pub returns-then-sign-eq45 : goal.returns-then-sign-eq45
 returns-then-sign-eq45 c =

@@ -1,12 +1,7 @@
 -- `path_list::list_path` meets its contract.
 use native.Mathlib.Omega.{arith}
-use mathlib.Core.Path.{sym}
-use lib.Seq.{length-take-le}
 use Rattle.lines.proofs.Handed.{over-front}
 use Rattle.path_list.proofs.list_path.Goals as goal
-
-pub slice_bounds-hand_over-end : goal.slice_bounds-hand_over-end
-slice_bounds-hand_over-end c = sym (length-take-le _ _ (omega arith))
 
 pub returns : goal.returns
 returns c = over-front c.put_list-size.ensures.1 (omega arith) _ c.hand_over.ensures

@@ -1,24 +1,14 @@
 -- `path_text::path_length` meets its contract.
 use native.Mathlib.Omega.{arith}
 use Rattle.faults.specs.Tests.{curve_at}
-use Rattle.path_text.proofs.Records.{held, fewer}
 use Rattle.path_text.proofs.Parts.{curve-fine, curve_at_is}
 use Rattle.path_text.proofs.Lengths.{path-text}
 use Rattle.path_text.proofs.path_length.Goals as goal
-
-pub curve_at-first-requires : goal.curve_at-first-requires
-curve_at-first-requires c = held c.args.form 0 c.args.n (omega arith) c.requires.1.held
 
 pub point_length-requires : goal.point_length-requires
 point_length-requires c =
     let w = curve_at_is 0 c.requires.1 (omega arith) in
     rw c.curve_at-first.ensures (curve-fine (curve_at c.args.form c.args.curves.now 0) w.0 w.1).start
-
-pub overflow_add-result-2 : goal.overflow_add-result-2
-overflow_add-result-2 c = omega (arith, fewer c.args.form c.args.n c.requires.1.held, c.curves_length.ensures.1, c.closing_length.ensures.1)
-
-pub overflow_add-result-3 : goal.overflow_add-result-3
-overflow_add-result-3 c = omega (arith, fewer c.args.form c.args.n c.requires.1.held, c.curves_length.ensures.1, c.closing_length.ensures.1, c.point_length.ensures.1)
 
 pub returns : goal.returns
 returns c =

@@ -1,18 +1,13 @@
 -- `path_text::put_curves` meets its contract.
 use native.Mathlib.Omega.{arith}
-use mathlib.Core.Path.{◌≡◌}
 use Rattle.text.proofs.Stores.{put-length}
 use Rattle.faults.specs.Tests.{curve_at}
-use Rattle.path_text.proofs.Records.{held}
 use Rattle.path_text.proofs.Parts.{curve_at_is}
 use Rattle.path_text.proofs.Lengths.{curves_grow, put-curves_none, put-curves_next}
 use Rattle.path_text.proofs.put_curves.Goals as goal
 
 pub loop-i-init : goal.loop-i-init
 loop-i-init c = put-curves_none (curve_at c.args.form c.args.curves.now) _ _
-
-pub curve_at-requires : goal.curve_at-requires
-curve_at-requires c = held c.args.form c.loop-i.i c.args.n (omega arith) c.requires.0.held
 
 pub put_curve-end-requires : goal.put_curve-end-requires
 put_curve-end-requires c =
@@ -24,12 +19,3 @@ pub loop-i-preserved : goal.loop-i-preserved
 loop-i-preserved c =
     let f = curve_at c.args.form c.args.curves.now in
     put-curves_next c.loop-i.i f c.loop-i.invariant (rw c.curve_at.ensures at c.put_curve-end.ensures)
-
-pub shape_of-out : goal.shape_of-out
-shape_of-out c = put-length c.loop-i.invariant
-
-pub returns : goal.returns
-returns c =
-    let l = c.loop-i in
-    let e : l.i ≡ c.args.n = omega arith in
-    rw e at l.invariant

@@ -3,13 +3,9 @@ use native.Mathlib.Omega.{arith}
 use mathlib.Core.List.{◌∷◌, []}
 use Rattle.text.proofs.Stores.{one}
 use Rattle.faults.specs.Tests.{curve_at}
-use Rattle.path_text.proofs.Records.{held}
 use Rattle.path_text.proofs.Parts.{curve-fine, curve_at_is}
 use Rattle.path_text.proofs.Lengths.{path-text, put-path-text}
 use Rattle.path_text.proofs.put_path.Goals as goal
-
-pub curve_at-first-requires : goal.curve_at-first-requires
-curve_at-first-requires c = held c.args.form 0 c.args.n (omega arith) c.requires.1.0.held
 
 pub put_bytes-start-requires : goal.put_bytes-start-requires
 put_bytes-start-requires c = omega (arith, path-text c.args.ring c.args.n (curve_at c.args.form c.args.curves.now))

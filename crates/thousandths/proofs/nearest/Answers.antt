@@ -1,9 +1,6 @@
 -- `thousandths::nearest` meets its contract.
-use Rattle.thousandths.proofs.Quotient.{exact, plus_is, minus_is}
+use Rattle.thousandths.proofs.Quotient.{plus_is, minus_is}
 use Rattle.thousandths.proofs.nearest.Goals as goal
-
-pub int_to_float-y : goal.int_to_float-y
-int_to_float-y c = exact c.args.d.thousandths c.requires
 
 pub returns-then-d : goal.returns-then-d
 returns-then-d c =

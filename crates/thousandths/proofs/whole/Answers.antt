@@ -1,5 +1,4 @@
 -- `thousandths::whole` meets its contract.
-use native.Mathlib.Nat.{div-le_self}
 use native.Mathlib.Omega.{arith}
 use Rattle.thousandths.proofs.Halves.{down_to, up_to}
 use Rattle.thousandths.proofs.whole.Goals as goal
@@ -7,9 +6,6 @@ use Rattle.thousandths.proofs.whole.Goals as goal
 pub returns-then-n-d : goal.returns-then-n-d
 returns-then-n-d c =
     down_to c.args.n c.args.d c.requires.1 c.requires.2 (omega arith)
-
-pub overflow_add-result : goal.overflow_add-result
-overflow_add-result c = omega (arith, div-le_self c.args.n c.args.d)
 
 pub returns : goal.returns
 returns c =
