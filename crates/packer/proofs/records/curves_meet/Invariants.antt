@@ -1,6 +1,6 @@
 -- What the loop of `packer::records::curves_meet` keep.
 use mathlib.Core.Path.{◌≡◌}
-use Prim.Native.Nat.{suc, ◌-◌, ◌≤◌}
+use Prim.Native.Nat.{suc}
 use Rattle.house.specs.Held.{file_at}
 use Rattle.packed.specs.Each.{each}
 use Rattle.packed.specs.Packed.{start_at, end_at}

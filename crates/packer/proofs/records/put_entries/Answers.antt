@@ -1,13 +1,10 @@
 -- `packer::records::put_entries` meets its contract. After i turns the first i curves are put.
-use mathlib.Core.Path.{◌≡◌, refl, ap, ◌∙◌}
+use mathlib.Core.Path.{◌≡◌, refl, ap}
 use Prim.Native.Nat.{ℕ, ◌+◌, ◌*◌, ◌≤◌}
 use native.Mathlib.Omega.{arith}
-use lib.ListN.{length}
-use lib.Seq.{length-sets}
-use Rattle.house.specs.Held.{file_at}
 use Rattle.house.proofs.Forms.{within}
 use Rattle.packed.specs.Each.{each}
-use Rattle.packed.specs.Packed.{entry_bytes, entry_of}
+use Rattle.packed.specs.Packed.{entry_bytes}
 use Rattle.packer.proofs.Puts.{entries_put}
 use Rattle.packer.proofs.records.put_entries.Goals as goal
 

@@ -1,7 +1,5 @@
 -- What the loop of `packer::records::put_entries` keep.
 use mathlib.Core.Path.{◌≡◌}
-use Prim.Native.Nat.{◌-◌, ◌≤◌}
-use lib.ListN.{length}
 use lib.Seq.{sets}
 use Rattle.house.specs.Held.{file_at}
 use Rattle.packed.specs.Each.{each}

@@ -10,6 +10,14 @@ use Rattle.house.proofs.Forms.{body-few}
 use Rattle.grammar.proofs.Rooms.{room_start, room_whole, room-params}
 use Rattle.reader.proofs.Turns.{params_by}
 use Rattle.reader.proofs.bodies.copy_file.Goals as goal
+use Rattle.reader.proofs.bodies.copy_file.Goals.{After-body_bytes-step}
+
+-- the lengths of a body and of the curves, as they were worked out
+body_of : (c : After-body_bytes-step) → c.body_bytes-step.result ≡ body_bytes c.args.form (field_for c.args.n)
+body_of c = c.body_bytes-step.ensures ∙ ap (λ (f : Field). body_bytes c.args.form f) c.field_for-field.ensures
+
+bytes_of : (c : After-body_bytes-step) → (6 + c.body_bytes-step.result) * c.args.k ≡ curve_bytes c.args.form (field_for c.args.n) * c.args.k
+bytes_of c = ap (λ (x : ℕ). (6 + x) * c.args.k) (body_of c)
 
 pub copy_words-requires : goal.copy_words-requires
 copy_words-requires c = let r = c.requires in (omega (arith, room_start r), r.marks)
@@ -25,41 +33,37 @@ copy_curves-requires c =
 
 pub overflow_add-step : goal.overflow_add-step
 overflow_add-step c =
-    let body : c.body_bytes-step.result ≡ body_bytes c.args.form (field_for c.args.n) = c.body_bytes-step.ensures ∙ ap (λ (f : Field). body_bytes c.args.form f) c.field_for-field.ensures in
+    let body = body_of (goal.at.overflow_add-step c).After-body_bytes-step in
     omega (arith, body-few c.args.form (field_for c.args.n), body)
 
 pub overflow_mul-last : goal.overflow_mul-last
 overflow_mul-last c =
     let some : 0 < c.args.k = omega arith in
-    let body : c.body_bytes-step.result ≡ body_bytes c.args.form (field_for c.args.n) = c.body_bytes-step.ensures ∙ ap (λ (f : Field). body_bytes c.args.form f) c.field_for-field.ensures in
-    let bytes : (6 + c.body_bytes-step.result) * c.args.k ≡ curve_bytes c.args.form (field_for c.args.n) * c.args.k = ap (λ (x : ℕ). (6 + x) * c.args.k) body in
+    let bytes = bytes_of (goal.at.overflow_mul-last c).After-body_bytes-step in
     omega (arith, bytes, room_whole c.requires some)
 
 pub overflow_add-last : goal.overflow_add-last
 overflow_add-last c =
     let some : 0 < c.args.k = omega arith in
-    let body : c.body_bytes-step.result ≡ body_bytes c.args.form (field_for c.args.n) = c.body_bytes-step.ensures ∙ ap (λ (f : Field). body_bytes c.args.form f) c.field_for-field.ensures in
-    let bytes : (6 + c.body_bytes-step.result) * c.args.k ≡ curve_bytes c.args.form (field_for c.args.n) * c.args.k = ap (λ (x : ℕ). (6 + x) * c.args.k) body in
+    let bytes = bytes_of (goal.at.overflow_add-last c).After-body_bytes-step in
     omega (arith, bytes, room_whole c.requires some)
 
 pub overflow_add-last-2 : goal.overflow_add-last-2
 overflow_add-last-2 c =
     let some : 0 < c.args.k = omega arith in
-    let body : c.body_bytes-step.result ≡ body_bytes c.args.form (field_for c.args.n) = c.body_bytes-step.ensures ∙ ap (λ (f : Field). body_bytes c.args.form f) c.field_for-field.ensures in
-    let bytes : (6 + c.body_bytes-step.result) * c.args.k ≡ curve_bytes c.args.form (field_for c.args.n) * c.args.k = ap (λ (x : ℕ). (6 + x) * c.args.k) body in
+    let bytes = bytes_of (goal.at.overflow_add-last-2 c).After-body_bytes-step in
     omega (arith, bytes, room_whole c.requires some)
 
 pub copy_words-requires-2 : goal.copy_words-requires-2
 copy_words-requires-2 c =
     let some : 0 < c.args.k = omega arith in
-    let body : c.body_bytes-step.result ≡ body_bytes c.args.form (field_for c.args.n) = c.body_bytes-step.ensures ∙ ap (λ (f : Field). body_bytes c.args.form f) c.field_for-field.ensures in
-    let bytes : (6 + c.body_bytes-step.result) * c.args.k ≡ curve_bytes c.args.form (field_for c.args.n) * c.args.k = ap (λ (x : ℕ). (6 + x) * c.args.k) body in
+    let bytes = bytes_of (goal.at.copy_words-requires-2 c).After-body_bytes-step in
     let r = c.requires in (omega (arith, bytes, room_whole r some), omega (arith, room-params r some))
 
 pub returns : goal.returns
 returns c =
     let some : 0 < c.args.k = omega arith in
-    let body : c.body_bytes-step.result ≡ body_bytes c.args.form (field_for c.args.n) = c.body_bytes-step.ensures ∙ ap (λ (f : Field). body_bytes c.args.form f) c.field_for-field.ensures in
+    let body = body_of (goal.at.returns c).After-body_bytes-step in
     let s = rw c.field_for-field.ensures at c.copy_curves.ensures in
     let a = c.args in
     record {
