@@ -66,3 +66,15 @@ pub fn read_floats(out: &mut [f64], n: usize) {
 pub fn mix(h: u64, w: u64) -> u64 {
     h.rotate_left(5).wrapping_add(w)
 }
+
+// Goes on with case after case until one says that the input has ended. Nothing says that it ends, so the cases are counted, up to a number that no input has.
+pub fn each_case<F: FnMut() -> bool>(step: F)
+    requires { F.IsAlwaysCallable step }
+{
+    let mut step = step;
+    for _ in 0..65536 {
+        if !step() {
+            return;
+        }
+    }
+}

@@ -23,9 +23,5 @@ fn step() -> bool {
 }
 
 fn main() {
-    for _ in 0..65536 {
-        if !step() {
-            return;
-        }
-    }
+    cases::each_case(step);
 }

@@ -4,4 +4,4 @@ use Rattle.wesalondo.specs.Left.{left_by_flat}
 use Rattle.wesalondo.proofs.wes_fit_curve_cubic_flat.Goals as goal
 
 pub returns : goal.returns
-returns c = rw c.put_fitted.ensures (ap left_by_flat c.fit_curve_cubic_flat-answer.ensures)
+returns c = rw c.put_count.ensures (ap left_by_flat c.fit_curve_cubic_flat-answer.ensures)

@@ -4,4 +4,4 @@ use Rattle.wesalondo.specs.Left.{left_by}
 use Rattle.wesalondo.proofs.wes_fit_ring.Goals as goal
 
 pub returns : goal.returns
-returns c = rw c.put_fitted.ensures (ap left_by c.fit_ring-answer.ensures)
+returns c = rw c.put_count.ensures (ap left_by c.fit_ring-answer.ensures)

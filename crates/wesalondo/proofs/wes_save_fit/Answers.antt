@@ -4,4 +4,4 @@ use Rattle.wesalondo.specs.Left.{left_with_text}
 use Rattle.wesalondo.proofs.wes_save_fit.Goals as goal
 
 pub returns : goal.returns
-returns c = rw c.put_listed.ensures (ap left_with_text c.save_fit-answer.ensures)
+returns c = rw c.put_count.ensures (ap left_with_text c.save_fit-answer.ensures)
