@@ -17,9 +17,10 @@ use Rattle.checker.specs.declared.Place.{Place}
 use Rattle.checker.specs.declared.Fault.{Fault}
 use Rattle.checker.specs.declared.Fault.TheVariants.{A, B, C, D, E}
 use Rattle.nearest.specs.Choose.{Nearest}
-use Rattle.reader.specs.Reader.{Found}
-use Rattle.salvaging.specs.Salvage.{Sizes, sizes}
-use Rattle.import.specs.Import.{Drawn}
+use Rattle.reader.specs.declared.Found.{Found}
+use Rattle.salvaging.specs.Salvage.{sizes}
+use Rattle.salvaging.specs.declared.Sizes.{Sizes}
+use Rattle.import.specs.declared.Imported.{Imported}
 
 -- ---- what comes in
 
@@ -118,8 +119,8 @@ unfoldable pub salvaged_crossed : Answer Sizes → Crossed Sizes
 salvaged_crossed = crossing (λ s. s) (sizes 0 0)
 
 -- what path data draws beside the slice
-abbrev pub drawn : ℕ → Bool → Drawn
+abbrev pub drawn : ℕ → Bool → Imported
 drawn k z = record { count = k; closed = z }
 
-unfoldable pub drawn_crossed : Answer Drawn → Crossed Drawn
+unfoldable pub drawn_crossed : Answer Imported → Crossed Imported
 drawn_crossed = crossing (λ d. d) (drawn 0 false)

@@ -2,29 +2,23 @@
 #![tactic(auto)]
 
 ghost use Rattle.std.specs.Prelude.{◌≡◌};
-ghost use Rattle.fit.specs.Fit.{fitted_answer};
-ghost use Rattle.bezier.specs.Calls.{point_answer, number_answer, coefficients_answer, halves_answer};
+ghost use Rattle.float.specs.Refusal.{answer as answer_of};
 ghost use Rattle.nearest.specs.Nearest.{nearest_answer};
 ghost use Rattle.checker.specs.Check.{checked_answer, place};
-ghost use Rattle.reader.specs.Reader.{read_answer};
-ghost use Rattle.writer.specs.Writer.{write_answer};
-ghost use Rattle.lines.specs.Handed.{listed_answer};
-ghost use Rattle.salvaging.specs.Salvage.{sizes, salvaged_answer};
-ghost use Rattle.border.specs.Crossing.{outline_for, form_for, crossed, count_crossed, number_crossed, point_crossed, coefficients_crossed, eight, parts, halves_crossed, nearest, nearest_crossed, fault_crossed, verdict_crossed, found, found_crossed, salvaged_crossed, drawn, drawn_crossed};
-ghost use Rattle.import.specs.Import.{imported_answer};
+ghost use Rattle.salvaging.specs.Salvage.{sizes};
+ghost use Rattle.border.specs.Crossing.{outline_for, form_for, crossed, crossing, count_crossed, number_crossed, xy, point_crossed, abcd, coefficients_crossed, eight, parts, halves_crossed, nearest, nearest_crossed, fault_crossed, verdict_crossed, found, found_crossed, salvaged_crossed, drawn, drawn_crossed};
 
-use bezier::{CoefficientsAnswer, HalvesAnswer, NumberAnswer, PointAnswer};
 use checker::{Checked, Fault, Place};
-use cut::Fitted;
+use cubic::eval::Coefficients;
+use cubic::split::Halves;
+use float::refusal::Refusal;
 use form::Form;
 use import::Imported;
-use lines::Listed;
 use nearest::NearestPoint;
-use plane::Curve;
-use reader::Read;
+use plane::{Curve, Point};
+use reader::Found;
 use ring::Outline;
-use salvaging::Salvaged;
-use writer::Wrote;
+use salvaging::Sizes;
 
 // ---- what comes in
 
@@ -48,104 +42,97 @@ pub fn form_for(nine: bool) -> Form
     Form::Eight
 }
 
-// ---- counts
+// ---- one value
 
-// How many curves a fit made.
-pub fn put_fitted(answer: Fitted, made: &mut usize) -> u32
-    ensures { crossed result made.new ≡ count_crossed (fitted_answer answer) }
+// An answer's number, 0 of one that is accepted; its value goes to `place`, and where something is refused `nothing` does.
+fn put<T: Copy>(answer: Result<T, Refusal>, nothing: T, place: &mut T) -> u32
+    ensures { crossed result place.new ≡ crossing (λ v. v) nothing (answer_of answer) }
 {
     match answer {
-        Fitted::Curves(k) => {
-            *made = k;
+        Ok(value) => {
+            *place = value;
             0
         }
-        Fitted::Refused(q) => {
-            *made = 0;
-            q
+        Err(refusal) => {
+            *place = nothing;
+            refusal.number()
         }
     }
 }
 
-// How many bytes the writer wrote.
-pub fn put_wrote(answer: Wrote, size: &mut usize) -> u32
-    ensures { crossed result size.new ≡ count_crossed (write_answer answer) }
+// The same of an answer that has two values, each with a place of its own.
+fn put_both<A: Copy, B: Copy>(
+    answer: Result<(A, B), Refusal>,
+    nothing: (A, B),
+    first: &mut A,
+    second: &mut B,
+) -> u32
+    ensures { crossed result (first.new, second.new) ≡ crossing (λ v. v) nothing (answer_of answer) }
 {
-    match answer {
-        Wrote::Bytes(n) => {
-            *size = n;
-            0
-        }
-        Wrote::Refused(q) => {
-            *size = 0;
-            q
-        }
-    }
+    let mut values = nothing;
+    let number = put(answer, nothing, &mut values);
+    *first = values.0;
+    *second = values.1;
+    number
 }
 
-// How many bytes a text has.
-pub fn put_listed(answer: Listed, size: &mut usize) -> u32
-    ensures { crossed result size.new ≡ count_crossed (listed_answer answer) }
+// How many: curves that a fit made, or bytes that were written.
+#[tactic(auto, unfolding(crate::specs::Crossing::count_crossed))]
+pub fn put_count(answer: Result<usize, Refusal>, count: &mut usize) -> u32
+    ensures { crossed result count.new ≡ count_crossed (answer_of answer) }
 {
-    match answer {
-        Listed::Bytes(n) => {
-            *size = n;
-            0
-        }
-        Listed::Refused(q) => {
-            *size = 0;
-            q
-        }
-    }
+    put(answer, 0, count)
+}
+
+// A parameter.
+#[tactic(auto, unfolding(crate::specs::Crossing::number_crossed))]
+pub fn put_refined(answer: Result<f64, Refusal>, t: &mut f64) -> u32
+    ensures { crossed result t.new ≡ number_crossed (answer_of answer) }
+{
+    put(answer, 0.0, t)
 }
 
 // ---- one curve
 
-// A point.
-pub fn put_point(answer: PointAnswer, point: &mut [f64; 2]) -> u32
-    ensures { crossed result point.new ≡ point_crossed (point_answer answer) }
+// A point's two numbers.
+fn xy(p: Point) -> [f64; 2]
+    ensures { result ≡ xy p }
 {
-    match answer {
-        PointAnswer::At(p) => {
-            *point = [p.x, p.y];
-            0
-        }
-        PointAnswer::Refused(q) => {
-            *point = [0.0, 0.0];
-            q
-        }
-    }
+    [p.x, p.y]
 }
 
-// A parameter.
-pub fn put_refined(answer: NumberAnswer, t: &mut f64) -> u32
-    ensures { crossed result t.new ≡ number_crossed (number_answer answer) }
+// A point.
+#[tactic(auto, unfolding(crate::specs::Crossing::point_crossed))]
+pub fn put_point(answer: Result<Point, Refusal>, point: &mut [f64; 2]) -> u32
+    ensures { crossed result point.new ≡ point_crossed (answer_of answer) }
 {
-    match answer {
-        NumberAnswer::Is(x) => {
-            *t = x;
-            0
-        }
-        NumberAnswer::Refused(q) => {
-            *t = 0.0;
-            q
-        }
-    }
+    let mut p = Point { x: 0.0, y: 0.0 };
+    let number = put(answer, p, &mut p);
+    *point = xy(p);
+    number
+}
+
+// The four coefficients.
+fn abcd(k: Coefficients) -> [f64; 4]
+    ensures { result ≡ abcd k }
+{
+    [k.a, k.b, k.c, k.d]
 }
 
 // A curve's coefficients.
-pub fn put_coefficients(answer: CoefficientsAnswer, coefficients: &mut [f64; 4]) -> u32
-    ensures { crossed result coefficients.new ≡ coefficients_crossed (coefficients_answer answer) }
+#[tactic(auto, unfolding(crate::specs::Crossing::coefficients_crossed))]
+pub fn put_coefficients(answer: Result<Coefficients, Refusal>, coefficients: &mut [f64; 4]) -> u32
+    ensures { crossed result coefficients.new ≡ coefficients_crossed (answer_of answer) }
 {
-    match answer {
-        CoefficientsAnswer::Are(k) => {
-            *coefficients = [k.a, k.b, k.c, k.d];
-            0
-        }
-        CoefficientsAnswer::Refused(q) => {
-            *coefficients = [0.0; 4];
-            q
-        }
-    }
+    let mut k = Coefficients {
+        a: 0.0,
+        b: 0.0,
+        c: 0.0,
+        d: 0.0,
+    };
+    let number = put(answer, k, &mut k);
+    *coefficients = abcd(k);
+    number
 }
 
 // A curve's eight numbers.
@@ -158,24 +145,16 @@ fn eight(c: Curve) -> [f64; 8]
 }
 
 // The two parts of a curve.
-pub fn put_halves(answer: HalvesAnswer, left: &mut [f64; 8], right: &mut [f64; 8]) -> u32
-    ensures { crossed result (parts left.new right.new) ≡ halves_crossed (halves_answer answer) }
+#[tactic(auto, unfolding(crate::specs::Crossing::halves_crossed))]
+pub fn put_halves(answer: Result<Halves, Refusal>, left: &mut [f64; 8], right: &mut [f64; 8]) -> u32
+    ensures { crossed result (parts left.new right.new) ≡ halves_crossed (answer_of answer) }
 {
-    match answer {
-        HalvesAnswer::Are(h) => {
-            *left = eight(h.left);
-            *right = eight(h.right);
-            0
-        }
-        HalvesAnswer::Refused(q) => {
-            *left = [0.0; 8];
-            *right = [0.0; 8];
-            q
-        }
-    }
+    let halves = answer.map(|h| (eight(h.left), eight(h.right)));
+    put_both(halves, ([0.0; 8], [0.0; 8]), left, right)
 }
 
 // The nearest point's parameter and its squared distance.
+#[tactic(auto, unfolding(crate::specs::Crossing::nearest_crossed, nearest::specs::Nearest::nearest_answer))]
 pub fn put_nearest(answer: NearestPoint, t: &mut f64, distance_sq: &mut f64) -> u32
     ensures { crossed result (nearest t.new distance_sq.new) ≡ nearest_crossed (nearest_answer answer) }
 {
@@ -185,10 +164,10 @@ pub fn put_nearest(answer: NearestPoint, t: &mut f64, distance_sq: &mut f64) -> 
             *distance_sq = d;
             0
         }
-        NearestPoint::Refused(q) => {
+        NearestPoint::Refused(refusal) => {
             *t = 0.0;
             *distance_sq = 0.0;
-            q
+            refusal.number()
         }
     }
 }
@@ -218,13 +197,19 @@ fn put_fault(fault: Fault, curve: &mut usize, mark: &mut usize) -> u32
 }
 
 // What the checker says.
+#[tactic(auto, unfolding(crate::specs::Crossing::verdict_crossed, checker::specs::Check::checked_answer))]
 pub fn put_checked(answer: Checked, curve: &mut usize, mark: &mut usize) -> u32
     ensures { crossed result (place curve.new mark.new) ≡ verdict_crossed (checked_answer answer) }
 {
     match answer {
         Checked::Passed => put_place(0, Place { curve: 0, mark: 0 }, curve, mark),
         Checked::Faulty(fault) => put_fault(fault, curve, mark),
-        Checked::Refused(q) => put_place(q, Place { curve: 0, mark: 0 }, curve, mark),
+        Checked::Refused(refusal) => put_place(
+            refusal.number(),
+            Place { curve: 0, mark: 0 },
+            curve,
+            mark,
+        ),
     }
 }
 
@@ -241,73 +226,52 @@ fn is_nine(form: Form) -> bool
 }
 
 // What a file holds beside the slices.
+#[tactic(auto, unfolding(crate::specs::Crossing::found_crossed))]
 pub fn put_read(
-    answer: Read,
+    answer: Result<Found, Refusal>,
     tolerance: &mut u64,
     mark_count: &mut usize,
     curve_count: &mut usize,
     nine: &mut bool,
 ) -> u32
-    ensures { crossed result (found nine.new tolerance.new mark_count.new curve_count.new) ≡ found_crossed (read_answer answer) }
+    ensures { crossed result (found nine.new tolerance.new mark_count.new curve_count.new) ≡ found_crossed (answer_of answer) }
 {
     match answer {
-        Read::File {
-            form,
-            tolerance: bits,
-            marks: n,
-            curves: k,
-        } => {
-            *nine = is_nine(form);
-            *tolerance = bits;
-            *mark_count = n;
-            *curve_count = k;
+        Ok(found) => {
+            *nine = is_nine(found.form);
+            *tolerance = found.tolerance;
+            *mark_count = found.marks;
+            *curve_count = found.curves;
             0
         }
-        Read::Refused(q) => {
+        Err(refusal) => {
             *nine = false;
             *tolerance = 0;
             *mark_count = 0;
             *curve_count = 0;
-            q
+            refusal.number()
         }
     }
 }
 
 // How many bytes a cleaned file has, and how many its list.
-pub fn put_salvaged(answer: Salvaged, size: &mut usize, report_size: &mut usize) -> u32
-    ensures { crossed result (sizes size.new report_size.new) ≡ salvaged_crossed (salvaged_answer answer) }
+#[tactic(auto, unfolding(crate::specs::Crossing::salvaged_crossed))]
+pub fn put_salvaged(
+    answer: Result<Sizes, Refusal>,
+    size: &mut usize,
+    report_size: &mut usize,
+) -> u32
+    ensures { crossed result (sizes size.new report_size.new) ≡ salvaged_crossed (answer_of answer) }
 {
-    match answer {
-        Salvaged::Bytes { file, report } => {
-            *size = file;
-            *report_size = report;
-            0
-        }
-        Salvaged::Refused(q) => {
-            *size = 0;
-            *report_size = 0;
-            q
-        }
-    }
+    let both = answer.map(|s| (s.file, s.report));
+    put_both(both, (0, 0), size, report_size)
 }
 
 // How many curves path data draws, and whether it closes.
-pub fn put_imported(answer: Imported, count: &mut usize, closed: &mut bool) -> u32
-    ensures { crossed result (drawn «count».new closed.new) ≡ drawn_crossed (imported_answer answer) }
+#[tactic(auto, unfolding(crate::specs::Crossing::drawn_crossed))]
+pub fn put_imported(answer: Result<Imported, Refusal>, count: &mut usize, closed: &mut bool) -> u32
+    ensures { crossed result (drawn «count».new closed.new) ≡ drawn_crossed (answer_of answer) }
 {
-    match answer {
-        Imported::Path {
-            count: k,
-            closed: z,
-        } => {
-            *count = k;
-            *closed = z;
-            0
-        }
-        Imported::Refused(q) => {
-            *count = 0;
-            *closed = false;
-            q
-        }
-    }
+    let both = answer.map(|path| (path.count, path.closed));
+    put_both(both, (0, false), count, closed)
 }

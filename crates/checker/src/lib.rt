@@ -14,6 +14,7 @@ ghost use Rattle.checker.specs.Inner.{verdict, under_checked, walked, Under, Lis
 
 use float::refusal::Refusal;
 use form::Form;
+use gate::Room;
 use limits::MOST_MARKS;
 use plane::Curve;
 use ring::Outline;
@@ -273,10 +274,12 @@ pub fn check(
         tolerance,
         MOST_MARKS,
         count,
-        curves.len(),
-        firsts.len(),
-        worsts.len(),
-        params.len(),
+        Room {
+            curves: curves.len(),
+            firsts: firsts.len(),
+            worsts: worsts.len(),
+            params: params.len(),
+        },
     );
     if let Err(refusal) = passes {
         return Checked::Refused(refusal);

@@ -8,6 +8,7 @@ ghost use Rattle.tangents.specs.declared.Cutting.TheVariants as variants;
 ghost use Rattle.fit.specs.Fit.{ending, component, are_tangents, fit_of, cubic_of, cubic_gate};
 
 use float::refusal::Refusal;
+use gate::Room;
 use limits::MOST_MARKS;
 use plane::Point;
 use ring::Outline;
@@ -46,23 +47,11 @@ pub fn gate_cubic(
     start: Point,
     end: Point,
     tolerance: f64,
-    curves: usize,
-    firsts: usize,
-    worsts: usize,
-    params: usize,
+    room: Room,
 ) -> Result<(), Refusal>
-    ensures { refusal result ≡ cubic_gate marks.now start end tolerance «curves» «firsts» «worsts» «params» }
+    ensures { refusal result ≡ cubic_gate marks.now start end tolerance room.curves room.firsts room.worsts room.params }
 {
-    gate::gate(
-        Outline::Open,
-        marks,
-        tolerance,
-        MOST_DIRECT,
-        curves,
-        firsts,
-        worsts,
-        params,
-    )?;
+    gate::gate(Outline::Open, marks, tolerance, MOST_DIRECT, room)?;
     if !are_tangents(start, end) {
         return Err(Refusal::OutOfRange);
     }
@@ -82,16 +71,13 @@ pub fn fit_curve_cubic(
 ) -> Result<usize, Refusal>
     ensures { ending (answer result) curves.new firsts.new worsts.new params.new ≡ cubic_of marks.now start end tolerance curves.old firsts.old worsts.old params.old }
 {
-    gate_cubic(
-        marks,
-        start,
-        end,
-        tolerance,
-        curves.len(),
-        firsts.len(),
-        worsts.len(),
-        params.len(),
-    )?;
+    let room = Room {
+        curves: curves.len(),
+        firsts: firsts.len(),
+        worsts: worsts.len(),
+        params: params.len(),
+    };
+    gate_cubic(marks, start, end, tolerance, room)?;
     let n = marks.len() / 2;
     let out = cut::fit_part(
         marks,
@@ -124,16 +110,13 @@ fn fit_cut(
     ensures { ending (answer result) curves.new firsts.new worsts.new params.new ≡ fit_of cutting marks.now tolerance curves.old firsts.old worsts.old params.old }
 {
     let outline = tangents::outline_of(cutting);
-    gate::gate(
-        outline,
-        marks,
-        tolerance,
-        MOST_MARKS,
-        curves.len(),
-        firsts.len(),
-        worsts.len(),
-        params.len(),
-    )?;
+    let room = Room {
+        curves: curves.len(),
+        firsts: firsts.len(),
+        worsts: worsts.len(),
+        params: params.len(),
+    };
+    gate::gate(outline, marks, tolerance, MOST_MARKS, room)?;
     let n = ring::again(outline) + marks.len() / 2;
     let size = marks::max_points_to_fit(n);
     let out = blocks::fit_blocks(

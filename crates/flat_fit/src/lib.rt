@@ -12,38 +12,28 @@ ghost use Rattle.waiting.specs.Lent.{Joins};
 ghost use Rattle.flat_fit.specs.Sizes.{SizeIn};
 
 use float::refusal::Refusal;
+use gate::Room;
 use limits::MOST_MARKS;
 use parts::Heading;
 use plane::Point;
 use tangents::{Cutting, Ways};
 
 // What the first engine's fit tests before it runs.
-fn gate_in(
-    heading: Heading,
-    marks: &[f64],
-    tolerance: f64,
-    curves: usize,
-    firsts: usize,
-    worsts: usize,
-    params: usize,
-) -> Result<(), Refusal>
-    ensures { refusal result ≡ gate_in heading marks.now tolerance «curves» «firsts» «worsts» «params» }
+fn gate_in(heading: Heading, marks: &[f64], tolerance: f64, room: Room) -> Result<(), Refusal>
+    ensures { refusal result ≡ gate_in heading marks.now tolerance room.curves room.firsts room.worsts room.params }
 {
     match heading {
         Heading::Given(ways) => {
             let start = ways.start;
             let end = ways.end;
-            fit::gate_cubic(marks, start, end, tolerance, curves, firsts, worsts, params)
+            fit::gate_cubic(marks, start, end, tolerance, room)
         }
         Heading::By(cutting) => gate::gate(
             tangents::outline_of(cutting),
             marks,
             tolerance,
             MOST_MARKS,
-            curves,
-            firsts,
-            worsts,
-            params,
+            room,
         ),
     }
 }
@@ -90,15 +80,13 @@ fn fit_flat(
     requires { Joins heading }
     ensures { flat_ending (answer result) curves.new firsts.new worsts.new params.new «open».new ≡ flat_of heading marks.now tolerance curves.old firsts.old worsts.old params.old «open».old }
 {
-    let first = gate_in(
-        heading,
-        marks,
-        tolerance,
-        curves.len(),
-        firsts.len(),
-        worsts.len(),
-        params.len(),
-    );
+    let room = Room {
+        curves: curves.len(),
+        firsts: firsts.len(),
+        worsts: worsts.len(),
+        params: params.len(),
+    };
+    let first = gate_in(heading, marks, tolerance, room);
     open_gate(first, marks, open.len())?;
     let n = ring::again(parts::outline_in(heading)) + marks.len() / 2;
     let size = size_in(heading, n);

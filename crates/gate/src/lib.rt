@@ -24,17 +24,26 @@ pub fn is_tolerable(x: f64) -> bool
     float::finite(x) & (0.0 <= x)
 }
 
-// Whether so many numbers of curves, first marks and worst marks are room for `wanted` curves. The width of a curve times `wanted` may be no `usize`, so the
-// room is divided.
-fn has_room(form: Form, wanted: usize, curves: usize, firsts: usize, worsts: usize) -> bool
-    ensures { result ≡ room_for form «wanted» «curves» «firsts» «worsts» }
-{
-    let width = form::width(form);
-    (wanted <= curves / width) & ((wanted <= firsts) & (form::worsts_for(form, wanted) <= worsts))
+// How many numbers are lent for curves, first marks, worst marks and parameters.
+#[derive(Clone, Copy)]
+pub struct Room {
+    pub curves: usize,
+    pub firsts: usize,
+    pub worsts: usize,
+    pub params: usize,
 }
 
-// The refusal before a run over the marks of an outline, at most `top` of them, with so many numbers of curves, first marks, worst marks and parameters,
-// where room for `wanted` curves is asked.
+// Whether there is room for `wanted` curves, with first marks and worst marks. The width of a curve times `wanted` may be no `usize`, so the
+// room is divided.
+fn has_room(form: Form, wanted: usize, room: Room) -> bool
+    ensures { result ≡ room_for form «wanted» room.curves room.firsts room.worsts }
+{
+    let width = form::width(form);
+    (wanted <= room.curves / width)
+        & ((wanted <= room.firsts) & (form::worsts_for(form, wanted) <= room.worsts))
+}
+
+// The refusal before a run over the marks of an outline, at most `top` of them, where room for `wanted` curves is asked.
 pub fn gate_for(
     outline: Outline,
     form: Form,
@@ -42,12 +51,9 @@ pub fn gate_for(
     tolerance: f64,
     top: usize,
     wanted: usize,
-    curves: usize,
-    firsts: usize,
-    worsts: usize,
-    params: usize,
+    room: Room,
 ) -> Result<(), Refusal>
-    ensures { refusal result ≡ gate_for «top» outline form «wanted» marks.now tolerance «curves» «firsts» «worsts» «params» }
+    ensures { refusal result ≡ gate_for «top» outline form «wanted» marks.now tolerance room.curves room.firsts room.worsts room.params }
 {
     let len = marks.len();
     if len % 2 != 0 {
@@ -61,10 +67,10 @@ pub fn gate_for(
     if n > top {
         return Err(Refusal::TooMany);
     }
-    if !has_room(form, wanted, curves, firsts, worsts) {
+    if !has_room(form, wanted, room) {
         return Err(Refusal::NoRoom);
     }
-    if params < more + n {
+    if room.params < more + n {
         return Err(Refusal::NoRoom);
     }
     if !all_in_range(marks) {
@@ -82,12 +88,9 @@ pub fn gate(
     marks: &[f64],
     tolerance: f64,
     top: usize,
-    curves: usize,
-    firsts: usize,
-    worsts: usize,
-    params: usize,
+    room: Room,
 ) -> Result<(), Refusal>
-    ensures { refusal result ≡ gate_of «top» outline marks.now tolerance «curves» «firsts» «worsts» «params» }
+    ensures { refusal result ≡ gate_of «top» outline marks.now tolerance room.curves room.firsts room.worsts room.params }
 {
     let n = ring::again(outline) + marks.len() / 2;
     gate_for(
@@ -97,10 +100,7 @@ pub fn gate(
         tolerance,
         top,
         n.saturating_sub(1),
-        curves,
-        firsts,
-        worsts,
-        params,
+        room,
     )
 }
 

@@ -2,22 +2,12 @@
 #![tactic(auto)]
 
 use outline::list_outline;
-use piped::{STDIN, print_listed};
+use piped::{STDIN, print_listed, room};
 
-// Room for a file, in a function of its own: an array that is made where it is used is long in every goal.
-fn file_room() -> [u8; 65537] {
-    [0; 65537]
-}
-
-// Room for the longest text.
-fn text_room() -> [u8; 78233] {
-    [0; 78233]
-}
-
-// One byte more is read than is listed, so that too long a file is seen.
+// One byte more is read than is listed, so that too long a file is seen. The other room is the longest text's.
 fn main() {
-    let mut file = file_room();
-    let mut out = text_room();
+    let mut file = room::<65537>();
+    let mut out = room::<78233>();
     let got = io::read_full(STDIN, &mut file);
     print_listed(list_outline(&file[..got], &mut out), &out);
 }

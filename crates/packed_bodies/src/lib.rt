@@ -25,7 +25,7 @@ fn copy_firsts(b: &[u8], form: Form, n: usize, k: usize, firsts: &mut [u32])
     }
 }
 
-// The worst marks of k curves, where they are kept, into the first places.
+// The worst marks of k curves, where they are kept, into the first places. (Not one function with `copy_firsts`: the places are worked out in another way, and what it would promise of a closure for them is longer than the loop.)
 fn copy_worsts(b: &[u8], form: Form, n: usize, k: usize, worsts: &mut [u32])
     requires { (entry_at form n k ≤ length b.now) × (worsts_for form k ≤ length worsts.old) }
     ensures { worsts.new ≡ written (worsts_in b.now form n k) worsts.old }

@@ -2,22 +2,12 @@
 #![tactic(auto)]
 
 use path_list::list_path;
-use piped::{STDIN, print_listed};
+use piped::{STDIN, print_listed, room};
 
-// Room for a text, in a function of its own: an array that is made where it is used is long in every goal.
-fn text_room() -> [u8; 262145] {
-    [0; 262145]
-}
-
-// Room for the longest listing.
-fn list_room() -> [u8; 78369] {
-    [0; 78369]
-}
-
-// One byte more is read than is taken, so that too long a text is seen.
+// One byte more is read than is taken, so that too long a text is seen. The other room is the longest listing's.
 fn main() {
-    let mut text = text_room();
-    let mut out = list_room();
+    let mut text = room::<262145>();
+    let mut out = room::<78369>();
     let got = io::read_full(STDIN, &mut text);
     print_listed(list_path(&text[..got], &mut out), &out);
 }

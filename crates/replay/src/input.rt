@@ -5,13 +5,6 @@ use crate::dispatch::answer;
 use crate::room;
 use std::io::{Read, Stdin};
 
-// How much there is of a line after a chunk, or that the input has ended.
-#[derive(Clone, Copy)]
-pub enum Turn {
-    More(usize),
-    End,
-}
-
 // How much of a line counts: too long a line is as bad as an empty one.
 fn counted(len: usize, room: usize) -> usize
     ensures { result ≤ room }
@@ -21,55 +14,49 @@ fn counted(len: usize, room: usize) -> usize
 
 // The answer to a line.
 fn end_line(line: &mut [u8], len: usize) {
-    let from: usize = 0;
     let n = counted(len, line.len());
-    answer(&mut line[from..n]);
+    answer(&mut line[..n]);
 }
 
-// One byte more.
+// One byte more; how much there is of the line then.
 fn take_byte(b: u8, line: &mut [u8], len: usize) -> usize {
     if b == b'\n' {
         end_line(line, len);
         return 0;
     }
-    if len >= line.len() {
+    let Some(place) = line.get_mut(len) else {
         return len;
-    }
-    line[len] = b;
+    };
+    *place = b;
     len + 1
 }
 
 // The bytes of a chunk.
 fn take_bytes(chunk: &[u8], line: &mut [u8], start: usize) -> usize {
     let mut len = start;
-    let mut i: usize = 0;
-    while i < chunk.len() {
-        len = take_byte(chunk[i], line, len);
-        i += 1;
+    for b in chunk {
+        len = take_byte(*b, line, len);
     }
     len
 }
 
-// One chunk of the input.
-fn take_chunk(stdin: &mut Stdin, chunk: &mut [u8], line: &mut [u8], len: usize) -> Turn {
+// One chunk of the input; nothing where the input has ended.
+fn take_chunk(stdin: &mut Stdin, chunk: &mut [u8], line: &mut [u8], len: usize) -> Option<usize> {
     let n = stdin.read(chunk).unwrap_or(0);
     if n == 0 {
-        return Turn::End;
+        return None;
     }
-    let from: usize = 0;
-    Turn::More(take_bytes(&chunk[from..n], line, len))
+    Some(take_bytes(&chunk[..n], line, len))
 }
 
 // The input to its end. Nothing says that it ends, so the turns are counted, up to a number that no run uses up.
 fn take_chunks(stdin: &mut Stdin, chunk: &mut [u8], line: &mut [u8]) -> usize {
     let mut len: usize = 0;
-    let mut turns: u64 = 0;
-    while turns < 0xffff_ffff_ffff {
-        let Turn::More(next) = take_chunk(stdin, chunk, line, len) else {
+    for _ in 0..u64::MAX {
+        let Some(next) = take_chunk(stdin, chunk, line, len) else {
             return len;
         };
         len = next;
-        turns += 1;
     }
     len
 }

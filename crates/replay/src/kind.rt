@@ -1,35 +1,124 @@
 // The kinds of cases by their names.
-use crate::scan;
+use form::Form;
+use ring::Outline;
 
-// How many of the names, which a blank separates, come before the one that is the word.
-fn place_of(word: &[u8], names: &[u8]) -> usize {
-    let mut k: usize = 0;
-    let mut from: usize = 0;
-    while from < names.len() {
-        let end = scan::find(names, from, names.len(), b' ');
-        if word == &names[from..end] {
-            return k;
-        }
-        k += 1;
-        from = end + 1;
-    }
-    k
+// Cases of one number or one curve.
+#[derive(Clone, Copy)]
+pub enum Single {
+    Sqrt,
+    Basis,
+    DeCasteljau4,
+    DeCasteljau3,
+    DeCasteljau2,
+    Coefficients,
+    Subdivide4,
+    Refine,
+    Nearest,
+    Distance,
+    Blocks,
+    Size,
 }
 
-// So many kinds, the first of the list, are of one number or one curve.
-pub const SINGLE_KINDS: usize = 12;
+// By which engine a fit is made: the flat one keeps its open parts in a lent slice.
+#[derive(Clone, Copy)]
+pub enum Engine {
+    Nested,
+    Flat,
+}
 
-pub const EXPORT: usize = 25;
+// The fits by blocks.
+#[derive(Clone, Copy)]
+pub enum Blocks {
+    Source,
+    Loop,
+    Joined(Engine),
+    Ring(Engine),
+}
 
-// The last ones are of house files.
-pub const PACK: usize = 26;
+// Cases that have room for curves.
+#[derive(Clone, Copy)]
+pub enum Large {
+    Direct(Engine),
+    Fit(Blocks),
+    Check(Outline, Form),
+    Import,
+    Export,
+}
 
-pub const SALVAGE: usize = 28;
+// What is done to a house file.
+#[derive(Clone, Copy)]
+pub enum Work {
+    Pack,
+    Unpack,
+    Salvage,
+}
 
-// The kind that a word names, by its place in the list of them.
-pub fn kind_of(word: &[u8]) -> usize {
-    place_of(
-        word,
-        b"sqrt basis de_casteljau4 coefficients subdivide4 de_casteljau3 de_casteljau2 refine nearest distance blocks size direct source loop joined ring direct_flat joined_flat ring_flat check check_ring check_worst check_worst_ring import export pack unpack salvage",
-    )
+// What a line asks for.
+#[derive(Clone, Copy)]
+pub enum Kind {
+    Single(Single),
+    Large(Large),
+    File(Work),
+}
+
+// Those of one number or one curve.
+fn single_of(word: &[u8]) -> Option<Single> {
+    match word {
+        b"sqrt" => Some(Single::Sqrt),
+        b"basis" => Some(Single::Basis),
+        b"de_casteljau4" => Some(Single::DeCasteljau4),
+        b"de_casteljau3" => Some(Single::DeCasteljau3),
+        b"de_casteljau2" => Some(Single::DeCasteljau2),
+        b"coefficients" => Some(Single::Coefficients),
+        b"subdivide4" => Some(Single::Subdivide4),
+        b"refine" => Some(Single::Refine),
+        b"nearest" => Some(Single::Nearest),
+        b"distance" => Some(Single::Distance),
+        b"blocks" => Some(Single::Blocks),
+        b"size" => Some(Single::Size),
+        _ => None,
+    }
+}
+
+// Those with room for curves.
+fn large_of(word: &[u8]) -> Option<Large> {
+    match word {
+        b"direct" => Some(Large::Direct(Engine::Nested)),
+        b"direct_flat" => Some(Large::Direct(Engine::Flat)),
+        b"source" => Some(Large::Fit(Blocks::Source)),
+        b"loop" => Some(Large::Fit(Blocks::Loop)),
+        b"joined" => Some(Large::Fit(Blocks::Joined(Engine::Nested))),
+        b"joined_flat" => Some(Large::Fit(Blocks::Joined(Engine::Flat))),
+        b"ring" => Some(Large::Fit(Blocks::Ring(Engine::Nested))),
+        b"ring_flat" => Some(Large::Fit(Blocks::Ring(Engine::Flat))),
+        b"check" => Some(Large::Check(Outline::Open, Form::Eight)),
+        b"check_ring" => Some(Large::Check(Outline::Closed, Form::Eight)),
+        b"check_worst" => Some(Large::Check(Outline::Open, Form::Nine)),
+        b"check_worst_ring" => Some(Large::Check(Outline::Closed, Form::Nine)),
+        b"import" => Some(Large::Import),
+        b"export" => Some(Large::Export),
+        _ => None,
+    }
+}
+
+// Those of house files.
+fn work_of(word: &[u8]) -> Option<Work> {
+    match word {
+        b"pack" => Some(Work::Pack),
+        b"unpack" => Some(Work::Unpack),
+        b"salvage" => Some(Work::Salvage),
+        _ => None,
+    }
+}
+
+// The kind that a word names.
+pub fn kind_of(word: &[u8]) -> Option<Kind> {
+    if let Some(single) = single_of(word) {
+        return Some(Kind::Single(single));
+    }
+    if let Some(large) = large_of(word) {
+        return Some(Kind::Large(large));
+    }
+    let work = work_of(word)?;
+    Some(Kind::File(work))
 }

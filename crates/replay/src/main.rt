@@ -40,7 +40,6 @@ mod packing;
 mod paths;
 mod print;
 mod room;
-mod scan;
 mod single;
 
 fn main(rt: HostRuntime) {

@@ -1,23 +1,18 @@
 // Cases of an outline: the five fits, and the three that the second engine makes too. A line of more than 21,000 marks is bad. That is fewer than the fits by blocks take, so only the direct fit's own limit shows.
-use crate::cursor::{front, front_marks, take_float, take_point, take_some};
-use crate::print::{print_accepted, print_floats, print_refused};
+use crate::cursor::Cursor;
+use crate::kind::{Blocks, Engine};
+use crate::print::{Words, print_accepted, print_floats, print_refused};
 use crate::room;
-use cases::parts::lent_firsts;
-use cut::Fitted;
+use cases::parts::{front, lent};
+use float::refusal::Refusal;
 use form::RECORD_NUMBERS;
 use plane::Point;
 
-// Which fit, and by which engine: the flat ones keep their open parts in a lent slice.
+// Which fit: the direct one has the tangents at its ends.
 #[derive(Clone, Copy)]
-pub enum Fit {
-    Direct(Point, Point),
-    Source,
-    Loop,
-    Joined,
-    Ring,
-    DirectFlat(Point, Point),
-    JoinedFlat,
-    RingFlat,
+enum Fit {
+    Direct(Engine, Point, Point),
+    Blocks(Blocks),
 }
 
 fn fit_by(
@@ -29,22 +24,30 @@ fn fit_by(
     worsts: &mut [u32],
     params: &mut [f64],
     open: &mut [u32],
-) -> Fitted {
+) -> Result<usize, Refusal> {
     match fit {
-        Fit::Direct(start, end) => {
+        Fit::Direct(Engine::Nested, start, end) => {
             fit::fit_curve_cubic(marks, start, end, tolerance, curves, firsts, worsts, params)
         }
-        Fit::Source => fit::fit_curve(marks, tolerance, curves, firsts, worsts, params),
-        Fit::Loop => fit::fit_curve_loop(marks, tolerance, curves, firsts, worsts, params),
-        Fit::Joined => fit::fit_joined(marks, tolerance, curves, firsts, worsts, params),
-        Fit::Ring => fit::fit_ring(marks, tolerance, curves, firsts, worsts, params),
-        Fit::DirectFlat(start, end) => flat_fit::fit_curve_cubic_flat(
+        Fit::Direct(Engine::Flat, start, end) => flat_fit::fit_curve_cubic_flat(
             marks, start, end, tolerance, curves, firsts, worsts, params, open,
         ),
-        Fit::JoinedFlat => {
+        Fit::Blocks(Blocks::Source) => {
+            fit::fit_curve(marks, tolerance, curves, firsts, worsts, params)
+        }
+        Fit::Blocks(Blocks::Loop) => {
+            fit::fit_curve_loop(marks, tolerance, curves, firsts, worsts, params)
+        }
+        Fit::Blocks(Blocks::Joined(Engine::Nested)) => {
+            fit::fit_joined(marks, tolerance, curves, firsts, worsts, params)
+        }
+        Fit::Blocks(Blocks::Joined(Engine::Flat)) => {
             flat_fit::fit_joined_flat(marks, tolerance, curves, firsts, worsts, params, open)
         }
-        Fit::RingFlat => {
+        Fit::Blocks(Blocks::Ring(Engine::Nested)) => {
+            fit::fit_ring(marks, tolerance, curves, firsts, worsts, params)
+        }
+        Fit::Blocks(Blocks::Ring(Engine::Flat)) => {
             flat_fit::fit_ring_flat(marks, tolerance, curves, firsts, worsts, params, open)
         }
     }
@@ -54,57 +57,26 @@ fn fit_by(
 fn params_of(fit: Fit, marks: &[f64]) -> usize {
     let n = marks.len() / 2;
     match fit {
-        Fit::Ring => n + 1,
-        Fit::RingFlat => n + 1,
+        Fit::Blocks(Blocks::Ring(_)) => n + 1,
         _ => n,
-    }
-}
-
-// How many numbers a line has behind a place: each is a blank and 16 digits.
-fn numbers_left(line: &[u8], at: usize) -> usize {
-    if at > line.len() {
-        return 0;
-    }
-    (line.len() - at) / 17
-}
-
-fn wide(x: u32) -> u64 {
-    x as u64
-}
-
-// The numbers of the record number i.
-fn record_at(curves: &[f64], i: usize) -> &[f64] {
-    if i >= curves.len() / RECORD_NUMBERS {
-        return curves;
-    }
-    let from = RECORD_NUMBERS * i;
-    let to = from + RECORD_NUMBERS;
-    &curves[from..to]
-}
-
-// The mark number i of a list of them.
-fn print_mark(marks: &[u32], i: usize) {
-    if i < marks.len() {
-        cases::print_next_count(wide(marks[i]));
     }
 }
 
 // The curves, each its first mark, its worst mark and its record.
 fn print_curves(curves: &[f64], firsts: &[u32], worsts: &[u32]) {
-    let mut i: usize = 0;
-    while i < firsts.len() {
-        print_mark(firsts, i);
-        print_mark(worsts, i);
-        print_floats(record_at(curves, i));
-        i += 1;
+    let records = curves.chunks_exact(RECORD_NUMBERS);
+    for ((first, worst), record) in firsts.iter().zip(worsts).zip(records) {
+        cases::print_next_count(u64::from(*first));
+        cases::print_next_count(u64::from(*worst));
+        print_floats(record);
     }
 }
 
 // How many curves, the curves, and the parameters.
 fn print_fit(k: usize, curves: &[f64], firsts: &[u32], worsts: &[u32], params: &[f64]) {
     print_accepted();
-    cases::print_next_count(k as u64);
-    print_curves(curves, front_marks(firsts, k), worsts);
+    k.print();
+    print_curves(curves, front(firsts, k), worsts);
     print_floats(params);
 }
 
@@ -122,57 +94,43 @@ fn say_fit(fit: Fit, marks: &[f64], tolerance: f64, curves: &mut [f64]) {
         &mut firsts,
         &mut worsts,
         &mut params,
-        lent_firsts(&mut open, marks.len()),
+        lent(&mut open, marks.len()),
     );
     match fitted {
-        Fitted::Curves(k) => print_fit(
+        Ok(k) => print_fit(
             k,
             curves,
             &firsts,
             &worsts,
             front(&params, params_of(fit, marks)),
         ),
-        Fitted::Refused(q) => print_refused(q),
+        Err(refusal) => print_refused(refusal),
     }
 }
 
 // A fit of the marks up to the line's end.
-fn fit_case(fit: Fit, tolerance: f64, line: &[u8], at: usize, curves: &mut [f64]) -> bool {
-    let mut marks = room::marks();
-    let m = numbers_left(line, at);
-    if take_some(line, at, m, &mut marks) != line.len() {
-        return false;
-    }
-    say_fit(fit, front(&marks, m), tolerance, curves);
-    true
-}
-
-// The direct fit with these tangents, by either engine.
-fn direct_by(flat: bool, start: Point, end: Point) -> Fit {
-    if flat {
-        return Fit::DirectFlat(start, end);
-    }
-    Fit::Direct(start, end)
+fn fit_case(fit: Fit, tolerance: f64, words: Cursor, curves: &mut [f64]) -> Option<()> {
+    let mut words = words;
+    let mut room = room::marks();
+    let marks = room.get_mut(..words.floats_left())?;
+    words.floats(marks)?;
+    words.end()?;
+    say_fit(fit, marks, tolerance, curves);
+    Some(())
 }
 
 // direct, direct_flat TOL SX SY EX EY X0 Y0 ..
-pub fn direct_case(flat: bool, line: &[u8], at: usize, curves: &mut [f64]) -> bool {
-    let tolerance = take_float(line, at);
-    let start = take_point(line, tolerance.then);
-    let end = take_point(line, start.then);
-    let from = start.p;
-    let to = end.p;
-    fit_case(
-        direct_by(flat, from, to),
-        tolerance.x,
-        line,
-        end.then,
-        curves,
-    )
+pub fn direct_case(engine: Engine, words: Cursor, curves: &mut [f64]) -> Option<()> {
+    let mut words = words;
+    let tolerance = words.float()?;
+    let start = words.point()?;
+    let end = words.point()?;
+    fit_case(Fit::Direct(engine, start, end), tolerance, words, curves)
 }
 
 // source, loop, joined, ring, joined_flat, ring_flat TOL X0 Y0 ..
-pub fn blocks_case(fit: Fit, line: &[u8], at: usize, curves: &mut [f64]) -> bool {
-    let tolerance = take_float(line, at);
-    fit_case(fit, tolerance.x, line, tolerance.then, curves)
+pub fn blocks_case(blocks: Blocks, words: Cursor, curves: &mut [f64]) -> Option<()> {
+    let mut words = words;
+    let tolerance = words.float()?;
+    fit_case(Fit::Blocks(blocks), tolerance, words, curves)
 }

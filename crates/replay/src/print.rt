@@ -1,37 +1,72 @@
-// Numbers as words of an answer.
+// Answers, as words on standard output.
 ghost use Rattle.std.specs.Prelude.{◌<◌, ◌≤◌};
 
 use cases::STDOUT;
+use cubic::eval::Coefficients;
+use cubic::split::Halves;
+use float::refusal::Refusal;
+use nearest::NearestPoint;
 use plane::{Curve, Point};
 
-// A blank and the bits of a float.
-pub fn print_float(x: f64) {
-    let mut word = [b' '; 17];
-    text::put_hex(&mut word, 1, float::to_bits(x));
-    io::write_all(STDOUT, &word);
+// What an accepted case answers behind its 0.
+pub trait Words {
+    // Its words, each behind a blank.
+    fn print(self);
+}
+
+// The bits of a float.
+impl Words for f64 {
+    fn print(self) {
+        let mut word = [b' '; 17];
+        text::put_hex(&mut word, 1, float::to_bits(self));
+        io::write_all(STDOUT, &word);
+    }
+}
+
+// A count in decimal.
+impl Words for usize {
+    fn print(self) {
+        cases::print_next_count(self as u64);
+    }
+}
+
+impl Words for Point {
+    fn print(self) {
+        self.x.print();
+        self.y.print();
+    }
+}
+
+impl Words for Curve {
+    fn print(self) {
+        self.start.print();
+        self.cp1.print();
+        self.cp2.print();
+        self.end.print();
+    }
+}
+
+impl Words for Coefficients {
+    fn print(self) {
+        self.a.print();
+        self.b.print();
+        self.c.print();
+        self.d.print();
+    }
+}
+
+impl Words for Halves {
+    fn print(self) {
+        self.left.print();
+        self.right.print();
+    }
 }
 
 // Every number of a slice.
 pub fn print_floats(xs: &[f64]) {
-    let mut i: usize = 0;
-    while i < xs.len() {
-        print_float(xs[i]);
-        i += 1;
+    for x in xs {
+        x.print();
     }
-}
-
-// A point's two numbers.
-pub fn print_point(p: Point) {
-    print_float(p.x);
-    print_float(p.y);
-}
-
-// A curve's eight numbers.
-pub fn print_curve(c: Curve) {
-    print_point(c.start);
-    print_point(c.cp1);
-    print_point(c.cp2);
-    print_point(c.end);
 }
 
 fn wide(x: u8) -> u64
@@ -43,32 +78,16 @@ fn wide(x: u8) -> u64
 // At most eight bytes, two digits each.
 fn print_piece(piece: &[u8]) {
     let mut x: u64 = 0;
-    let mut i: usize = 0;
-    while i < piece.len() {
-        x = x % 0x100_0000_0000_0000 * 256 + wide(piece[i]);
-        i += 1;
+    for b in piece {
+        x = x % 0x100_0000_0000_0000 * 256 + wide(*b);
     }
     io::print_hex(STDOUT, x, 2 * piece.len());
 }
 
-// Where eight bytes end, or fewer at the end of all.
-fn piece_end(from: usize, end: usize) -> usize
-    requires { from < end }
-    ensures { (from < result) × (result ≤ end) }
-{
-    if end - from < 8 {
-        return end;
-    }
-    from + 8
-}
-
 // Every byte of a slice.
-pub fn print_bytes(xs: &[u8]) {
-    let mut from: usize = 0;
-    while from < xs.len() {
-        let to = piece_end(from, xs.len());
-        print_piece(&xs[from..to]);
-        from = to;
+pub fn print_bytes(bytes: &[u8]) {
+    for piece in bytes.chunks(8) {
+        print_piece(piece);
     }
 }
 
@@ -78,6 +97,23 @@ pub fn print_accepted() {
 }
 
 // A refusal is its number alone.
-pub fn print_refused(q: u32) {
-    cases::print_count(q as u64);
+pub fn print_refused(refusal: Refusal) {
+    cases::print_count(u64::from(refusal.number()));
+}
+
+// What a call answers that can refuse.
+pub fn say<T: Words>(answer: Result<T, Refusal>) {
+    match answer {
+        Ok(value) => {
+            print_accepted();
+            value.print();
+        }
+        Err(refusal) => print_refused(refusal),
+    }
+}
+
+// What a call answers that never refuses.
+pub fn say_accepted<T: Words>(value: T) {
+    print_accepted();
+    value.print();
 }

@@ -10,7 +10,7 @@ use house::sizes;
 use sieve::{Fate, after, fate_of, mark_at};
 use text::put_bytes;
 
-// What is put of the marks: those that are kept, or the lines of those that are dropped.
+// What is put of the marks: those that are kept, or the lines of those that are dropped. (No closure in its place: both walks, and the definitions, go by the same two cases.)
 #[derive(Clone, Copy)]
 pub enum Part {
     Marks,

@@ -36,6 +36,7 @@ pub fn decimal_len(n: u64) -> usize
 {
     let mut rest = n;
     let mut len = 1;
+    // A while: no index is counted, the number loses a digit a turn.
     while rest >= 10 {
         rest /= 10;
         len += 1;

@@ -4,11 +4,14 @@ use Rattle.plane.specs.declared.Point.{Point}
 use Rattle.plane.specs.declared.Curve.{Curve}
 use Rattle.fit.specs.Fit.{Ending}
 use Rattle.flat_fit.specs.Flat.{FlatEnding}
-use Rattle.reader.specs.Reader.{Found, Outcome}
+use Rattle.reader.specs.Reader.{Outcome}
+use Rattle.reader.specs.declared.Found.{Found}
 use Rattle.writer.specs.Writer.{Writing}
 use Rattle.lines.specs.Handed.{Handed}
-use Rattle.salvaging.specs.Salvage.{Sizes, Salvage}
-use Rattle.import.specs.Import.{Drawn, Left}
+use Rattle.salvaging.specs.Salvage.{Salvage}
+use Rattle.salvaging.specs.declared.Sizes.{Sizes}
+use Rattle.import.specs.Import.{Left}
+use Rattle.import.specs.declared.Imported.{Imported}
 use Rattle.border.specs.Crossing.{Crossed, count_crossed, found_crossed, salvaged_crossed, drawn_crossed}
 
 -- ---- a fit
@@ -90,10 +93,10 @@ left_by_salvage S = salvage_left (salvaged_crossed S.answer) S.out S.report
 -- ---- path data that is read
 
 pub record DrawnLeft : Type 0 where
-  pub answer : Crossed Drawn
+  pub answer : Crossed Imported
   pub curves : List Float
 
-abbrev pub drawn_left : Crossed Drawn → List Float → DrawnLeft
+abbrev pub drawn_left : Crossed Imported → List Float → DrawnLeft
 drawn_left a C = record { answer = a; curves = C }
 
 abbrev pub left_by_import : Left → DrawnLeft

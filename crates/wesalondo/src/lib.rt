@@ -51,7 +51,7 @@ pub extern "C" fn wes_fit_joined(
     ensures { fit_left (crossed result made.new) curves.new firsts.new worsts.new params.new ≡ left_by (fit_of cuttings.Joined marks.now tolerance curves.old firsts.old worsts.old params.old) }
 {
     let answer = fit::fit_joined(marks, tolerance, curves, firsts, worsts, params);
-    border::put_fitted(answer, made)
+    border::put_count(answer, made)
 }
 
 // The joined fit of a closed outline.
@@ -68,7 +68,7 @@ pub extern "C" fn wes_fit_ring(
     ensures { fit_left (crossed result made.new) curves.new firsts.new worsts.new params.new ≡ left_by (fit_of cuttings.Ring marks.now tolerance curves.old firsts.old worsts.old params.old) }
 {
     let answer = fit::fit_ring(marks, tolerance, curves, firsts, worsts, params);
-    border::put_fitted(answer, made)
+    border::put_count(answer, made)
 }
 
 // The fit as the source cuts an outline.
@@ -85,7 +85,7 @@ pub extern "C" fn wes_fit_curve(
     ensures { fit_left (crossed result made.new) curves.new firsts.new worsts.new params.new ≡ left_by (fit_of cuttings.Source marks.now tolerance curves.old firsts.old worsts.old params.old) }
 {
     let answer = fit::fit_curve(marks, tolerance, curves, firsts, worsts, params);
-    border::put_fitted(answer, made)
+    border::put_count(answer, made)
 }
 
 // The fit as the source cuts a loop.
@@ -102,7 +102,7 @@ pub extern "C" fn wes_fit_curve_loop(
     ensures { fit_left (crossed result made.new) curves.new firsts.new worsts.new params.new ≡ left_by (fit_of cuttings.Loop marks.now tolerance curves.old firsts.old worsts.old params.old) }
 {
     let answer = fit::fit_curve_loop(marks, tolerance, curves, firsts, worsts, params);
-    border::put_fitted(answer, made)
+    border::put_count(answer, made)
 }
 
 // The direct fit, with the tangents at both ends given.
@@ -128,7 +128,7 @@ pub extern "C" fn wes_fit_curve_cubic(
     };
     let end = Point { x: end_x, y: end_y };
     let answer = fit::fit_curve_cubic(marks, start, end, tolerance, curves, firsts, worsts, params);
-    border::put_fitted(answer, made)
+    border::put_count(answer, made)
 }
 
 // ---- fits of the second engine, which never calls itself and is lent room for its open parts
@@ -159,7 +159,7 @@ pub extern "C" fn wes_fit_curve_cubic_flat(
     let answer = flat_fit::fit_curve_cubic_flat(
         marks, start, end, tolerance, curves, firsts, worsts, params, open,
     );
-    border::put_fitted(answer, made)
+    border::put_count(answer, made)
 }
 
 // The joined fit of an open outline.
@@ -177,7 +177,7 @@ pub extern "C" fn wes_fit_joined_flat(
     ensures { flat_left (crossed result made.new) curves.new firsts.new worsts.new params.new «open».new ≡ left_by_flat (flat_of (headings.By cuttings.Joined) marks.now tolerance curves.old firsts.old worsts.old params.old «open».old) }
 {
     let answer = flat_fit::fit_joined_flat(marks, tolerance, curves, firsts, worsts, params, open);
-    border::put_fitted(answer, made)
+    border::put_count(answer, made)
 }
 
 // The joined fit of a closed outline.
@@ -195,7 +195,7 @@ pub extern "C" fn wes_fit_ring_flat(
     ensures { flat_left (crossed result made.new) curves.new firsts.new worsts.new params.new «open».new ≡ left_by_flat (flat_of (headings.By cuttings.Ring) marks.now tolerance curves.old firsts.old worsts.old params.old «open».old) }
 {
     let answer = flat_fit::fit_ring_flat(marks, tolerance, curves, firsts, worsts, params, open);
-    border::put_fitted(answer, made)
+    border::put_count(answer, made)
 }
 
 // ---- checkers
@@ -454,7 +454,7 @@ pub extern "C" fn wes_write_file(
     let answer = writer::write_file(
         form, bits, marks, count, firsts, worsts, curves, params, out,
     );
-    border::put_wrote(answer, size)
+    border::put_count(answer, size)
 }
 
 // The listing of a file.
@@ -463,7 +463,7 @@ pub extern "C" fn wes_list_outline(file: &[u8], out: &mut [u8], size: &mut usize
     ensures { bytes_left (crossed result size.new) out.new ≡ left_with_text (hand_over (listing_of file.now) out.old) }
 {
     let answer = outline::list_outline(file, out);
-    border::put_listed(answer, size)
+    border::put_count(answer, size)
 }
 
 // The judge's line of a file.
@@ -472,7 +472,7 @@ pub extern "C" fn wes_judge_file(file: &[u8], out: &mut [u8], size: &mut usize) 
     ensures { bytes_left (crossed result size.new) out.new ≡ left_with_text (hand_over (judgement_of file.now) out.old) }
 {
     let answer = verdict::judge_file(file, out);
-    border::put_listed(answer, size)
+    border::put_count(answer, size)
 }
 
 // A file with the curves of its joined fit.
@@ -481,7 +481,7 @@ pub extern "C" fn wes_save_fit(file: &[u8], out: &mut [u8], size: &mut usize) ->
     ensures { bytes_left (crossed result size.new) out.new ≡ left_with_text (hand_over (saved_of file.now) out.old) }
 {
     let answer = saving::save_fit(file, out);
-    border::put_listed(answer, size)
+    border::put_count(answer, size)
 }
 
 // A file, packed: each joint once.
@@ -490,7 +490,7 @@ pub extern "C" fn wes_pack_file(file: &[u8], out: &mut [u8], size: &mut usize) -
     ensures { bytes_left (crossed result size.new) out.new ≡ left_with_text (pack_of file.now out.old) }
 {
     let answer = packer::pack_file(file, out);
-    border::put_listed(answer, size)
+    border::put_count(answer, size)
 }
 
 // A packed file, unpacked.
@@ -499,7 +499,7 @@ pub extern "C" fn wes_unpack_file(file: &[u8], out: &mut [u8], size: &mut usize)
     ensures { bytes_left (crossed result size.new) out.new ≡ left_with_text (unpack_of file.now out.old) }
 {
     let answer = unpacker::unpack_file(file, out);
-    border::put_listed(answer, size)
+    border::put_count(answer, size)
 }
 
 // A file, cleaned, and the list of the marks dropped.
@@ -533,7 +533,7 @@ pub extern "C" fn wes_export_path(
 {
     let form = border::form_for(nine);
     let answer = export::export_path(form, curves, count, ring, out);
-    border::put_listed(answer, size)
+    border::put_count(answer, size)
 }
 
 // Path data as curves.

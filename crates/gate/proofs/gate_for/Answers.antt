@@ -15,8 +15,8 @@ returns-then-n-top c = too_many _ _ _ _ _ _ _ _ _ _ (omega arith) (omega (arith,
 pub returns-then-not-has_room : goal.returns-then-not-has_room
 returns-then-not-has_room c = no_room _ _ _ _ _ _ _ _ _ _ (omega arith) (omega (arith, c.again-more.ensures)) (omega arith) c.has_room.ensures c.if-not-has_room.true
 
-pub returns-then-params-more : goal.returns-then-params-more
-returns-then-params-more c = no_params _ _ _ _ _ _ _ _ _ _ (omega arith) (omega (arith, c.again-more.ensures)) (omega arith) c.has_room.ensures c.if-not-has_room.false (omega (arith, c.again-more.ensures))
+pub returns-then-room-more : goal.returns-then-room-more
+returns-then-room-more c = no_params _ _ _ _ _ _ _ _ _ _ (omega arith) (omega (arith, c.again-more.ensures)) (omega arith) c.has_room.ensures c.if-not-has_room.false (omega (arith, c.again-more.ensures))
 
 pub returns-then-not-all_in_range : goal.returns-then-not-all_in_range
 returns-then-not-all_in_range c = not_near _ _ _ _ _ _ _ _ _ _ (omega arith) (omega (arith, c.again-more.ensures)) (omega arith) c.has_room.ensures c.if-not-has_room.false (omega (arith, c.again-more.ensures)) c.all_in_range.ensures c.if-not-all_in_range.true

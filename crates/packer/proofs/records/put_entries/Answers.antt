@@ -7,6 +7,11 @@ use Rattle.packed.specs.Each.{each}
 use Rattle.packed.specs.Packed.{entry_bytes}
 use Rattle.packer.proofs.Puts.{entries_put}
 use Rattle.packer.proofs.records.put_entries.Goals as goal
+use Rattle.packer.proofs.records.put_entries.Goals.{In-loop-i}
+
+-- curve i is within the bytes
+inside_of : (c : In-loop-i) → let a = c.args in (c.entry_bytes-step.result * c.loop-i.i ≡ entry_bytes a.form * c.loop-i.i) × (entry_bytes a.form * c.loop-i.i + entry_bytes a.form ≤ entry_bytes a.form * a.k)
+inside_of c = let a = c.args in (ap (λ (x : ℕ). x * c.loop-i.i) c.entry_bytes-step.ensures, within (entry_bytes a.form) a.k c.loop-i.i (omega arith))
 
 pub loop-i-init : goal.loop-i-init
 unfolding each
@@ -14,17 +19,17 @@ loop-i-init c = refl
 
 pub overflow_mul-step : goal.overflow_mul-step
 overflow_mul-step c =
-    let inside : let a = c.args in (c.entry_bytes-step.result * c.loop-i.i ≡ entry_bytes a.form * c.loop-i.i) × (entry_bytes a.form * c.loop-i.i + entry_bytes a.form ≤ entry_bytes a.form * a.k) = let a = c.args in (ap (λ (x : ℕ). x * c.loop-i.i) c.entry_bytes-step.ensures, within (entry_bytes a.form) a.k c.loop-i.i (omega arith)) in
+    let inside = inside_of (goal.at.overflow_mul-step c).In-loop-i in
     omega (arith, inside, c.requires.1.1)
 
 pub overflow_add-at : goal.overflow_add-at
 overflow_add-at c =
-    let inside : let a = c.args in (c.entry_bytes-step.result * c.loop-i.i ≡ entry_bytes a.form * c.loop-i.i) × (entry_bytes a.form * c.loop-i.i + entry_bytes a.form ≤ entry_bytes a.form * a.k) = let a = c.args in (ap (λ (x : ℕ). x * c.loop-i.i) c.entry_bytes-step.ensures, within (entry_bytes a.form) a.k c.loop-i.i (omega arith)) in
+    let inside = inside_of (goal.at.overflow_add-at c).In-loop-i in
     omega (arith, inside, c.requires.1.1)
 
 pub put_entry-requires : goal.put_entry-requires
 put_entry-requires c =
-    let inside : let a = c.args in (c.entry_bytes-step.result * c.loop-i.i ≡ entry_bytes a.form * c.loop-i.i) × (entry_bytes a.form * c.loop-i.i + entry_bytes a.form ≤ entry_bytes a.form * a.k) = let a = c.args in (ap (λ (x : ℕ). x * c.loop-i.i) c.entry_bytes-step.ensures, within (entry_bytes a.form) a.k c.loop-i.i (omega arith)) in
+    let inside = inside_of (goal.at.put_entry-requires c).In-loop-i in
     (c.requires.0, (c.requires.1.0, (omega arith, omega (arith, inside, c.requires.1.1))))
 
 pub loop-i-preserved : goal.loop-i-preserved

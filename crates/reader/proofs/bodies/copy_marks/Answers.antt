@@ -11,6 +11,11 @@ use Rattle.grammar.proofs.Curves.{length-each}
 use Rattle.house.proofs.Turns.{same_front}
 use Rattle.reader.proofs.Turns.{marks-turn}
 use Rattle.reader.proofs.bodies.copy_marks.Goals as goal
+use Rattle.reader.proofs.bodies.copy_marks.Goals.{In-loop-i}
+
+-- record i is within the bytes
+inside_of : (c : In-loop-i) → let a = c.args in a.step * c.loop-i.i + a.step ≤ a.step * a.k
+inside_of c = let a = c.args in within a.step a.k c.loop-i.i (omega arith)
 
 pub loop-i-init : goal.loop-i-init
 unfolding in_each
@@ -18,22 +23,22 @@ loop-i-init c = (record { whole = refl; same = refl })
 
 pub overflow_mul-step : goal.overflow_mul-step
 overflow_mul-step c =
-    let inside : let a = c.args in a.step * c.loop-i.i + a.step ≤ a.step * a.k = let a = c.args in within a.step a.k c.loop-i.i (omega arith) in
+    let inside = inside_of (goal.at.overflow_mul-step c).In-loop-i in
     omega (arith, inside)
 
 pub overflow_add-at : goal.overflow_add-at
 overflow_add-at c =
-    let inside : let a = c.args in a.step * c.loop-i.i + a.step ≤ a.step * a.k = let a = c.args in within a.step a.k c.loop-i.i (omega arith) in
+    let inside = inside_of (goal.at.overflow_add-at c).In-loop-i in
     omega (arith, inside)
 
 pub overflow_add-at-in-loop-i : goal.overflow_add-at-in-loop-i
 overflow_add-at-in-loop-i c =
-    let inside : let a = c.args in a.step * c.loop-i.i + a.step ≤ a.step * a.k = let a = c.args in within a.step a.k c.loop-i.i (omega arith) in
+    let inside = inside_of (goal.at.overflow_add-at-in-loop-i c).In-loop-i in
     omega (arith, inside)
 
 pub mark_number-requires : goal.mark_number-requires
 mark_number-requires c =
-    let inside : let a = c.args in a.step * c.loop-i.i + a.step ≤ a.step * a.k = let a = c.args in within a.step a.k c.loop-i.i (omega arith) in
+    let inside = inside_of (goal.at.mark_number-requires c).In-loop-i in
     omega (arith, inside)
 
 pub bounds-out-i : goal.bounds-out-i

@@ -10,6 +10,14 @@ use Rattle.grammar.proofs.Curves.{length-each}
 use Rattle.house.proofs.Turns.{same_front}
 use Rattle.reader.proofs.Turns.{rows_put}
 use Rattle.reader.proofs.bodies.copy_rows.Goals as goal
+use Rattle.reader.proofs.bodies.copy_rows.Goals.{In-loop-i}
+
+-- record i is within the bytes, and its numbers within the slice
+under_of : (c : In-loop-i) → let a = c.args in a.n * c.loop-i.i + a.n ≤ a.n * a.k
+under_of c = let a = c.args in within a.n a.k c.loop-i.i (omega arith)
+
+inside_of : (c : In-loop-i) → let a = c.args in a.step * c.loop-i.i + a.step ≤ a.step * a.k
+inside_of c = let a = c.args in within a.step a.k c.loop-i.i (omega arith)
 
 pub loop-i-init : goal.loop-i-init
 unfolding in_each
@@ -17,33 +25,33 @@ loop-i-init c = let a = c.args in (record { whole = rw (mul-zero a.n); same = re
 
 pub overflow_mul-j : goal.overflow_mul-j
 overflow_mul-j c =
-    let under : let a = c.args in a.n * c.loop-i.i + a.n ≤ a.n * a.k = let a = c.args in within a.n a.k c.loop-i.i (omega arith) in
+    let under = under_of (goal.at.overflow_mul-j c).In-loop-i in
     omega (arith, under)
 
 pub overflow_mul-step : goal.overflow_mul-step
 overflow_mul-step c =
-    let inside : let a = c.args in a.step * c.loop-i.i + a.step ≤ a.step * a.k = let a = c.args in within a.step a.k c.loop-i.i (omega arith) in
+    let inside = inside_of (goal.at.overflow_mul-step c).In-loop-i in
     omega (arith, inside)
 
 pub overflow_add-at : goal.overflow_add-at
 overflow_add-at c =
-    let inside : let a = c.args in a.step * c.loop-i.i + a.step ≤ a.step * a.k = let a = c.args in within a.step a.k c.loop-i.i (omega arith) in
+    let inside = inside_of (goal.at.overflow_add-at c).In-loop-i in
     omega (arith, inside)
 
 pub overflow_add-at-in-loop-i : goal.overflow_add-at-in-loop-i
 overflow_add-at-in-loop-i c =
-    let inside : let a = c.args in a.step * c.loop-i.i + a.step ≤ a.step * a.k = let a = c.args in within a.step a.k c.loop-i.i (omega arith) in
+    let inside = inside_of (goal.at.overflow_add-at-in-loop-i c).In-loop-i in
     omega (arith, inside)
 
 pub copy_words-requires : goal.copy_words-requires
 copy_words-requires c =
-    let inside : let a = c.args in a.step * c.loop-i.i + a.step ≤ a.step * a.k = let a = c.args in within a.step a.k c.loop-i.i (omega arith) in
-    let under : let a = c.args in a.n * c.loop-i.i + a.n ≤ a.n * a.k = let a = c.args in within a.n a.k c.loop-i.i (omega arith) in
+    let inside = inside_of (goal.at.copy_words-requires c).In-loop-i in
+    let under = under_of (goal.at.copy_words-requires c).In-loop-i in
     (omega (arith, inside), simp (length-take, length-drop) (omega (arith, under, c.loop-i.invariant.same)))
 
 pub loop-i-preserved : goal.loop-i-preserved
 loop-i-preserved c =
-    let under : let a = c.args in a.n * c.loop-i.i + a.n ≤ a.n * a.k = let a = c.args in within a.n a.k c.loop-i.i (omega arith) in
+    let under = under_of (goal.at.loop-i-preserved c).In-loop-i in
     let l = c.loop-i in
     let a = c.args in
     let d = drop a.at a.b.now in

@@ -9,6 +9,11 @@ use Rattle.house.specs.File.{flat, curve_records}
 use Rattle.house.proofs.Forms.{body-few, within, worsts_within}
 use Rattle.writer.proofs.Turns.{curves-put}
 use Rattle.writer.proofs.records.put_curves.Goals as goal
+use Rattle.writer.proofs.records.put_curves.Goals.{In-loop-i}
+
+-- record i is within the bytes
+inside_of : (c : In-loop-i) → let a = c.args in let step = 6 + c.body_bytes-step.result in (step * c.loop-i.i + step ≤ step * a.k) × (step * a.k ≡ curve_bytes a.form a.field * a.k)
+inside_of c = let a = c.args in (within (6 + c.body_bytes-step.result) a.k c.loop-i.i (omega arith), ap (λ (x : ℕ). (6 + x) * a.k) c.body_bytes-step.ensures)
 
 pub overflow_add-step : goal.overflow_add-step
 overflow_add-step c = omega (arith, body-few c.args.form c.args.field, c.body_bytes-step.ensures)
@@ -19,17 +24,17 @@ loop-i-init c = refl
 
 pub overflow_mul-step : goal.overflow_mul-step
 overflow_mul-step c =
-    let inside : let a = c.args in let step = 6 + c.body_bytes-step.result in (step * c.loop-i.i + step ≤ step * a.k) × (step * a.k ≡ curve_bytes a.form a.field * a.k) = let a = c.args in (within (6 + c.body_bytes-step.result) a.k c.loop-i.i (omega arith), ap (λ (x : ℕ). (6 + x) * a.k) c.body_bytes-step.ensures) in
+    let inside = inside_of (goal.at.overflow_mul-step c).In-loop-i in
     omega (arith, inside)
 
 pub overflow_add-at : goal.overflow_add-at
 overflow_add-at c =
-    let inside : let a = c.args in let step = 6 + c.body_bytes-step.result in (step * c.loop-i.i + step ≤ step * a.k) × (step * a.k ≡ curve_bytes a.form a.field * a.k) = let a = c.args in (within (6 + c.body_bytes-step.result) a.k c.loop-i.i (omega arith), ap (λ (x : ℕ). (6 + x) * a.k) c.body_bytes-step.ensures) in
+    let inside = inside_of (goal.at.overflow_add-at c).In-loop-i in
     omega (arith, inside)
 
 pub put_curve-requires : goal.put_curve-requires
 put_curve-requires c =
-    let inside : let a = c.args in let step = 6 + c.body_bytes-step.result in (step * c.loop-i.i + step ≤ step * a.k) × (step * a.k ≡ curve_bytes a.form a.field * a.k) = let a = c.args in (within (6 + c.body_bytes-step.result) a.k c.loop-i.i (omega arith), ap (λ (x : ℕ). (6 + x) * a.k) c.body_bytes-step.ensures) in
+    let inside = inside_of (goal.at.put_curve-requires c).In-loop-i in
     let i = c.loop-i.i in (
       omega (arith, inside, c.body_bytes-step.ensures, c.requires.0),
       (

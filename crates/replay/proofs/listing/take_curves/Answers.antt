@@ -1,6 +1,0 @@
--- `replay::listing::take_curves` meets its contract: it ends, and stays inside its slices.
-use Rattle.std.proofs.Common.{arith}
-use Rattle.replay.proofs.listing.take_curves.Goals as goal
-
-pub loop-i-smaller : goal.loop-i-smaller
-loop-i-smaller c = omega arith

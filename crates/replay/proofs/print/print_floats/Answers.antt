@@ -1,6 +1,0 @@
--- `replay::print::print_floats` meets its contract: it ends, and stays inside its slices.
-use Rattle.std.proofs.Common.{arith}
-use Rattle.replay.proofs.print.print_floats.Goals as goal
-
-pub loop-i-smaller : goal.loop-i-smaller
-loop-i-smaller c = omega arith
