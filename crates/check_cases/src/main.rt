@@ -32,28 +32,25 @@ struct Sizes {
     tolerance: f64,
 }
 
+// How many kinds of answer there are.
+const KINDS: usize = 7;
+
 // An answer as numbers: 0 passed, 1 to 5 the faults A to E, 6 a refusal, which has its number in `curve`.
 #[derive(Clone, Copy)]
 struct Verdict {
-    kind: u64,
+    kind: usize,
     curve: u64,
     mark: u64,
 }
 
 // How many answers of each kind, and a digest of all.
-#[derive(Clone, Copy, Default)]
+#[derive(Clone, Copy)]
 struct Tally {
-    passed: u64,
-    a: u64,
-    b: u64,
-    c: u64,
-    d: u64,
-    e: u64,
-    refused: u64,
+    answers: [u64; KINDS],
     digest: u64,
 }
 
-fn at(kind: u64, p: Place) -> Verdict {
+fn at(kind: usize, p: Place) -> Verdict {
     Verdict {
         kind,
         curve: p.curve as u64,
@@ -87,38 +84,32 @@ fn said(r: Checked) -> Verdict {
     }
 }
 
-fn plus_if(n: u64, b: bool) -> u64 {
-    if b { n.wrapping_add(1) } else { n }
-}
-
-fn note(t: Tally, s: Verdict) -> Tally {
+fn nothing() -> Tally {
     Tally {
-        passed: plus_if(t.passed, s.kind == 0),
-        a: plus_if(t.a, s.kind == 1),
-        b: plus_if(t.b, s.kind == 2),
-        c: plus_if(t.c, s.kind == 3),
-        d: plus_if(t.d, s.kind == 4),
-        e: plus_if(t.e, s.kind == 5),
-        refused: plus_if(t.refused, s.kind == 6),
-        digest: cases::mix(cases::mix(cases::mix(t.digest, s.kind), s.curve), s.mark),
+        answers: [0; KINDS],
+        digest: 0,
     }
 }
 
+fn note(t: &mut Tally, s: Verdict) {
+    if let Some(answers) = t.answers.get_mut(s.kind) {
+        *answers = answers.wrapping_add(1);
+    }
+    let kind = cases::mix(t.digest, s.kind as u64);
+    t.digest = cases::mix(cases::mix(kind, s.curve), s.mark);
+}
+
 fn print_said(s: Verdict) {
-    cases::print_count(s.kind);
+    cases::print_count(s.kind as u64);
     cases::print_next_count(s.curve);
     cases::print_next_count(s.mark);
     cases::end_line();
 }
 
 fn print_tally(t: Tally) {
-    cases::print_next_count(t.passed);
-    cases::print_next_count(t.a);
-    cases::print_next_count(t.b);
-    cases::print_next_count(t.c);
-    cases::print_next_count(t.d);
-    cases::print_next_count(t.e);
-    cases::print_next_count(t.refused);
+    for answers in t.answers {
+        cases::print_next_count(answers);
+    }
     io::write_all(STDOUT, b" ");
     io::print_hex(STDOUT, t.digest, 16);
     cases::end_line();
@@ -160,14 +151,14 @@ fn damaged(x: f64, kind: u64) -> f64 {
 
 // Each of the first n numbers in turn.
 fn damage_numbers(all: &mut [f64], beside: &[u32], s: Sizes, n: usize, kind: u64) {
-    let mut t = Tally::default();
+    let mut t = nothing();
     for i in 0..n {
         if i >= all.len() {
             return;
         }
         let x = all[i];
         all[i] = damaged(x, kind);
-        t = note(t, judge(all, beside, s));
+        note(&mut t, judge(all, beside, s));
         all[i] = x;
     }
     print_tally(t);
@@ -196,7 +187,7 @@ fn neighbour(j: usize, n: usize) -> usize {
 
 // Each first mark and each worst mark in turn. Kind 5 swaps it with its neighbour.
 fn damage_beside(all: &[f64], beside: &mut [u32], s: Sizes, n: u32, kind: u64) {
-    let mut t = Tally::default();
+    let mut t = nothing();
     for j in 0..beside.len() {
         let next = neighbour(j, beside.len());
         if next >= beside.len() {
@@ -206,7 +197,7 @@ fn damage_beside(all: &[f64], beside: &mut [u32], s: Sizes, n: u32, kind: u64) {
         let b = beside[next];
         beside[next] = swapped(a, b, kind);
         beside[j] = another(a, b, n, kind);
-        t = note(t, judge(all, beside, s));
+        note(&mut t, judge(all, beside, s));
         beside[next] = b;
         beside[j] = a;
     }
@@ -263,9 +254,9 @@ fn varied(s: Sizes, kind: u64) -> Sizes {
 
 // The counts and lengths.
 fn damage_sizes(all: &[f64], beside: &[u32], s: Sizes) {
-    let mut t = Tally::default();
+    let mut t = nothing();
     for kind in 0..13 {
-        t = note(t, judge(all, beside, varied(s, kind)));
+        note(&mut t, judge(all, beside, varied(s, kind)));
     }
     print_tally(t);
 }

@@ -1,12 +1,12 @@
 -- Tests of all curves. Assumes nothing.
 use mathlib.Core.Path.{◌≡◌, refl, sym, ◌∙◌}
 use mathlib.Core.Bool.{Bool, true, false, ◌&&◌}
-use Prim.Native.Nat.{ℕ, ◌+◌, ◌-◌, ◌≤◌}
+use Prim.Native.Nat.{ℕ, ◌+◌, ◌-◌}
 use native.Mathlib.Numerals.{add-one}
 use native.Mathlib.Omega.{arith}
-use borrow.Author.Tests.{lt-ltb, lt-leb, leb-true}
+use borrow.Author.Tests.{lt-ltb, lt-leb}
 use lib.Dec.{ltb, leb}
-use Rattle.float.proofs.Truth.{and_right, and-false}
+use Rattle.float.proofs.Truth.{and-false}
 use Rattle.plane.specs.declared.Curve.{Curve}
 use Rattle.faults.specs.Tests.{same}
 use Rattle.path.specs.Range.{every}
@@ -23,9 +23,6 @@ every_next i p a e = rw (add-one i, e)
 pub joined_by : (h : ℕ) (f : ℕ → Curve) {r b : Bool} → r ≡ every (h - 1) (passes Joined f) → r ≡ b → joined h f ≡ b
 unfolding joined
 joined_by h f e t = sym e ∙ t
-
-pub ring_held : (ring : Bool) (k h : ℕ) → ring && leb k h ≡ true → k ≤ h
-ring_held ring k h e = leb-true k h (and_right ring (leb k h) e)
 
 -- ---- curves that meet, by the cases of the code
 module _ (ring : Bool) (k h : ℕ) (f : ℕ → Curve) where

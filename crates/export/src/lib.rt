@@ -40,6 +40,7 @@ fn curve_within(c: Curve) -> bool
 }
 
 // What is asked of every curve: that its numbers are finite, that they are not too large, that it ends bit for bit where the next begins.
+// An enum and no closure: which curves a test looks at is a word of the definitions, and one loop has one proof.
 #[derive(Clone, Copy)]
 enum Test {
     Finite,

@@ -1,10 +1,7 @@
 -- `export::all_meet` meets its contract.
-use mathlib.Core.Path.{◌≡◌, ◌∙◌}
-use Prim.Native.Nat.{◌+◌, ◌-◌}
-use native.Mathlib.Omega.{arith}
+use mathlib.Core.Path.{◌∙◌}
 use Rattle.faults.specs.Tests.{curve_at}
-use Rattle.path_text.proofs.Records.{held}
-use Rattle.export.proofs.Tests.{joined_by, ring_held, no_curves, none_held, apart, around, straight}
+use Rattle.export.proofs.Tests.{joined_by, no_curves, none_held, apart, around, straight}
 use Rattle.export.proofs.all_meet.Goals as goal
 
 pub returns-then-count-eq0 : goal.returns-then-count-eq0
@@ -19,25 +16,11 @@ returns-then-held-eq0 c =
     let f = curve_at a.form a.curves.now in
     none_held a.ring a.count a.held f c.if-count-eq0.false c.if-held-eq0.true
 
-pub all_pass-requires : goal.all_pass-requires
-all_pass-requires c =
-    let e : c.args.held - 1 + 1 ≡ c.args.held = omega arith in
-    rw e c.requires.1
-
 pub returns-then-not-all_pass : goal.returns-then-not-all_pass
 returns-then-not-all_pass c =
     let a = c.args in
     let f = curve_at a.form a.curves.now in
     apart a.ring a.count a.held f c.if-count-eq0.false (joined_by a.held f c.all_pass.ensures c.if-not-all_pass.true)
-
-pub curve_at-last-requires : goal.curve_at-last-requires
-curve_at-last-requires c =
-    let k = ring_held c.args.ring c.args.count c.args.held c.if-ring-count.true in
-    held c.args.form (c.args.count - 1) c.args.held (omega arith) c.requires.1
-
-pub curve_at-first-requires : goal.curve_at-first-requires
-curve_at-first-requires c =
-    held c.args.form 0 c.args.held (omega arith) c.requires.1
 
 pub returns-then-ring-count : goal.returns-then-ring-count
 returns-then-ring-count c =

@@ -1,18 +1,7 @@
 -- `export::export_path` meets its contract.
 use native.Mathlib.Omega.{arith}
-use lib.ListN.{length}
 use Rattle.export.proofs.Cases.{not_finite_is, too_large_is, apart, not_held, listed, too_short, put_whole}
-use Rattle.export.proofs.Records.{room, room-zero}
 use Rattle.export.proofs.export_path.Goals as goal
-
-pub all_pass-requires : goal.all_pass-requires
-all_pass-requires c = room-zero c.args.form (length c.args.curves.now) c.args.count c.whole_in-held.ensures
-
-pub all_pass-requires-2 : goal.all_pass-requires-2
-all_pass-requires-2 c = room-zero c.args.form (length c.args.curves.now) c.args.count c.whole_in-held.ensures
-
-pub all_meet-requires : goal.all_meet-requires
-all_meet-requires c = (omega (arith, c.whole_in-held.ensures), room c.args.form (length c.args.curves.now) c.args.count c.whole_in-held.ensures)
 
 pub returns-then-not-all_pass : goal.returns-then-not-all_pass
 returns-then-not-all_pass c =

@@ -1,12 +1,6 @@
 -- `path_file::fit_file` meets its contract.
-use native.Mathlib.Omega.{arith}
-use mathlib.Core.Path.{sym}
-use lib.Seq.{length-take-le}
 use Rattle.path_file.proofs.Parts.{fit_left_is}
 use Rattle.path_file.proofs.fit_file.Goals as goal
-
-pub slice_bounds-fit_marks-end : goal.slice_bounds-fit_marks-end
-slice_bounds-fit_marks-end c = sym (length-take-le _ _ (omega (arith, c.copy_numbers.auto.out)))
 
 pub returns : goal.returns
 returns c =

@@ -1,12 +1,7 @@
 -- `path_file::path_file` meets its contract.
 use native.Mathlib.Omega.{arith}
-use mathlib.Core.Path.{sym}
-use lib.Seq.{length-take-le}
 use Rattle.lines.proofs.Handed.{over-front}
 use Rattle.path_file.proofs.path_file.Goals as goal
-
-pub slice_bounds-hand_over-end : goal.slice_bounds-hand_over-end
-slice_bounds-hand_over-end c = sym (length-take-le _ _ (omega arith))
 
 pub returns : goal.returns
 returns c = over-front c.put_path-size.ensures.1 (omega arith) _ c.hand_over.ensures
