@@ -113,6 +113,7 @@ fn fit_block(
     requires to_value { (to ≡ from + length params.old) × (length params.old ≤ 201) × (record_numbers * length params.old ≤ length curves.old + record_numbers) × (length params.old ≤ length firsts.old + 1) × (length params.old ≤ length worsts.old + 1) }
     ensures { Left (block_of cutting (marks_of cutting marks.now) n tolerance from to) result curves.old curves.new firsts.old firsts.new worsts.old worsts.new params.new }
 {
+    // An operation on the way is all that tangents refuse by.
     let Ok(ways) = tangents::ways_of(cutting, marks, n, from, to) else {
         return Err(Refusal::NotFinite);
     };

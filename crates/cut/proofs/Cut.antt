@@ -17,10 +17,11 @@ use Rattle.plane.specs.declared.Point.{Point}
 use Rattle.marks.specs.Marks.{count}
 use Rattle.form.specs.Form.{record_numbers}
 use Rattle.part.specs.Part.{Part, fits, cuts, fails, part_of}
-use Rattle.part.specs.Answers.{Did}
+use Rattle.part.specs.Answers.{Did, told}
 use Rattle.part.specs.declared.Solved.{Solved}
-use Rattle.part.specs.declared.Tried.{Tried}
-use Rattle.part.specs.declared.Tried.TheVariants.{Good, Cut}
+use Rattle.part.specs.declared.Unfitted.{Unfitted}
+use Rattle.part.specs.declared.Unfitted.TheVariants.{Cut}
+use Rattle.part.specs.declared.Unfitted.TheVariants as unfitted
 use Rattle.gate.specs.Gate.{Usable}
 use Rattle.ends.proofs.Usable.{usable-take}
 use Rattle.ends.specs.Rounds.{Inside}
@@ -44,23 +45,14 @@ same_number {A} {r} {q} {x} h e = let f : ◌≡◌ {A = Answer A} (no x) (no (n
 
 -- ---- a leaf's answer
 
-pub from_good : (P : Part) (r : Result Tried Refusal) (p : List Float) (k : Solved) → Did P r p → r ≡ Ok (Good k) → P ≡ fits k.curve k.far p
-from_good (fits c w ps) r p k h e =
-    let f : Ok (Good (record { curve = c; far = w })) ≡ Ok (Good k) = sym h.0 ∙ e in
-    let g : record { curve = c; far = w } ≡ k = cc in
-    λ i. fits (g i).curve (g i).far (sym h.1 i)
-from_good (cuts j) r p k h e = let z : ◌≡◌ {A = ℕ} 0 1 = cc in absurd (omega arith)
-from_good (fails q) r p k h e = no_value h e
+pub from_good : (P : Part) (r : Result Solved Unfitted) (p : List Float) (k : Solved) → Did P r p → r ≡ Ok k → P ≡ fits k.curve k.far p
+from_good P r p k h e = sym h ∙ ap (λ r. told r p) e
 
-pub from_cut : (P : Part) (r : Result Tried Refusal) (p : List Float) (k : ℕ) → Did P r p → r ≡ Ok (Cut k) → P ≡ cuts k
-from_cut (fits c w ps) r p k h e = let f = h.0 in let z : ◌≡◌ {A = ℕ} 0 1 = cc in absurd (omega arith)
-from_cut (cuts j) r p k h e = let g : j ≡ k = cc in ap cuts g
-from_cut (fails q) r p k h e = no_value h e
+pub from_cut : (P : Part) (r : Result Solved Unfitted) (p : List Float) (k : ℕ) → Did P r p → r ≡ Err (Cut k) → P ≡ cuts k
+from_cut P r p k h e = sym h ∙ ap (λ r. told r p) e
 
-pub from_refused : (P : Part) (r : Result Tried Refusal) (p : List Float) (q : Refusal) → Did P r p → r ≡ Err q → P ≡ fails (number q)
-from_refused (fits c w ps) r p q h e = let f = h.0 in let z : ◌≡◌ {A = ℕ} 0 1 = cc in absurd (omega arith)
-from_refused (cuts j) r p q h e = let z : ◌≡◌ {A = ℕ} 0 1 = cc in absurd (omega arith)
-from_refused (fails x) r p q h e = ap fails (same_number h e)
+pub from_refused : (P : Part) (r : Result Solved Unfitted) (p : List Float) (q : Refusal) → Did P r p → r ≡ Err (unfitted.Refused q) → P ≡ fails (number q)
+from_refused P r p q h e = sym h ∙ ap (λ r. told r p) e
 
 -- ---- a run's answer
 
@@ -102,19 +94,19 @@ beside-behind f bs bs' X X₁ E j b e l lb d =
 
 -- ---- fit_part's returns
 
-module _ (ms : List Float) (first : ℕ) (s e : Point) (tol : Float) (h : 2 ≤ count ms) (u : Usable ms tol) (r : Result Tried Refusal) (p : List Float) (did : Did (part_of ms s e tol) r p) where
-  pub fit_good : (k : Solved) (C C₁ : List Float) (F F₁ W W₁ : List ℕ) → r ≡ Ok (Good k) → C₁ ≡ written (flat k.curve k.far.err) C
+module _ (ms : List Float) (first : ℕ) (s e : Point) (tol : Float) (h : 2 ≤ count ms) (u : Usable ms tol) (r : Result Solved Unfitted) (p : List Float) (did : Did (part_of ms s e tol) r p) where
+  pub fit_good : (k : Solved) (C C₁ : List Float) (F F₁ W W₁ : List ℕ) → r ≡ Ok k → C₁ ≡ written (flat k.curve k.far.err) C
       → F₁ ≡ written (first ∷ []) F → W₁ ≡ written ((first + k.far.at) ∷ []) W → Left (run_of ms first s e tol) (Ok 1) C C₁ F F₁ W W₁ p
   fit_good k C C₁ F F₁ W W₁ q ec ef ew = rw (run_fits ms first s e tol h k.curve k.far p (from_good _ r p k did q)) (refl, ec, ef, ew, refl)
 
   -- the worst mark is a mark of the part
-  pub worst_within : (k : Solved) → r ≡ Ok (Good k) → k.far.at < count ms
+  pub worst_within : (k : Solved) → r ≡ Ok k → k.far.at < count ms
   worst_within k q = let good : Fits ms tol k.curve k.far p = subst (Sound ms tol) (from_good (part_of ms s e tol) r p k did q) (part_sound ms tol h u s e) in good.among
 
-  pub fit_cut : (k : ℕ) (r' : Result ℕ Refusal) (C C₁ : List Float) (F F₁ W W₁ : List ℕ) (p₁ : List Float) → r ≡ Ok (Cut k) → Left (cut_of ms k first s e tol) r' C C₁ F F₁ W W₁ p₁ → Left (run_of ms first s e tol) r' C C₁ F F₁ W W₁ p₁
+  pub fit_cut : (k : ℕ) (r' : Result ℕ Refusal) (C C₁ : List Float) (F F₁ W W₁ : List ℕ) (p₁ : List Float) → r ≡ Err (Cut k) → Left (cut_of ms k first s e tol) r' C C₁ F F₁ W W₁ p₁ → Left (run_of ms first s e tol) r' C C₁ F F₁ W W₁ p₁
   fit_cut k r' C C₁ F F₁ W W₁ p₁ q g = rw (run-cuts ms first s e tol h u k (from_cut _ r p k did q)) g
 
-  pub fit_refused : (q : Refusal) (C C₁ : List Float) (F F₁ W W₁ : List ℕ) (p₁ : List Float) → r ≡ Err q → Left (run_of ms first s e tol) (Err q) C C₁ F F₁ W W₁ p₁
+  pub fit_refused : (q : Refusal) (C C₁ : List Float) (F F₁ W W₁ : List ℕ) (p₁ : List Float) → r ≡ Err (unfitted.Refused q) → Left (run_of ms first s e tol) (Err q) C C₁ F F₁ W W₁ p₁
   fit_refused q C C₁ F F₁ W W₁ p₁ is = rw (run-fails ms first s e tol h (number q) (from_refused _ r p q did is)) refl
 
 pub sizes : (ms : List Float) (first : ℕ) (s e : Point) (tol : Float) (cs : List Float) (bs : List Beside) (p : List Float) → 2 ≤ count ms → Usable ms tol → run_of ms first s e tol ≡ done cs bs p → Sized ms first (done cs bs p)
@@ -126,8 +118,8 @@ set_first a (x ∷ F) h = refl
 
 -- ---- fit_part calls cut_part
 
-pub cut_asks : (ms : List Float) (first : ℕ) (s e : Point) (tol : Float) (C : List Float) (F W : List ℕ) (P p : List Float) (r : Result Tried Refusal) (k : ℕ)
-    → Ready ms first tol C F W P → length p ≡ length P → Did (part_of ms s e tol) r p → r ≡ Ok (Cut k) → Ready ms first tol C F W p × ((0 < k) × (k + 1 < length p))
+pub cut_asks : (ms : List Float) (first : ℕ) (s e : Point) (tol : Float) (C : List Float) (F W : List ℕ) (P p : List Float) (r : Result Solved Unfitted) (k : ℕ)
+    → Ready ms first tol C F W P → length p ≡ length P → Did (part_of ms s e tol) r p → r ≡ Err (Cut k) → Ready ms first tol C F W p × ((0 < k) × (k + 1 < length p))
 cut_asks ms first s e tol C F W P p r k ready l did q =
     let n : count ms ≡ length P = omega arith in
     let inside : Inside ms k = cuts-inside ms s e tol k (omega arith) ready.usable (from_cut (part_of ms s e tol) r p k did q) in

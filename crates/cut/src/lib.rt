@@ -1,5 +1,6 @@
 // A part that is not within the tolerance is cut at its worst mark, and each side is a fit of its own: `fit_part` and `cut_part` call each
-// other on fewer marks each time, over parts of the marks and of the lent slices.
+// other on fewer marks each time, over parts of the marks and of the lent slices. An inner answer is taken apart by `let .. else`, here as in the blocks and the fits: what is refused is
+// taken out first, and the rest goes on with the value. The four lent slices stand one by one, since a part of a struct of `&mut` slices can't be lent on.
 #![tactic(auto)]
 
 ghost use Rattle.std.specs.Prelude.{◌≡◌, ◌+◌, ◌*◌, ◌≤◌, ◌<◌, length};
@@ -10,7 +11,7 @@ ghost use Rattle.cut.specs.Lent.{Left, Ready};
 
 use float::refusal::Refusal;
 use form::RECORD_NUMBERS;
-use part::Tried;
+use part::Unfitted;
 use plane::{Curve, Point};
 
 // A curve's eight numbers and its largest distance, at the front of the slice.
@@ -40,17 +41,17 @@ pub fn fit_part(
     ensures { Left (run_of marks.now first start end tolerance) result curves.old curves.new firsts.old firsts.new worsts.old worsts.new params.new }
 {
     match part::try_part(marks, start, end, tolerance, params) {
-        Ok(Tried::Good(s)) => {
+        Ok(s) => {
             let worst = first + s.far.at;
             put_record(curves, s.curve, s.far.err);
             firsts[0] = first as u32;
             worsts[0] = worst as u32;
             Ok(1)
         }
-        Ok(Tried::Cut(at)) => cut_part(
+        Err(Unfitted::Cut(at)) => cut_part(
             marks, at, first, start, end, tolerance, curves, firsts, worsts, params,
         ),
-        Err(q) => Err(q),
+        Err(Unfitted::Refused(q)) => Err(q),
     }
 }
 
@@ -72,6 +73,7 @@ fn cut_part(
     requires at_nonzero { (0 < at) × (at + 1 < length params.old) }
     ensures { Left (cut_of marks.now at first start end tolerance) result curves.old curves.new firsts.old firsts.new worsts.old worsts.new params.new }
 {
+    // An operation on the way is all that tangents refuse by.
     let Ok(ways) = tangents::ways_at(marks, at) else {
         return Err(Refusal::NotFinite);
     };

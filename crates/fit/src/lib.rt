@@ -1,4 +1,4 @@
-// The fits: the marks of an outline to curves. Each tests its own arguments, and a refused run leaves zeros.
+// The fits: the marks of an outline to curves. Each tests its own arguments, and a refused run leaves zeros. The four by blocks are one call each, under the names that callers know.
 #![tactic(auto)]
 
 ghost use Rattle.std.specs.Prelude.{◌≡◌, length, replicate};

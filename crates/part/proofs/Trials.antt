@@ -25,11 +25,13 @@ use Rattle.stages.specs.Worst.{no_worst, max_error}
 use Rattle.stages.specs.declared.worst.Worst.{Worst}
 use Rattle.squares.specs.Squares.{generate_of}
 use Rattle.part.specs.Trial.{Trial, attempt, enough, improve, tried}
-use Rattle.part.specs.Part.{fits, cuts, pick, lined, judged, part_of}
-use Rattle.part.specs.Answers.{SolvesAs, Solves, trial_of, Did, pick_tried, verdict}
+use Rattle.part.specs.Part.{fits, cuts, fails, pick, lined, judged, part_of}
+use Rattle.part.specs.Answers.{SolvesAs, Solves, trial_of, Did, told, refused_by, pick_tried, verdict}
 use Rattle.part.specs.declared.Solved.{Solved}
-use Rattle.part.specs.declared.Tried.{Tried}
-use Rattle.part.specs.declared.Tried.TheVariants.{Good, Cut}
+use Rattle.part.specs.declared.Unfitted.{Unfitted}
+use Rattle.part.specs.declared.Unfitted.TheVariants.{Cut}
+use Rattle.std.specs.Result.{IsErrAnd}
+use Rattle.std.proofs.lemmas.Result.{err_from_is_err_and}
 
 -- ---- answers of the rounds
 pub solves_no : (m : Calc Trial) (r : Result Solved Refusal) (p : List Float) (q : ℕ) → outcome m ≡ refused q → answer r ≡ refused q → Solves m r p
@@ -211,29 +213,35 @@ module _ (n : ℕ) (ms : List Float) (st et : Point) (tol : Float) where
           tried-near t = on_trial ∙ ap (λ (b : Bool). outcome (cond b (improve 7 ms st et tol a) (give a))) t
 
 -- ---- what the code makes of a solution
-pub did_judged : (tol : Float) (s : Solved) (p : List Float) → Did (judged tol (ok (trial_of s p))) (Ok (verdict s tol)) p
+pub did_judged : (tol : Float) (s : Solved) (p : List Float) → Did (judged tol (ok (trial_of s p))) (verdict s tol) p
 unfolding verdict
 did_judged tol s p = go (le s.far.err tol)
   where
-    go : (b : Bool) → Did (pick b (fits s.curve s.far p) (cuts s.far.at)) (Ok (pick_tried b (Good s) (Cut s.far.at))) p
-    go true = (refl, refl)
+    go : (b : Bool) → Did (pick b (fits s.curve s.far p) (cuts s.far.at)) (pick_tried b (Ok s) (Err (Cut s.far.at))) p
+    go true = refl
     go false = refl
 
 module _ (s : Solved) (tol : Float) where
-  pub picked_good : le s.far.err tol ≡ true → Good s ≡ verdict s tol
+  pub picked_good : le s.far.err tol ≡ true → Ok s ≡ verdict s tol
   unfolding verdict
   picked_good h = sym (rw h)
 
-  pub picked_cut : le s.far.err tol ≡ false → Cut s.far.at ≡ verdict s tol
+  pub picked_cut : le s.far.err tol ≡ false → Err (Cut s.far.at) ≡ verdict s tol
   unfolding verdict
   picked_cut h = sym (rw h)
 
+-- what a `?` hands on tells of a refusal
+pub refused_told : (r : Result Solved Unfitted) (q : Refusal) (p : List Float) → IsErrAnd r (λ e. e ≡ refused_by q) → told r p ≡ fails (number q)
+refused_told r q p h =
+    let e = err_from_is_err_and r h in
+    ap (λ r. told r p) (e.1 ∙ ap Err e.2)
+
 -- ---- two marks
-pub line_lost : (m : Answer Curve) (q : ℕ) (r : Result Tried Refusal) (p : List Float) → refused q ≡ m → answer r ≡ refused q → Did (lined m) r p
+pub line_lost : (m : Answer Curve) (q : ℕ) (r : Result Solved Unfitted) (p : List Float) → refused q ≡ m → told r p ≡ fails q → Did (lined m) r p
 line_lost m q r p e h = rw (sym e) h
 
-pub line-done : (m : Answer Curve) (c : Curve) (p : List Float) → ok c ≡ m → p ≡ f0 ∷ f1 ∷ [] → Did (lined m) (Ok (Good (record { curve = c; far = no_worst }))) p
-line-done m c p e h = rw (sym e) (refl, h)
+pub line-done : (m : Answer Curve) (c : Curve) (p : List Float) → ok c ≡ m → p ≡ f0 ∷ f1 ∷ [] → Did (lined m) (Ok (record { curve = c; far = no_worst })) p
+line-done m c p e h = rw (sym e) (ap (fits c no_worst) h)
 
 pub two_set : (p : List Float) → length p ≡ 2 → set (set p 0 f0) 1 f1 ≡ f0 ∷ f1 ∷ []
 two_set [] h = absurd (omega arith)
@@ -249,15 +257,15 @@ module _ (ms : List Float) (st et : Point) (tol : Float) (n : ℕ) (even : lengt
   half : length ms / 2 ≡ n
   half = omega arith
 
-  pub part_line : n ≤ 2 → (r : Result Tried Refusal) (p : List Float) → Did (lined (outcome (line_of (mark_at ms 0) (mark_at ms 1)))) r p → Did (part_of ms st et tol) r p
+  pub part_line : n ≤ 2 → (r : Result Solved Unfitted) (p : List Float) → Did (lined (outcome (line_of (mark_at ms 0) (mark_at ms 1)))) r p → Did (part_of ms st et tol) r p
   unfolding part_of
   part_line h r p d = rw (half, le-leb n 2 h) d
 
   module _ (h : 2 < n) where
-    pub part_lost : (q : ℕ) (r : Result Tried Refusal) (p : List Float) → outcome (tried n ms st et tol) ≡ refused q → answer r ≡ refused q → Did (part_of ms st et tol) r p
+    pub part_lost : (q : ℕ) (r : Result Solved Unfitted) (p : List Float) → outcome (tried n ms st et tol) ≡ refused q → told r p ≡ fails q → Did (part_of ms st et tol) r p
     unfolding part_of
     part_lost q r p e a = rw (half, lt-leb n 2 h, e) a
 
-    pub part_judged : (s : Solved) (p : List Float) (t : Tried) → outcome (tried n ms st et tol) ≡ ok (trial_of s p) → t ≡ verdict s tol → Did (part_of ms st et tol) (Ok t) p
+    pub part_judged : (s : Solved) (p : List Float) (t : Result Solved Unfitted) → outcome (tried n ms st et tol) ≡ ok (trial_of s p) → t ≡ verdict s tol → Did (part_of ms st et tol) t p
     unfolding part_of
     part_judged s p t e v = rw (half, lt-leb n 2 h, e, v) (did_judged tol s p)

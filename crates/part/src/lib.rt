@@ -7,7 +7,7 @@ ghost use Rattle.part.specs.Trial.{attempt as attempt_of, improve as improve_of,
 ghost use Rattle.part.specs.Part.{part_of, lined};
 ghost use Rattle.marks.specs.Marks.{mark_at};
 ghost use Rattle.marks.specs.Line.{line_of};
-ghost use Rattle.part.specs.Answers.{Solves, Did, trial_of, verdict};
+ghost use Rattle.part.specs.Answers.{Solves, Did, trial_of, verdict, refused_by};
 
 use float::refusal::Refusal;
 use plane::{Curve, Point};
@@ -26,11 +26,20 @@ pub struct Solved {
     pub far: Worst,
 }
 
-// What a part comes to: a curve with its largest distance, or a cut at a mark.
+// Why a part has no curve of its own: it is cut at a mark, or refused. A refusal stands here, and not round a curve and a cut, since a level of cuts would then take more of the stack
+// than callers are told.
 #[derive(Clone, Copy)]
-pub enum Tried {
-    Good(Solved),
+pub enum Unfitted {
     Cut(usize),
+    Refused(Refusal),
+}
+
+impl From<Refusal> for Unfitted {
+    ghost from_gives = { λ q e. e ≡ refused_by q };
+
+    fn from(refusal: Refusal) -> Unfitted {
+        Unfitted::Refused(refusal)
+    }
 }
 
 // What every round of a part goes by: its marks, the tangents at its ends, and how far off a mark may be.
@@ -104,17 +113,17 @@ impl Piece<'_> {
 }
 
 // Within the tolerance a solution is the part's curve; else the part is cut at its worst mark.
-fn judge(s: Solved, tolerance: f64) -> Tried
+fn judge(s: Solved, tolerance: f64) -> Result<Solved, Unfitted>
     ensures { result ≡ verdict s tolerance }
 {
     if s.far.err <= tolerance {
-        return Tried::Good(s);
+        return Ok(s);
     }
-    Tried::Cut(s.far.at)
+    Err(Unfitted::Cut(s.far.at))
 }
 
 // The line of a part of two marks, which are its ends, so neither is off it.
-fn try_line(marks: &[f64], params: &mut [f64]) -> Result<Tried, Refusal>
+fn try_line(marks: &[f64], params: &mut [f64]) -> Result<Solved, Unfitted>
     requires { (length params.old ≡ 2) × (length marks.now ≡ 4) }
     ensures { Did (lined (outcome (line_of (mark_at marks.now 0) (mark_at marks.now 1)))) result params.new }
 {
@@ -122,17 +131,17 @@ fn try_line(marks: &[f64], params: &mut [f64]) -> Result<Tried, Refusal>
     params[1] = 1.0;
     let curve = marks::fit_line(marks::mark_at(marks, 0), marks::mark_at(marks, 1))?;
     let far = Worst { err: 0.0, at: 0 };
-    Ok(Tried::Good(Solved { curve, far }))
+    Ok(Solved { curve, far })
 }
 
-// One part, with the tangents at its ends: what it comes to, and its parameters in the lent slice.
+// One part, with the tangents at its ends: its curve, and its parameters in the lent slice.
 pub fn try_part(
     marks: &[f64],
     st: Point,
     et: Point,
     tolerance: f64,
     params: &mut [f64],
-) -> Result<Tried, Refusal>
+) -> Result<Solved, Unfitted>
     requires { (2 ≤ length params.old) × (length marks.now ≡ 2 * length params.old) }
     ensures { Did (part_of marks.now st et tolerance) result params.new }
 {
@@ -147,5 +156,5 @@ pub fn try_part(
         tolerance,
     };
     let s = piece.solve(params)?;
-    Ok(judge(s, tolerance))
+    judge(s, tolerance)
 }

@@ -19,8 +19,9 @@ use Rattle.form.specs.Form.{record_numbers}
 use Rattle.part.specs.Part.{Part, fits, cuts}
 use Rattle.part.specs.Answers.{Did}
 use Rattle.part.specs.declared.Solved.{Solved}
-use Rattle.part.specs.declared.Tried.{Tried}
-use Rattle.part.specs.declared.Tried.TheVariants.{Good, Cut}
+use Rattle.part.specs.declared.Unfitted.{Unfitted}
+use Rattle.part.specs.declared.Unfitted.TheVariants.{Cut}
+use Rattle.part.specs.declared.Unfitted.TheVariants as unfitted
 use Rattle.cut.specs.Run.{Run, done, Beside, beside, flat, firsts_of, worsts_of}
 use Rattle.cut.specs.Lent.{Left}
 use Rattle.cut.proofs.Cut.{from_good, from_cut, from_refused}
@@ -216,13 +217,13 @@ module _ (H : Head) where
 
   -- what it came to, and its parameters
   pub record Ran : Type 0 where
-    pub r : Result Tried Refusal
+    pub r : Result Solved Unfitted
     pub p : List Float
     pub did : Did (part K from to) r p
     pub lp : length p ≡ length (take (to + 1 - from) (drop from H.P₁))
 
   -- the same by its contract
-  abbrev pub ran : (r : Result Tried Refusal) (p : List Float) → Did (part K from to) r p → length p ≡ length (take (to + 1 - from) (drop from H.P₁)) → Ran
+  abbrev pub ran : (r : Result Solved Unfitted) (p : List Float) → Did (part K from to) r p → length p ≡ length (take (to + 1 - from) (drop from H.P₁)) → Ran
   ran r p did lp = record { r = r; p = p; did = did; lp = lp }
 
   module _ (R : Ran) where
@@ -236,13 +237,13 @@ module _ (H : Head) where
     long_front = let z = numbers in simp length-take (omega (arith, z))
 
     -- ---- refused
-    pub so_refused : (q : Refusal) → R.r ≡ Err q → (C₂ : List Float) (F₂ W₂ : List ℕ) (P₃ : List Float) → Left (whole K) (Err q) K.C C₂ K.F F₂ K.W W₂ P₃
+    pub so_refused : (q : Refusal) → R.r ≡ Err (unfitted.Refused q) → (C₂ : List Float) (F₂ W₂ : List ℕ) (P₃ : List Float) → Left (whole K) (Err q) K.C C₂ K.F F₂ K.W W₂ P₃
     so_refused q e C₂ F₂ W₂ P₃ =
         let z = numbers in
         rw (so.whole, open-fails (starts K) (ends K) (marks K) K.tol (length K.P) o.even o.usable from to (number q) (waits H.depth H.O₁) z.some bounded (from_refused (part K from to) R.r R.p q R.did e)) refl
 
     -- ---- cut
-    module _ (k : ℕ) (e : R.r ≡ Ok (Cut k)) where
+    module _ (k : ℕ) (e : R.r ≡ Err (Cut k)) where
       is_cut : part K from to ≡ cuts k
       is_cut = from_cut (part K from to) R.r R.p k R.did e
 
@@ -276,7 +277,7 @@ module _ (H : Head) where
           }
 
     -- ---- a curve
-    module _ (s : Solved) (e : R.r ≡ Ok (Good s)) where
+    module _ (s : Solved) (e : R.r ≡ Ok s) where
       is_good : part K from to ≡ fits s.curve s.far R.p
       is_good = from_good (part K from to) R.r R.p s R.did e
 

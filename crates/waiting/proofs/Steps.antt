@@ -21,8 +21,9 @@ use Rattle.ring.specs.declared.Outline.{Outline}
 use Rattle.ring.specs.declared.Outline.TheVariants.{Open, Closed}
 use Rattle.ring.proofs.Whole.{again-small, whole_length, halves, part_given, part_as-closed}
 use Rattle.part.specs.Part.{Part, fails, part_of}
-use Rattle.part.specs.Answers.{Did}
-use Rattle.part.specs.declared.Tried.{Tried}
+use Rattle.part.specs.Answers.{Did, told}
+use Rattle.part.specs.declared.Solved.{Solved}
+use Rattle.part.specs.declared.Unfitted.{Unfitted}
 use Rattle.cut.specs.Lent.{Ready}
 use Rattle.blocks.proofs.Blocks.{laid-front}
 use Rattle.parts.specs.declared.Heading.{Heading}
@@ -41,7 +42,7 @@ laid-behind ys C D a b e d =
 
 -- ---- try_marks
 
-pub same_part : (ms ws : List Float) (s e : Point) (tol : Float) (r : Result Tried Refusal) (p : List Float) → ms ≡ ws → Did (part_of ms s e tol) r p → Did (part_of ws s e tol) r p
+pub same_part : (ms ws : List Float) (s e : Point) (tol : Float) (r : Result Solved Unfitted) (p : List Float) → ms ≡ ws → Did (part_of ms s e tol) r p → Did (part_of ws s e tol) r p
 same_part ms ws s e tol r p h d = subst (λ (l : List Float). Did (part_of l s e tol) r p) h d
 
 module _ (ms : List Float) (a b : ℕ) (some : a < b) where
@@ -96,12 +97,12 @@ module _ (h : Heading) (ms round : List Float) (tail n size : ℕ) (tol : Float)
     part_read = let l = O.even in part_as-closed (outline_in h) ms (2 * a) (2 * (b + 1)) (omega (arith, W)) (omega (arith, W))
 
 -- tangents that are answered one after the other
-module _ (S E : Answer Point) (f : Point → Point → Part) (r : Result Tried Refusal) (P : List Float) where
-  pub no_start : {q : ℕ} → no q ≡ S → answer r ≡ no q → Did (headed fails S E f) r P
+module _ (S E : Answer Point) (f : Point → Point → Part) (r : Result Solved Unfitted) (P : List Float) where
+  pub no_start : {q : ℕ} → no q ≡ S → told r P ≡ fails q → Did (headed fails S E f) r P
   no_start e h = rw (← e) h
 
   module _ {s : Point} (e : ok s ≡ S) where
-    pub no_end : {q : ℕ} → no q ≡ E → answer r ≡ no q → Did (headed fails S E f) r P
+    pub no_end : {q : ℕ} → no q ≡ E → told r P ≡ fails q → Did (headed fails S E f) r P
     no_end i h = rw (← e, ← i) h
 
     pub both_ways : {t : Point} → ok t ≡ E → Did (f s t) r P → Did (headed fails S E f) r P

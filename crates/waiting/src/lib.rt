@@ -19,7 +19,7 @@ ghost use Rattle.waiting.specs.Lent.{Meeting, Outlined, Within, Room, Blocks};
 
 use float::refusal::Refusal;
 use form::RECORD_NUMBERS;
-use part::{Solved, Tried};
+use part::{Solved, Unfitted};
 use parts::Heading;
 use plane::Point;
 use ring::Outline;
@@ -44,7 +44,7 @@ fn put_curve(
     worsts[made] = worst as u32;
 }
 
-// Where the engine starts: the end of the first part, and how many ends wait.
+// Where the engine starts: the end of the first part, and how many ends wait. The ends stand in a slice that the caller lends, and no list grows: all memory is fixed.
 #[derive(Clone, Copy)]
 struct Waiting {
     to: usize,
@@ -90,7 +90,7 @@ impl Course<'_> {
         start: Point,
         end: Point,
         params: &mut [f64],
-    ) -> Result<Tried, Refusal>
+    ) -> Result<Solved, Unfitted>
         requires even { Even self.now.marks.now × ((from < to) × (to ≤ count self.now.marks.now)) }
         requires to_value { to + 1 ≡ from + length params.old }
         requires tail_le_from { to ≡ count self.now.marks.now → (self.now.tail ≤ from) × (self.now.round.now ≡ drop (2 * self.now.tail) (whole outline.Closed self.now.marks.now)) }
@@ -112,7 +112,7 @@ impl Course<'_> {
         from: usize,
         to: usize,
         params: &mut [f64],
-    ) -> Result<Tried, Refusal>
+    ) -> Result<Solved, Unfitted>
         requires outlined { let l = self.now in Outlined l.heading l.marks.now l.round.now l.tail n l.size l.tolerance }
         requires within { Within n self.now.size from to (length params.old) }
         ensures { let l = self.now in Did (part_in (start_in l.heading (marks_in l.heading l.marks.now) n l.size) (end_in l.heading (marks_in l.heading l.marks.now) n l.size) (marks_in l.heading l.marks.now) l.tolerance from to) result params.new }
@@ -145,7 +145,7 @@ impl Course<'_> {
         loop {
             let past = to + 1;
             match self.try_between(n, from, to, &mut params[from..past]) {
-                Ok(Tried::Good(s)) => {
+                Ok(s) => {
                     put_curve(curves, firsts, worsts, made, from, s);
                     made += 1;
                     if depth == 0 {
@@ -155,13 +155,13 @@ impl Course<'_> {
                     from = to;
                     to = open[depth] as usize;
                 }
-                Ok(Tried::Cut(at)) => {
+                Err(Unfitted::Cut(at)) => {
                     let cut = from + at;
                     open[depth] = to as u32;
                     depth += 1;
                     to = cut;
                 }
-                Err(q) => return Err(q),
+                Err(Unfitted::Refused(q)) => return Err(q),
             }
         }
     }

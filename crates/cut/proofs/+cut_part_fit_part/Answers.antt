@@ -2,7 +2,7 @@
 -- H what is known once the left side is done, R what the right side answered.
 use native.Mathlib.Omega.{arith}
 use mathlib.Core.Path.{sym, ap, ◌∙◌}
-use Rattle.std.specs.Prelude.{Ok}
+use Rattle.std.specs.Prelude.{Err}
 use Rattle.float.proofs.Answers.{only_six}
 use Rattle.float.specs.declared.refusal.Refusal.TheVariants.{NotFinite}
 use Rattle.cut.proofs.Cut as laws
@@ -79,38 +79,38 @@ pub fit_part-overflow_add-worst : goal.fit_part-overflow_add-worst
 fit_part-overflow_add-worst t c =
     let a = c.args in
     let y = c.try_part in
-    let within = laws.worst_within a.marks.now a.first a.start a.end a.tolerance (omega arith) c.requires.usable y.result y.new.params y.ensures c.in-Ok-Good.s (c.in-Ok-Good.is ∙ ap Ok c.in-Ok-Good.field-0-is) in
+    let within = laws.worst_within a.marks.now a.first a.start a.end a.tolerance (omega arith) c.requires.usable y.result y.new.params y.ensures c.in-Ok.s c.in-Ok.is in
     omega arith
 
 pub fit_part-overflow_cast-worsts : goal.fit_part-overflow_cast-worsts
 fit_part-overflow_cast-worsts t c =
     let a = c.args in
     let y = c.try_part in
-    let within = laws.worst_within a.marks.now a.first a.start a.end a.tolerance (omega arith) c.requires.usable y.result y.new.params y.ensures c.in-Ok-Good.s (c.in-Ok-Good.is ∙ ap Ok c.in-Ok-Good.field-0-is) in
+    let within = laws.worst_within a.marks.now a.first a.start a.end a.tolerance (omega arith) c.requires.usable y.result y.new.params y.ensures c.in-Ok.s c.in-Ok.is in
     omega arith
 
 pub fit_part-cut_part-requires : goal.fit_part-cut_part-requires
 fit_part-cut_part-requires t c =
     let a = c.args in
     let y = c.try_part in
-    let q = laws.cut_asks a.marks.now a.first a.start a.end a.tolerance a.curves.now a.firsts.now a.worsts.now a.params.now y.new.params y.result c.in-Ok-Cut.at c.requires y.auto.params y.ensures (c.in-Ok-Cut.is ∙ ap Ok c.in-Ok-Cut.field-0-is) in
+    let q = laws.cut_asks a.marks.now a.first a.start a.end a.tolerance a.curves.now a.firsts.now a.worsts.now a.params.now y.new.params y.result c.in-Err-Cut.at c.requires y.auto.params y.ensures (c.in-Err-Cut.is ∙ ap Err c.in-Err-Cut.field-0-is) in
     (omega (arith, c.decreases), q)
 
-pub fit_part-returns-in-Ok-Good : goal.fit_part-returns-in-Ok-Good
-fit_part-returns-in-Ok-Good t c =
+pub fit_part-returns-in-Ok : goal.fit_part-returns-in-Ok
+fit_part-returns-in-Ok t c =
     let a = c.args in
     let y = c.try_part in
-    laws.fit_good a.marks.now a.first a.start a.end a.tolerance (omega arith) c.requires.usable y.result y.new.params y.ensures c.in-Ok-Good.s a.curves.now c.put_record.new.curves a.firsts.now _ a.worsts.now _ (c.in-Ok-Good.is ∙ ap Ok c.in-Ok-Good.field-0-is) c.put_record.ensures (laws.set_first _ a.firsts.now (omega arith)) (laws.set_first _ a.worsts.now (omega arith))
+    laws.fit_good a.marks.now a.first a.start a.end a.tolerance (omega arith) c.requires.usable y.result y.new.params y.ensures c.in-Ok.s a.curves.now c.put_record.new.curves a.firsts.now _ a.worsts.now _ c.in-Ok.is c.put_record.ensures (laws.set_first _ a.firsts.now (omega arith)) (laws.set_first _ a.worsts.now (omega arith))
 
-pub fit_part-returns-in-Ok-Cut : goal.fit_part-returns-in-Ok-Cut
-fit_part-returns-in-Ok-Cut t c =
+pub fit_part-returns-in-Err-Cut : goal.fit_part-returns-in-Err-Cut
+fit_part-returns-in-Err-Cut t c =
     let a = c.args in
     let y = c.try_part in
     let u = c.cut_part in
-    laws.fit_cut a.marks.now a.first a.start a.end a.tolerance (omega arith) c.requires.usable y.result y.new.params y.ensures c.in-Ok-Cut.at u.result a.curves.now u.new.curves a.firsts.now u.new.firsts a.worsts.now u.new.worsts u.new.params (c.in-Ok-Cut.is ∙ ap Ok c.in-Ok-Cut.field-0-is) u.ensures
+    laws.fit_cut a.marks.now a.first a.start a.end a.tolerance (omega arith) c.requires.usable y.result y.new.params y.ensures c.in-Err-Cut.at u.result a.curves.now u.new.curves a.firsts.now u.new.firsts a.worsts.now u.new.worsts u.new.params (c.in-Err-Cut.is ∙ ap Err c.in-Err-Cut.field-0-is) u.ensures
 
-pub fit_part-returns-in-Err : goal.fit_part-returns-in-Err
-fit_part-returns-in-Err t c =
+pub fit_part-returns-in-Err-Refused : goal.fit_part-returns-in-Err-Refused
+fit_part-returns-in-Err-Refused t c =
     let a = c.args in
     let y = c.try_part in
-    laws.fit_refused a.marks.now a.first a.start a.end a.tolerance (omega arith) c.requires.usable y.result y.new.params y.ensures c.in-Err.q a.curves.now _ a.firsts.now _ a.worsts.now _ _ c.in-Err.is
+    laws.fit_refused a.marks.now a.first a.start a.end a.tolerance (omega arith) c.requires.usable y.result y.new.params y.ensures c.in-Err-Refused.q a.curves.now _ a.firsts.now _ a.worsts.now _ _ (c.in-Err-Refused.is ∙ ap Err c.in-Err-Refused.field-0-is)

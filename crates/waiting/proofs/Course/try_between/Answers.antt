@@ -1,7 +1,7 @@
 -- `waiting::Course::try_between`: the tangents by the two end marks, and then the part.
 use native.Mathlib.Omega.{arith}
 use lib.ListN.{length}
-use Rattle.float.proofs.Refusals.{handed_on}
+use Rattle.part.proofs.Trials.{refused_told}
 use Rattle.part.specs.Part.{part_of}
 use Rattle.ring.proofs.Whole.{again-small}
 use Rattle.parts.specs.Headings.{outline_in, marks_in}
@@ -13,13 +13,13 @@ pub returns-in_err-start : goal.returns-in_err-start
 returns-in_err-start c =
     let a = c.args in
     let l = a.self.now in
-    no_start _ _ (λ s e. part_of (part_at (marks_in l.heading l.marks.now) a.from a.to) s e l.tolerance) _ _ c.in_err-start.ensures (handed_on _ _ c.from_residual.ensures.1)
+    no_start _ _ (λ s e. part_of (part_at (marks_in l.heading l.marks.now) a.from a.to) s e l.tolerance) _ _ c.in_err-start.ensures (refused_told _ _ _ c.from_residual.ensures.1)
 
 pub returns-in_err-end : goal.returns-in_err-end
 returns-in_err-end c =
     let a = c.args in
     let l = a.self.now in
-    no_end _ _ (λ s e. part_of (part_at (marks_in l.heading l.marks.now) a.from a.to) s e l.tolerance) _ _ c.in_ok-start.ensures c.in_err-end.ensures (handed_on _ _ c.from_residual-in_err-end.ensures.1)
+    no_end _ _ (λ s e. part_of (part_at (marks_in l.heading l.marks.now) a.from a.to) s e l.tolerance) _ _ c.in_ok-start.ensures c.in_err-end.ensures (refused_told _ _ _ c.from_residual-in_err-end.ensures.1)
 
 pub try_marks-requires : goal.try_marks-requires
 try_marks-requires c =

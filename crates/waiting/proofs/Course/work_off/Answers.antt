@@ -2,7 +2,7 @@
 use native.Mathlib.Omega.{arith}
 use Prim.Native.Nat.{◌-◌}
 use mathlib.Core.Path.{refl, ap, ◌∙◌}
-use Rattle.std.specs.Prelude.{Ok}
+use Rattle.std.specs.Prelude.{Err}
 use Rattle.waiting.proofs.Loop.{asked, so_first, head, numbers, within, ran, so_refused, cut_inside, so_cut, good_among, so_done, so_next}
 use Rattle.waiting.proofs.Course.work_off.Goals as goal
 
@@ -38,14 +38,14 @@ put_curve-requires-clause-at_bound c =
     let f = c.try_between in
     let R = ran D _ _ f.ensures f.auto.params in
     let z = numbers D in
-    omega (arith, good_among D R c.in-Ok-Good.s (c.in-Ok-Good.is ∙ ap Ok c.in-Ok-Good.field-0-is))
+    omega (arith, good_among D R c.in-Ok.s c.in-Ok.is)
 
 pub returns-then-depth-eq0 : goal.returns-then-depth-eq0
 returns-then-depth-eq0 c =
     let D = head _ c.requires.outlined c.requires.room c.wait_blocks-first.auto.open c.loop-s.invariant in
     let f = c.try_between in
     let R = ran D _ _ f.ensures f.auto.params in
-    so_done D R c.in-Ok-Good.s (c.in-Ok-Good.is ∙ ap Ok c.in-Ok-Good.field-0-is) _ _ _ c.put_curve.ensures c.if-depth-eq0.true
+    so_done D R c.in-Ok.s c.in-Ok.is _ _ _ c.put_curve.ensures c.if-depth-eq0.true
 
 pub offset_bounds-open-depth : goal.offset_bounds-open-depth
 offset_bounds-open-depth c =
@@ -59,18 +59,18 @@ bounds-open-depth c =
     let z = numbers D in
     omega arith
 
-pub loop-s-smaller-in-Ok-Good : goal.loop-s-smaller-in-Ok-Good
-loop-s-smaller-in-Ok-Good c =
+pub loop-s-smaller-in-Ok : goal.loop-s-smaller-in-Ok
+loop-s-smaller-in-Ok c =
     let D = head _ c.requires.outlined c.requires.room c.wait_blocks-first.auto.open c.loop-s.invariant in
     let z = numbers D in
     omega arith
 
-pub loop-s-preserved-in-Ok-Good : goal.loop-s-preserved-in-Ok-Good
-loop-s-preserved-in-Ok-Good c =
+pub loop-s-preserved-in-Ok : goal.loop-s-preserved-in-Ok
+loop-s-preserved-in-Ok c =
     let D = head _ c.requires.outlined c.requires.room c.wait_blocks-first.auto.open c.loop-s.invariant in
     let f = c.try_between in
     let R = ran D _ _ f.ensures f.auto.params in
-    so_next D R c.in-Ok-Good.s (c.in-Ok-Good.is ∙ ap Ok c.in-Ok-Good.field-0-is) _ _ _ c.put_curve.ensures (c.loop-s.depth - 1) (omega (arith, c.if-depth-eq0)) c.put_curve.auto.curves c.put_curve.auto.firsts c.put_curve.auto.worsts
+    so_next D R c.in-Ok.s c.in-Ok.is _ _ _ c.put_curve.ensures (c.loop-s.depth - 1) (omega (arith, c.if-depth-eq0)) c.put_curve.auto.curves c.put_curve.auto.firsts c.put_curve.auto.worsts
 
 pub overflow_add-cut : goal.overflow_add-cut
 overflow_add-cut c =
@@ -78,16 +78,16 @@ overflow_add-cut c =
     let f = c.try_between in
     let R = ran D _ _ f.ensures f.auto.params in
     let z = numbers D in
-    omega (arith, cut_inside D R c.in-Ok-Cut.at (c.in-Ok-Cut.is ∙ ap Ok c.in-Ok-Cut.field-0-is))
+    omega (arith, cut_inside D R c.in-Err-Cut.at (c.in-Err-Cut.is ∙ ap Err c.in-Err-Cut.field-0-is))
 
-pub offset_bounds-open-depth-in-Ok-Cut : goal.offset_bounds-open-depth-in-Ok-Cut
-offset_bounds-open-depth-in-Ok-Cut c =
+pub offset_bounds-open-depth-in-Err-Cut : goal.offset_bounds-open-depth-in-Err-Cut
+offset_bounds-open-depth-in-Err-Cut c =
     let D = head _ c.requires.outlined c.requires.room c.wait_blocks-first.auto.open c.loop-s.invariant in
     let z = numbers D in
     omega arith
 
-pub bounds-open-depth-in-Ok-Cut : goal.bounds-open-depth-in-Ok-Cut
-bounds-open-depth-in-Ok-Cut c =
+pub bounds-open-depth-in-Err-Cut : goal.bounds-open-depth-in-Err-Cut
+bounds-open-depth-in-Err-Cut c =
     let D = head _ c.requires.outlined c.requires.room c.wait_blocks-first.auto.open c.loop-s.invariant in
     let z = numbers D in
     omega arith
@@ -109,11 +109,11 @@ loop-s-preserved c =
     let D = head _ c.requires.outlined c.requires.room c.wait_blocks-first.auto.open c.loop-s.invariant in
     let f = c.try_between in
     let R = ran D _ _ f.ensures f.auto.params in
-    so_cut D R c.in-Ok-Cut.at (c.in-Ok-Cut.is ∙ ap Ok c.in-Ok-Cut.field-0-is)
+    so_cut D R c.in-Err-Cut.at (c.in-Err-Cut.is ∙ ap Err c.in-Err-Cut.field-0-is)
 
-pub returns-in-Err : goal.returns-in-Err
-returns-in-Err c =
+pub returns-in-Err-Refused : goal.returns-in-Err-Refused
+returns-in-Err-Refused c =
     let D = head _ c.requires.outlined c.requires.room c.wait_blocks-first.auto.open c.loop-s.invariant in
     let f = c.try_between in
     let R = ran D _ _ f.ensures f.auto.params in
-    so_refused D R c.in-Err.q c.in-Err.is _ _ _ _
+    so_refused D R c.in-Err-Refused.q (c.in-Err-Refused.is ∙ ap Err c.in-Err-Refused.field-0-is) _ _ _ _
