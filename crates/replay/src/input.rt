@@ -70,8 +70,7 @@ fn take_lines(stdin: &mut Stdin, line: &mut [u8; room::LINE]) {
     }
 }
 
-pub fn run(stdin: Stdin) {
-    let mut input = stdin;
+pub fn run(mut stdin: Stdin) {
     let mut line = room::line();
-    take_lines(&mut input, &mut line);
+    take_lines(&mut stdin, &mut line);
 }

@@ -112,12 +112,11 @@ fn checked(outline: Outline, form: Form, list: List) -> Checked {
 fn list_case(
     outline: Outline,
     form: Form,
-    words: Cursor,
+    mut words: Cursor,
     tolerance: f64,
     marks: &[f64],
     curves: &mut [f64],
 ) -> Option<()> {
-    let mut words = words;
     let mut firsts = room::indices();
     let mut worsts = room::indices();
     let mut params = room::params();
@@ -145,8 +144,12 @@ fn list_case(
 }
 
 // check TOL N X0 Y0 .. K F0 C8 F1 C8 .. T0 .. T(N-1), and check_ring with one parameter more; check_worst and check_worst_ring with F0 W0 C9 for F0 C8
-pub fn check_case(outline: Outline, form: Form, words: Cursor, curves: &mut [f64]) -> Option<()> {
-    let mut words = words;
+pub fn check_case(
+    outline: Outline,
+    form: Form,
+    mut words: Cursor,
+    curves: &mut [f64],
+) -> Option<()> {
     let mut room = room::marks();
     let tolerance = words.float()?;
     let n = words.count(room::MOST_MARKS)? as usize;

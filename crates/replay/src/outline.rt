@@ -109,8 +109,7 @@ fn say_fit(fit: Fit, marks: &[f64], tolerance: f64, curves: &mut [f64]) {
 }
 
 // A fit of the marks up to the line's end.
-fn fit_case(fit: Fit, tolerance: f64, words: Cursor, curves: &mut [f64]) -> Option<()> {
-    let mut words = words;
+fn fit_case(fit: Fit, tolerance: f64, mut words: Cursor, curves: &mut [f64]) -> Option<()> {
     let mut room = room::marks();
     let marks = room.get_mut(..words.floats_left())?;
     words.floats(marks)?;
@@ -120,8 +119,7 @@ fn fit_case(fit: Fit, tolerance: f64, words: Cursor, curves: &mut [f64]) -> Opti
 }
 
 // direct, direct_flat TOL SX SY EX EY X0 Y0 ..
-pub fn direct_case(engine: Engine, words: Cursor, curves: &mut [f64]) -> Option<()> {
-    let mut words = words;
+pub fn direct_case(engine: Engine, mut words: Cursor, curves: &mut [f64]) -> Option<()> {
     let tolerance = words.float()?;
     let start = words.point()?;
     let end = words.point()?;
@@ -129,8 +127,7 @@ pub fn direct_case(engine: Engine, words: Cursor, curves: &mut [f64]) -> Option<
 }
 
 // source, loop, joined, ring, joined_flat, ring_flat TOL X0 Y0 ..
-pub fn blocks_case(blocks: Blocks, words: Cursor, curves: &mut [f64]) -> Option<()> {
-    let mut words = words;
+pub fn blocks_case(blocks: Blocks, mut words: Cursor, curves: &mut [f64]) -> Option<()> {
     let tolerance = words.float()?;
     fit_case(Fit::Blocks(blocks), tolerance, words, curves)
 }

@@ -5,8 +5,7 @@ use crate::print::{Words, print_accepted, print_refused, say, say_accepted};
 use nearest::NearestPoint;
 
 // sqrt X
-pub fn sqrt_case(words: Cursor) -> Option<()> {
-    let mut words = words;
+pub fn sqrt_case(mut words: Cursor) -> Option<()> {
     let x = words.float()?;
     words.end()?;
     say_accepted(root::sqrt(x));
@@ -14,8 +13,7 @@ pub fn sqrt_case(words: Cursor) -> Option<()> {
 }
 
 // basis T C8
-pub fn basis_case(words: Cursor) -> Option<()> {
-    let mut words = words;
+pub fn basis_case(mut words: Cursor) -> Option<()> {
     let t = words.float()?;
     let c = words.curve()?;
     words.end()?;
@@ -24,8 +22,7 @@ pub fn basis_case(words: Cursor) -> Option<()> {
 }
 
 // de_casteljau4 T C8
-pub fn casteljau4_case(words: Cursor) -> Option<()> {
-    let mut words = words;
+pub fn casteljau4_case(mut words: Cursor) -> Option<()> {
     let t = words.float()?;
     let c = words.curve()?;
     words.end()?;
@@ -34,8 +31,7 @@ pub fn casteljau4_case(words: Cursor) -> Option<()> {
 }
 
 // subdivide4 T C8
-pub fn subdivide4_case(words: Cursor) -> Option<()> {
-    let mut words = words;
+pub fn subdivide4_case(mut words: Cursor) -> Option<()> {
     let t = words.float()?;
     let c = words.curve()?;
     words.end()?;
@@ -44,8 +40,7 @@ pub fn subdivide4_case(words: Cursor) -> Option<()> {
 }
 
 // coefficients D C8
-pub fn coefficients_case(words: Cursor) -> Option<()> {
-    let mut words = words;
+pub fn coefficients_case(mut words: Cursor) -> Option<()> {
     let dimension = words.count(MOST)?;
     let c = words.curve()?;
     words.end()?;
@@ -54,8 +49,7 @@ pub fn coefficients_case(words: Cursor) -> Option<()> {
 }
 
 // de_casteljau3 T P6
-pub fn casteljau3_case(words: Cursor) -> Option<()> {
-    let mut words = words;
+pub fn casteljau3_case(mut words: Cursor) -> Option<()> {
     let t = words.float()?;
     let a = words.point()?;
     let b = words.point()?;
@@ -66,8 +60,7 @@ pub fn casteljau3_case(words: Cursor) -> Option<()> {
 }
 
 // de_casteljau2 T P4
-pub fn casteljau2_case(words: Cursor) -> Option<()> {
-    let mut words = words;
+pub fn casteljau2_case(mut words: Cursor) -> Option<()> {
     let t = words.float()?;
     let a = words.point()?;
     let b = words.point()?;
@@ -77,8 +70,7 @@ pub fn casteljau2_case(words: Cursor) -> Option<()> {
 }
 
 // refine C8 PX PY T R
-pub fn refine_case(words: Cursor) -> Option<()> {
-    let mut words = words;
+pub fn refine_case(mut words: Cursor) -> Option<()> {
     let c = words.curve()?;
     let p = words.point()?;
     let t = words.float()?;
@@ -89,8 +81,7 @@ pub fn refine_case(words: Cursor) -> Option<()> {
 }
 
 // nearest C8 PX PY
-pub fn nearest_case(words: Cursor) -> Option<()> {
-    let mut words = words;
+pub fn nearest_case(mut words: Cursor) -> Option<()> {
     let c = words.curve()?;
     let p = words.point()?;
     words.end()?;
@@ -106,8 +97,7 @@ pub fn nearest_case(words: Cursor) -> Option<()> {
 }
 
 // distance C8 PX PY T
-pub fn distance_case(words: Cursor) -> Option<()> {
-    let mut words = words;
+pub fn distance_case(mut words: Cursor) -> Option<()> {
     let c = words.curve()?;
     let p = words.point()?;
     let t = words.float()?;
@@ -118,8 +108,7 @@ pub fn distance_case(words: Cursor) -> Option<()> {
 }
 
 // blocks N
-pub fn blocks_case(words: Cursor) -> Option<()> {
-    let mut words = words;
+pub fn blocks_case(mut words: Cursor) -> Option<()> {
     let n = words.count(MOST)?;
     words.end()?;
     say_accepted(tally::joined_blocks(n as usize));
@@ -127,8 +116,7 @@ pub fn blocks_case(words: Cursor) -> Option<()> {
 }
 
 // size N
-pub fn size_case(words: Cursor) -> Option<()> {
-    let mut words = words;
+pub fn size_case(mut words: Cursor) -> Option<()> {
     let n = words.count(MOST)?;
     words.end()?;
     say_accepted(marks::max_points_to_fit(n as usize));
