@@ -814,6 +814,34 @@ rt: loft: its tests passed
         got, out, _ = self.call('tools/gate_table.py', log)
         self.assertEqual((got, out.splitlines()[2:]), (0, ['| sail | now | 12 | 0 | 0 |', '| loft | now | 4 | 2 | 1 |', '| mast | kept | - | 1 | 0 |', '| all | 2 now, 1 kept | 16 | 3 | 1 |']))
 
+    def test_design_counts_says_what_is_wrong(self):
+        for words in (['--place'], ['a', 'b'], ['']):
+            self.says(2, 'usage: tools/design_counts.py', 'tools/design_counts.py', *words)
+        self.says(2, 'nosuch: git has no such commit here', 'tools/design_counts.py', 'nosuch')
+
+    def test_design_counts(self):
+        twin = 'fn %s(x: %s) -> %s {\n    let mut a = x;\n    a += %d;\n    a += x;\n    a += x;\n    a += x;\n    a\n}\n\n'
+        source = (
+            '// while it is a comment, nothing counts\n#[derive(Clone, Copy)]\nenum Found {\n    At(usize),\n    Lost,\n}\n\nenum Made {\n    Bytes(usize),\n    Refused(u32),\n}\n\n'
+            'fn put_gate(kind: u64) -> u32 {\n    while i < n {\n        i += 1;\n    }\n    0\n}\n\n'
+        ) + twin % ('one', 'u32', 'u32', 1) + twin % ('two', 'u64', 'u64', 2)
+        more = {'1 enums of the shape of Option': 1, '1 enums of the shape of Result': 1, '1 refusals by number in an enum or a constant': 1, '1 functions that answer a refusal by number, or 0': 1,
+                '2 functions alike but for names, types and constants': 1, '3 loops that count by hand': 1, '4 enums and structs without derives': 1, '7 a kind by number that picks the step': 1}
+
+        def counted():
+            got, out, _ = self.call('tools/design_counts.py')
+            self.assertEqual(got, 0)
+            return {line[7:]: int(line[:5]) for line in out.splitlines()}
+
+        before = counted()
+        path = write('crates/loft/src/lib.rt', source)
+        try:
+            after = counted()
+            self.assertEqual({kind: after[kind] - before[kind] for kind in after if after[kind] != before[kind]}, more)
+            self.assertIn('\n         crates/loft/src/lib.rt:3 Found\n', self.call('tools/design_counts.py', '--places')[1])
+        finally:
+            shutil.rmtree(os.path.dirname(os.path.dirname(path)))
+
     def test_map(self):
         self.says(2, 'usage: tools/draw_map.py', 'tools/draw_map.py', 'x')
         self.assertEqual(self.call('tools/draw_map.py'), (0, '', ''))

@@ -5,7 +5,7 @@ use path_file::path_file;
 use piped::{STDIN, print_listed, room};
 use std::env::Env;
 
-// Whether the first argument asks for a ring. A longer one than the room is cut off, and is another word.
+// Whether the first argument asks for a ring. One that is longer than the room is not handed over, and is another word.
 fn is_ring(rt: &HostRuntime) -> bool {
     let mut word = [0u8; 8];
     let n = rt.arg(1, &mut word).unwrap_or(0);

@@ -1,6 +1,4 @@
 // Cases of the list checker. The line says how many marks and how many curves it carries, and is bad where it carries another number of them, or more than 21,000 of either.
-ghost use Rattle.std.specs.Prelude.{◌≤◌};
-
 use crate::cursor::Cursor;
 use crate::print::{print_accepted, print_refused};
 use crate::room;

@@ -1,11 +1,10 @@
 // Answers, as words on standard output.
-ghost use Rattle.std.specs.Prelude.{◌<◌, ◌≤◌};
+ghost use Rattle.std.specs.Prelude.{◌<◌};
 
 use cases::STDOUT;
 use cubic::eval::Coefficients;
 use cubic::split::Halves;
 use float::refusal::Refusal;
-use nearest::NearestPoint;
 use plane::{Curve, Point};
 
 // What an accepted case answers behind its 0.
