@@ -4,7 +4,7 @@
 The second engine is for boards with a small stack. So of each of its calls this tests that no function which it leads to calls itself, not by way of others
 either; that every call on the way names a function, and out of the archive only memcpy and memset; and that no function on it has a large frame. What a call can
 take of the stack at most follows from the code then, whatever the input, and must be within the header's figure. The first engine calls itself, and that must
-be found.
+be found. Of the archive as a whole it tests that it wants no other name from outside than these two.
 
 It needs Python alone. The code is taken apart here, by the instructions of x86-64 that the kit's compiler writes: one that is not known here, or that does not
 fit the others, is told as a failure. Exit status: 0 all passed; 1 something failed; 2 there is no such archive or header, or it is none.
@@ -285,6 +285,7 @@ class Graph:
     def __init__(self, archive):
         found = [Object(data) for data in objects(archive)]
         self.places = {name: (obj, index) for obj in found for index, (name, _) in obj.functions.items()}
+        self.asked = {symbol.name for obj in found for symbol in obj.symbols if symbol.section == 0 and symbol.name} - set(self.places)
         self.walks = {}
 
     def walk(self, name):
@@ -360,7 +361,13 @@ def check_first(graph, name, _):
     check(back is not None, f'{name} calls itself, and that is not found')
 
 
+def check_asked(graph):
+    """What the whole archive asks of whoever links it: a board may have no C library."""
+    check(graph.asked <= OUTSIDE, f'the archive wants {", ".join(sorted(graph.asked - OUTSIDE))} from outside')
+
+
 def test(graph, header):
+    check_asked(graph)
     for names, tested in ((SECOND, check_second), (FIRST, check_first)):
         for name in names:
             check(name in graph.places, f'there is no {name} in the archive')

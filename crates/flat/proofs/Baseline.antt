@@ -1,87 +1,83 @@
 -- Tests in turn; a test against the baseline was fine exactly where its distances and their divisor are finite.
 -- Assumes nothing.
 use mathlib.Core.Path.{◌≡◌, refl, sym, ap, ◌∙◌}
-use mathlib.Core.Bool.{Bool, true, false, ◌&&◌, cond}
-use Prim.Native.Nat.{ℕ}
-use lib.Ieee.{Float, nan, inf, fin, binary64, le, eq, neg, sub}
+use mathlib.Core.Bool.{Bool, true, false, ◌&&◌}
+use lib.Ieee.{Float, nan, inf, fin, binary64, le, neg, sub}
+use Rattle.std.proofs.Common.{Result, Ok, Err}
 use Rattle.float.specs.Number.{finite, f0, abs, signum, max_of}
-use Rattle.float.specs.Calc.{Calc, give}
+use Rattle.float.specs.Calc.{Calc}
 use Rattle.float.specs.Answer.{ok, refused, outcome}
-use Rattle.float.specs.Answer.{◌>>=◌ as chain}
-use Rattle.float.proofs.Truth.{never, and_left, and_right, and-false, same, is_so}
+use Rattle.float.proofs.Truth.{never, and_left, and_right, and-true, and-false, same, is_so}
 use Rattle.float.proofs.Strict.{Fin, add-finite, mul-finite, div-finite}
-use Rattle.float.proofs.Answers.{Fine, outcome_ok, outcome_no, outcome-then}
+use Rattle.float.proofs.Answers.{Fine}
 use Rattle.root.specs.Root.{sqrt}
 use Rattle.plane.specs.declared.Point.{Point}
 use Rattle.quintic.specs.declared.points.Section.{Section}
 use Rattle.flat.specs.Line.{coefficients_of, factor_of, distance_to}
 use Rattle.flat.specs.Flat.{◌&&!◌, goes_on, one_direction, flat-enough, near_baseline}
+use Rattle.flat.specs.Tests.{test_in, as_test, run_of, held_in}
+use Rattle.flat.specs.declared.flat.Lost.{Lost}
 use Rattle.flat.specs.declared.line.Line.{Line}
 
--- ---- two tests in turn: what is left to answer
+-- ---- a result and its run
+pub back : (r : Result Bool Lost) → r ≡ as_test (run_of r)
+unfolding as_test run_of
+back (Ok b) = refl
+back (Err l) = refl
+
+pub round : (m : Calc Bool) → run_of (as_test m) ≡ m
+unfolding as_test run_of
+round m = go m.val m.fine
+  where
+    go : (v f : Bool) → run_of (test_in f v) ≡ record { val = v; fine = f }
+    go v true = refl
+    go v false = refl
+
+-- ---- two tests in turn
 module _ (m n : Calc Bool) where
-  abbrev second : Bool → Calc Bool
-  second b = cond b n (give false)
+  pub failed : m.val ≡ false → as_test m ≡ as_test (m &&! n)
+  unfolding as_test ◌&&!◌
+  failed h = simp (h, and-true)
 
-  both_is : outcome (m &&! n) ≡ chain (outcome m) (λ b. outcome (second b))
-  unfolding ◌&&!◌
-  both_is = outcome-then m second
+  pub held_on : m.val ≡ true → m.fine ≡ true → as_test n ≡ as_test (m &&! n)
+  unfolding as_test ◌&&!◌
+  held_on h k = simp (h, k)
 
-  pub stops : (q : ℕ) → refused q ≡ outcome m → refused q ≡ outcome (m &&! n)
-  stops q h = sym (both_is ∙ ap (λ a. chain a (λ b. outcome (second b))) (sym h))
+  pub held_lost : m.val ≡ true → m.fine ≡ false → Err (record { holds = n.val }) ≡ as_test (m &&! n)
+  unfolding as_test ◌&&!◌
+  held_lost h k = simp (h, k)
 
-  pub fails : (b : Bool) → ok b ≡ outcome m → b ≡ false → ok false ≡ outcome (m &&! n)
-  unfolding outcome
-  fails b h e = sym (both_is ∙ ap (λ a. chain a (λ b. outcome (second b))) (sym h ∙ ap ok e))
+pub both : (t u : Result Bool Lost) (m n : Calc Bool) → t ≡ as_test m → u ≡ as_test n → as_test (run_of t &&! run_of u) ≡ as_test (m &&! n)
+both t u m n e f = ap (λ x. as_test (x &&! run_of u)) (ap run_of e ∙ round m) ∙ ap (λ y. as_test (m &&! y)) (ap run_of f ∙ round n)
 
-  pub holds : (b : Bool) → ok b ≡ outcome m → b ≡ true → outcome n ≡ outcome (m &&! n)
-  holds b h e = sym (both_is ∙ ap (λ a. chain a (λ b. outcome (second b))) (sym h ∙ ap ok e))
+pub held_is : (t : Result Bool Lost) (m : Calc Bool) → t ≡ as_test m → held_in t ≡ m.val
+held_is t m e = ap held_in e ∙ ap (λ (x : Calc Bool). x.val) (round m)
 
--- ---- whether the heights go on, and the direction of the first two
-pub goes-on : (d : Float) (p q : Point) (x : Float) → x ≡ signum (sub binary64 q.y p.y) → finite (sub binary64 q.y p.y) ≡ true → ok (eq x d) ≡ outcome (goes_on d p q)
-unfolding goes_on outcome
-goes-on d p q x e h = simp (e, h)
+-- ---- what is left to answer, by a test
+pub answered : (m : Calc Bool) (b : Bool) → Ok b ≡ as_test m → ok b ≡ outcome m
+unfolding run_of outcome
+answered m b e = ap outcome (ap run_of e ∙ round m)
 
-pub goes-off : (d : Float) (p q : Point) → finite (sub binary64 q.y p.y) ≡ false → refused 6 ≡ outcome (goes_on d p q)
-unfolding goes_on outcome
-goes-off d p q h = simp h
+pub unanswered : (m : Calc Bool) (l : Lost) → Err l ≡ as_test m → refused 6 ≡ outcome m
+unfolding run_of outcome
+unanswered m l e = ap outcome (ap run_of e ∙ round m)
 
+-- ---- the direction of the first two heights
 module _ (s : Section) where
   abbrev rise : Float
   rise = sub binary64 s.w2.y s.w1.y
 
-  pub level : finite rise ≡ false → refused 6 ≡ outcome (one_direction s)
-  unfolding one_direction outcome
+  -- whether the others go that way
+  abbrev pub others : Float → Calc Bool
+  others d = goes_on d s.w2 s.w3 &&! (goes_on d s.w3 s.w4 &&! (goes_on d s.w4 s.w5 &&! goes_on d s.w5 s.w6))
+
+  pub level : finite rise ≡ false → Err (record { holds = (others (signum rise)).val }) ≡ as_test (one_direction s)
+  unfolding one_direction as_test
   level h = simp h
 
-  module _ (d : Float) (e : d ≡ signum rise) (h : finite rise ≡ true) where
-    abbrev T3 : Calc Bool
-    T3 = goes_on d s.w2 s.w3
-
-    abbrev T4 : Calc Bool
-    T4 = goes_on d s.w3 s.w4
-
-    abbrev T5 : Calc Bool
-    T5 = goes_on d s.w4 s.w5
-
-    abbrev T6 : Calc Bool
-    T6 = goes_on d s.w5 s.w6
-
-    -- before the third height is looked at, the fourth, the fifth and the sixth
-    pub third : outcome (T3 &&! (T4 &&! (T5 &&! T6))) ≡ outcome (one_direction s)
-    unfolding one_direction outcome
-    third = simp (e, h)
-
-    module _ (b3 : Bool) (is3 : ok b3 ≡ outcome T3) (on3 : b3 ≡ true) where
-      pub fourth : outcome (T4 &&! (T5 &&! T6)) ≡ outcome (one_direction s)
-      fourth = holds T3 _ b3 is3 on3 ∙ third
-
-      module _ (b4 : Bool) (is4 : ok b4 ≡ outcome T4) (on4 : b4 ≡ true) where
-        pub fifth : outcome (T5 &&! T6) ≡ outcome (one_direction s)
-        fifth = holds T4 _ b4 is4 on4 ∙ fourth
-
-        pub sixth : (b5 : Bool) → ok b5 ≡ outcome T5 → b5 ≡ true → outcome T6 ≡ outcome (one_direction s)
-        sixth b5 is5 on5 = holds T5 _ b5 is5 on5 ∙ fifth
+  pub rising : finite rise ≡ true → as_test (others (signum rise)) ≡ as_test (one_direction s)
+  unfolding one_direction as_test
+  rising h = simp h
 
 -- ---- the line
 abs-back : (x : Float) → Fin (abs x) → Fin x
@@ -174,12 +170,6 @@ module _ (s : Section) where
       go true true true true true true false q0 q1 q2 q3 q4 q5 q6 h = simp (q6, and-false)
       go true true true true true true true q0 q1 q2 q3 q4 q5 q6 h = never (sym h)
 
-  near-fine : (near_baseline s).fine ≡ tests
-  near-fine = sym (same tests (near_baseline s).fine near_on (λ k. is_so (near_baseline s).fine tests k near_off))
-
-  pub near_lost : tests ≡ false → refused 6 ≡ outcome (near_baseline s)
-  near_lost h = sym (outcome_no (near_baseline s) (near-fine ∙ h))
-
-  pub near_is : tests ≡ true → ok (le (max_of (max_of (max_of (max_of (max_of (max_of f0 (D s.w1)) (D s.w2)) (D s.w3)) (D s.w4)) (D s.w5)) (D s.w6)) flat-enough) ≡ outcome (near_baseline s)
+  pub near_is : as_test (record { val = le (max_of (max_of (max_of (max_of (max_of (max_of f0 (D s.w1)) (D s.w2)) (D s.w3)) (D s.w4)) (D s.w5)) (D s.w6)) flat-enough; fine = tests }) ≡ as_test (near_baseline s)
   unfolding near_baseline
-  near_is h = sym (outcome_ok (near_baseline s) (near-fine ∙ h))
+  near_is = ap (λ (b : Bool). as_test (record { val = (near_baseline s).val; fine = b })) (same tests (near_baseline s).fine near_on (λ k. is_so (near_baseline s).fine tests k near_off))

@@ -49,10 +49,13 @@ fn take_chunk(stdin: &mut Stdin, chunk: &mut [u8], line: &mut [u8], len: usize) 
     Some(take_bytes(&chunk[..n], line, len))
 }
 
-// The input to its end. Nothing says that it ends, so the turns are counted, up to a number that no run uses up.
+// The most reads, a number that no run uses up: nothing says that the input ends.
+const MOST_READS: u64 = 0xffff_ffff_ffff;
+
+// The input to its end, or to the most reads.
 fn take_chunks(stdin: &mut Stdin, chunk: &mut [u8], line: &mut [u8]) -> usize {
     let mut len: usize = 0;
-    for _ in 0..u64::MAX {
+    for _ in 0..MOST_READS {
         let Some(next) = take_chunk(stdin, chunk, line, len) else {
             return len;
         };

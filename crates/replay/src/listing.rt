@@ -142,6 +142,8 @@ fn list_case(
 }
 
 // check TOL N X0 Y0 .. K F0 C8 F1 C8 .. T0 .. T(N-1), and check_ring with one parameter more; check_worst and check_worst_ring with F0 W0 C9 for F0 C8
+// Its room of marks is to be given back with it: made one function with `case_in`, as the only call would have it, it would lie beside the marks of every fit.
+#[inline(never)]
 pub fn check_case(
     outline: Outline,
     form: Form,

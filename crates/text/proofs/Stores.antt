@@ -1,13 +1,12 @@
 -- Laws of stores one behind the other. Assumes nothing.
 use mathlib.Core.Path.{◌≡◌, refl, sym, ap, ◌∙◌}
-use mathlib.Core.List.{List, [], ◌∷◌, ◌++◌, append_assoc}
+use mathlib.Core.List.{List, [], ◌∷◌, ◌++◌}
 use Prim.Native.Nat.{ℕ, suc, ◌+◌, ◌<◌, ◌≤◌}
 use native.Mathlib.Nat.{add-zero}
 use native.Mathlib.Numerals.{add-one}
 use native.Mathlib.Omega.{arith}
 use lib.ListN.{length, take, set, get_or, length-append}
-use borrow.Rule.Slice.PartMut.{put_mid}
-use lib.Seq.{drop-drop, set_comm, take-suc, length-take-le, sets, sets-eq, length-sets}
+use lib.Seq.{set_comm, take-suc, length-take-le, sets, sets-eq, length-sets}
 use Rattle.float.specs.Slices.{written}
 use Rattle.text.specs.Put.{Put}
 
@@ -34,10 +33,6 @@ sets-suc l xs at i h =
 -- a run of stores from the front on
 pub written-sets : (xs l : List ℕ) → length xs ≤ length l → sets l 0 xs ≡ written xs l
 written-sets xs l h = let z : 0 + length xs ≡ length xs = omega arith in rw (sets-eq xs l 0 (omega arith), z)
-
--- a part of a list that another took the place of
-pub part_sets : (xs l : List ℕ) (at k : ℕ) {ys : List ℕ} → at + length xs ≤ length l → k ≡ length xs → ys ≡ xs → put_mid at k l ys ≡ sets l at xs
-part_sets xs l at k h e s = rw (s, e, sets-eq xs l at h) (simp (append_assoc, drop-drop))
 
 -- ---- texts put one behind the other
 

@@ -57,12 +57,14 @@ pub fn put_hex(out: &mut [u8], at: usize, x: u64) -> usize
     at + 16
 }
 
-// Puts bytes at `at`, as they are.
+// Puts bytes at `at`, as they are. A loop, since `copy_from_slice` becomes a call of `memmove` where the two slices are a caller's, and the archive for C wants nothing
+// from outside but `memcpy` and `memset`.
 pub fn put_bytes(out: &mut [u8], at: usize, text: &[u8]) -> usize
     requires { at + length text.now ≤ length out.old }
     ensures { (result ≡ at + length text.now) × (out.new ≡ sets out.old at text.now) }
 {
-    let end = at + text.len();
-    out[at..end].copy_from_slice(text);
-    end
+    for (i, b) in text.iter().enumerate() {
+        out[at + i] = *b;
+    }
+    at + text.len()
 }

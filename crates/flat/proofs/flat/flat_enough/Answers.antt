@@ -1,18 +1,13 @@
 -- `flat::flat::flat_enough` meets its contract.
-use mathlib.Core.Path.{◌∙◌}
-use Rattle.float.proofs.Refusals.{handed_on}
+use mathlib.Core.Path.{sym, ◌∙◌}
 use Rattle.flat.specs.Flat.{flat_enough}
-use Rattle.flat.proofs.Baseline.{stops, fails, holds}
+use Rattle.flat.proofs.Baseline.{both, held_is, failed}
 use Rattle.flat.proofs.flat.flat_enough.Goals as goal
 
-pub returns-in_err-one_direction : goal.returns-in_err-one_direction
+pub returns-then-held : goal.returns-then-held
 unfolding flat_enough
-returns-in_err-one_direction c = handed_on _ _ c.from_residual.ensures.1 ∙ stops _ _ _ c.in_err-one_direction.ensures
-
-pub returns-then-not-branch : goal.returns-then-not-branch
-unfolding flat_enough
-returns-then-not-branch c = fails _ _ _ c.in_ok-one_direction.ensures c.if-not-branch.true
+returns-then-held c = c.and_then.ensures ∙ both _ _ _ _ c.one_direction-t.ensures c.near_baseline.ensures
 
 pub returns : goal.returns
 unfolding flat_enough
-returns c = c.near_baseline.ensures ∙ holds _ _ _ c.in_ok-one_direction.ensures c.if-not-branch.false
+returns c = c.one_direction-t.ensures ∙ failed _ _ (sym (held_is _ _ c.one_direction-t.ensures) ∙ sym c.held.ensures ∙ c.if-held.false)

@@ -1,10 +1,9 @@
 -- `flat::flat::goes_on` meets its contract.
-use mathlib.Core.Path.{sym, ◌∙◌}
-use Rattle.flat.proofs.Baseline.{goes-on, goes-off}
+use Rattle.float.proofs.Truth.{and-true}
+use Rattle.flat.specs.Flat.{goes_on}
+use Rattle.flat.specs.Tests.{as_test}
 use Rattle.flat.proofs.flat.goes_on.Goals as goal
 
-pub returns-then-not-finite : goal.returns-then-not-finite
-returns-then-not-finite c = goes-off _ _ _ (sym c.finite.ensures ∙ c.if-not-finite.true)
-
 pub returns : goal.returns
-returns c = goes-on _ _ _ _ c.signum.ensures (sym c.finite.ensures ∙ c.if-not-finite.false)
+unfolding goes_on as_test
+returns c = simp (c.test_of.ensures, c.finite.ensures, c.signum.ensures, and-true)
