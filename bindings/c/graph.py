@@ -28,6 +28,8 @@ class Unknown(Exception):
 
 def objects(data):
     """The files in an archive, but for its index and its table of names."""
+    if not data.startswith(b'!<arch>\n'):
+        raise ValueError('no archive')
     at = 8
     while at < len(data):
         name, size = data[at:at + 16].decode().strip(), int(data[at + 48:at + 58])
@@ -285,7 +287,8 @@ class Graph:
     def __init__(self, archive):
         found = [Object(data) for data in objects(archive)]
         self.places = {name: (obj, index) for obj in found for index, (name, _) in obj.functions.items()}
-        self.asked = {symbol.name for obj in found for symbol in obj.symbols if symbol.section == 0 and symbol.name} - set(self.places)
+        symbols = [symbol for obj in found for symbol in obj.symbols if symbol.name]
+        self.asked = {symbol.name for symbol in symbols if symbol.section == 0} - {symbol.name for symbol in symbols if symbol.section}
         self.walks = {}
 
     def walk(self, name):

@@ -33,7 +33,7 @@
    files), among them zigzags that a fit cuts one mark at a time, as deep as it can go. A fit by blocks takes so much for its longest block, of 200 marks,
    however many there are: some 0.4 KB for a mark of it, as a direct fit does for each of its marks. The second engine takes as much for five marks as for all
    of these, and no input can make it take more: bindings/c/graph.py goes through the archive's code along every call, and adds up what each function takes (of
-   memset, the one that the archive does not hold, it knows nothing). Slices are the caller's: for 100,000 marks those of a fit are 8.8 MB beside 1.6 MB of marks,
+   memcpy and memset, which the archive does not hold, it knows nothing). Slices are the caller's: for 100,000 marks those of a fit are 8.8 MB beside 1.6 MB of marks,
    and `open` 0.8 MB, which no usual stack has room for.
 */
 #ifndef WESALONDO_H

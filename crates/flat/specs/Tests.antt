@@ -1,4 +1,4 @@
--- What the inner functions return: words of their contracts alone, of which no public promise speaks. Definitions only.
+-- How a test of the code tells a run: words of contracts. Definitions only.
 use Rattle.std.specs.Prelude.{Bool, true, false, Result, Ok, Err}
 use Rattle.float.specs.Calc.{Calc}
 use Rattle.flat.specs.declared.flat.Lost.{Lost}

@@ -52,6 +52,7 @@ pub fn count_x_axis_crossings(s: Section) -> usize
 }
 
 // Whether a test holds, lost or not.
+#[tactic(auto, unfolding(crate::specs::Tests::run_of))]
 fn held(test: Result<bool, Lost>) -> bool
     ensures { result ≡ held_in test }
 {
@@ -62,6 +63,7 @@ fn held(test: Result<bool, Lost>) -> bool
 }
 
 // A test by what was compared, and by whether each operation on the way gave a finite number.
+#[tactic(auto, unfolding(crate::specs::Tests::as_test))]
 fn test_of(holds: bool, fine: bool) -> Result<bool, Lost>
     ensures { result ≡ as_test (record { val = holds; fine = fine }) }
 {
@@ -72,6 +74,7 @@ fn test_of(holds: bool, fine: bool) -> Result<bool, Lost>
 }
 
 // Whether each operation on a test's way gave a finite number.
+#[tactic(auto, unfolding(crate::specs::Tests::run_of))]
 fn is_fine(test: Result<bool, Lost>) -> bool
     ensures { result ≡ fine_in test }
 {
